@@ -1,5 +1,5 @@
 -- Entering changes, and what it shows.
-use Rattle.std.proofs.Common.{◌≡◌, ℕ, ◌+◌, inl, inr, List, [], ◌∷◌, slice_get, Option, Some, refl, ap, subst, arith}
+use Rattle.std.proofs.Common.{◌≡◌, ℕ, ◌+◌, inl, inr, List, [], ◌∷◌, Option, Some, refl, ap, subst, arith}
 use Rattle.std.specs.declared.cmp.Ordering.{Ordering}
 use Rattle.std.specs.Cmp.{IsTotalOrder}
 use Rattle.std.specs.BTreeMap.{BTreeMap}
@@ -8,16 +8,16 @@ use Rattle.std.proofs.lemmas.Option.{slice_get_within}
 use Rattle.totem_ids.specs.declared.conf.ConfId.{ConfId}
 use Rattle.totem_ids.specs.declared.place.Place.{Place}
 use Rattle.totem_evs.specs.declared.entry.Entry.{Entry}
-use Rattle.totem_evs.specs.declared.entry.Entry.TheVariants.{Conf, Send, Deliver, Fail}
+use Rattle.totem_evs.specs.declared.entry.Entry.TheVariants.{Conf}
 use Rattle.totem_evs.specs.declared.log.Log.{Log}
 use Rattle.totem_evs.specs.Events.{log_of, IsChange}
 use Rattle.totem_table.specs.declared.keys.Change.{Change}
 use Rattle.totem_pass_ab.specs.Met.{IsMet}
 use Rattle.totem_table.specs.Registers.{Keeps, KnowsRun}
 use Rattle.totem_pass_ab.specs.Forms.{KnowsChange}
-use Rattle.totem_table.specs.Search.{place, NoneFrom, HoldsOfNone}
-use Rattle.totem_pass_ab.specs.Pairs.{IsOne, IsOneOrTwo}
-use Rattle.totem_pass_ab.specs.Bad.{IsForeignChange, AreTwoForms}
+use Rattle.totem_table.specs.Search.{place, HoldsOfNone}
+use Rattle.totem_pass_ab.specs.Pairs.{IsOne}
+use Rattle.totem_pass_ab.specs.Bad.{AreTwoForms}
 use Rattle.totem_pass_ab.proofs.Knowing.{meets_keeps}
 use Rattle.totem_table.proofs.Exact.{change_by}
 
@@ -41,7 +41,6 @@ module _ (by_change : Change → Change → Ordering) (by_conf : ConfId → Conf
   only_form run v f p i x ms known once one = record { none = λ places h. go places h }
     where
       go : (places : List Place) → IsOne run (AreTwoForms p i (Conf x ms)) places → ⊥
-      go [] h = h
       go (g ∷ []) (j, js, (Conf y ns, at, (same, inl (procs, other)))) =
           let key : change_by p x ≡ change_by g.proc y = rw (procs, same) refl in
           let met = ((known.each g.proc j (slice_get_within (log_of run g.proc) j (Conf y ns) at)).placed y ns at).only (place p i)
@@ -49,25 +48,5 @@ module _ (by_change : Change → Change → Ordering) (by_conf : ConfId → Conf
           other (let ats : i + 1 ≡ j + 1 = ap (λ (e : Place). e.at) met in omega arith)
       go (g ∷ []) (j, js, (Conf y ns, at, (same, inr other))) =
           other (((known.each g.proc j (slice_get_within (log_of run g.proc) j (Conf y ns) at)).formed y ns at).only ms (rw same at one))
-      go (g ∷ []) (j, js, (Send n y t, at, h)) = h
-      go (g ∷ []) (j, js, (Deliver n y, at, h)) = h
-      go (g ∷ []) (j, js, (Fail y, at, h)) = h
-      go (g ∷ e ∷ more) h = h
-
--- an entry that is no change is bad neither alone nor with another
-pub no_bad_form : (run : List Log) (p i : ℕ) → (IsChange (log_of run p) i → ⊥) → NoneFrom (IsOneOrTwo run IsForeignChange AreTwoForms) p i
-no_bad_form run p i never = record { none = λ rest h. go rest h }
-  where
-    at_index : (j : ℕ) (x : ConfId) (ms : List ℕ) → i + 1 ≡ j + 1 → slice_get (log_of run p) j ≡ Some (Conf x ms) → ⊥
-    at_index j x ms is at = let same : j ≡ i = omega arith in never (x, (ms, rw same at at))
-
-    go : (rest : List Place) → IsOneOrTwo run IsForeignChange AreTwoForms (place p i ∷ rest) → ⊥
-    go [] (j, is, (Conf x ms, at, h)) = at_index j x ms is at
-    go [] (j, is, (Send m x s, at, h)) = h
-    go [] (j, is, (Deliver m x, at, h)) = h
-    go [] (j, is, (Fail x, at, h)) = h
-    go (f ∷ []) (j, is, (Conf x ms, at, h)) = at_index j x ms is at
-    go (f ∷ []) (j, is, (Send m x s, at, (k, ks, (y, at_k, h)))) = h
-    go (f ∷ []) (j, is, (Deliver m x, at, (k, ks, (y, at_k, h)))) = h
-    go (f ∷ []) (j, is, (Fail x, at, (k, ks, (y, at_k, h)))) = h
-    go (f ∷ g ∷ more) (j, is, (x, at, h)) = h
+      go (g ∷ []) (j, js, (other, at, h)) = h
+      go places h = h

@@ -2,14 +2,10 @@ pub mod Placed
 pub mod Starting
 pub mod Bad
 pub mod Turning
-pub mod TurnFaults
 pub mod Sent
 pub mod Passes
 pub mod Knowing
 pub mod Repeating
 pub mod Forming
-pub mod Sparing
 pub mod Originating
-pub mod Exact
 pub mod QuickSends
-pub mod QuickTest

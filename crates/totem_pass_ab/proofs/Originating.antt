@@ -42,8 +42,6 @@ module _ (by_conf : ConfId → ConfId → Ordering) where
   one_origin run s p c t known only = record { none = λ places h. go places h }
     where
       go : (places : List Place) → IsOtherOrigin run p c t places → ⊥
-      go [] h = h
-      go (g ∷ []) h = h
       go (g ∷ h ∷ []) (k, ks, (l, ls, (same, (lt, d, os, qs, other, succession)))) =
           other (((known.each g.proc k (slice_get_within (log_of run g.proc) k (Conf (Regular d) os) succession.first)).each l d t os qs succession).only c only)
-      go (g ∷ h ∷ x ∷ more) other = other
+      go places h = h

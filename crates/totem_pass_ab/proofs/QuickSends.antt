@@ -1,32 +1,43 @@
 -- Entering sends and changes for the quick test of 1.3, and what it shows.
-use Rattle.std.proofs.Common.{◌≡◌, ℕ, inl, inr, List, slice_get, Some, true, false, IsTrue, sym, ◌∙◌, subst}
+use Rattle.std.proofs.Common.{◌≡◌, ℕ, inl, inr, List, [], slice_get, Some, Bool, true, false, IsTrue, refl, sym, ◌∙◌, ap, subst}
+use Rattle.std.specs.Bool.{OnTrue}
 use Rattle.std.specs.declared.cmp.Ordering.{Ordering}
 use Rattle.std.specs.BTreeMap.{BTreeMap}
 use Rattle.std.specs.BTreeMap as tree
 use Rattle.std.specs.BTreeSet.{BTreeSet}
 use Rattle.std.specs.BTreeSet as sorted
+use Rattle.std.proofs.lemmas.Grind.{not_there}
 use Rattle.std.proofs.lemmas.Map.Lookups.{CmpEqualImpliesEq}
 use Rattle.totem_ids.specs.declared.ring.RingId.{RingId}
 use Rattle.totem_ids.specs.declared.conf.ConfId.{ConfId}
 use Rattle.totem_ids.specs.declared.conf.ConfId.TheVariants.{Regular}
 use Rattle.totem_ids.specs.declared.message.MsgId.{MsgId}
 use Rattle.totem_ids.specs.declared.message.Service.{Service}
+use Rattle.totem_ids.specs.contracts.ring.RingIdOrd.TheImpl as ring
+use Rattle.totem_ids.specs.contracts.message.MsgIdOrd.TheImpl as message
 use Rattle.totem_evs.specs.declared.entry.Entry.{Entry}
 use Rattle.totem_evs.specs.declared.entry.Entry.TheVariants.{Conf, Send}
 use Rattle.totem_evs.specs.declared.log.Log.{Log}
 use Rattle.totem_evs.specs.Events.{log_of, IsChange, IsTransitional, WasSentIn}
 use Rattle.totem_evs.specs.Following.{IsFirstChange, Follows}
 use Rattle.totem_evs.specs.Changes.{ChangesNext}
+use Rattle.totem_run_rules.specs.Sent.{WasSentTo}
+use Rattle.totem_run_rules.proofs.SentOrNot.{sent_or_not}
 use Rattle.totem_pass_ab.specs.declared.keys.Sending.{Sending}
+use Rattle.totem_pass_ab.specs.contracts.keys.SendingOrd.TheImpl as by_sending
 use Rattle.totem_table.specs.declared.keys.Change.{Change}
 use Rattle.totem_table.specs.Registers.{StaysSound, KnowsLog}
 use Rattle.totem_pass_ab.specs.Sendings.{WereSent}
 use Rattle.totem_pass_ab.specs.Followed.{KnowsRegularChange, AreFollowed}
-use Rattle.totem_ids.proofs.Exact.{equal_at, apart_or_at}
+use Rattle.totem_ids.proofs.Exact.{equal_at, apart_or_at, both_equal, exact_ring, exact_message}
 use Rattle.totem_table.proofs.Exact.{change_by}
 
 abbrev pub sending : MsgId → RingId → Sending
 sending m c = record { message = m; ring = c }
+
+pub exact_sending : CmpEqualImpliesEq by_sending.cmp-value.it
+exact_sending s t e = let h = both_equal (message.cmp-value.it s.message t.message) (ring.cmp-value.it s.ring t.ring) e in
+    ap (λ (m : MsgId). sending m s.ring) (exact_message s.message t.message h.0) ∙ ap (sending t.message) (exact_ring s.ring t.ring h.1)
 
 pub one_more_send : (cmp : Sending → Sending → Ordering) → CmpEqualImpliesEq cmp → (s n : BTreeSet Sending) (p i : ℕ) (log : List Entry) (m : MsgId) (x : ConfId) (c : RingId) (v : Service) → slice_get log i ≡ Some (Send m x v) → x ≡ Regular c
     → sorted.Updates cmp s n (sending m c) true → StaysSound (WereSent cmp s) (WereSent cmp n) p log
@@ -78,3 +89,26 @@ one_more_followed cmp exact r n p log t c follows h = record { each = λ run log
         | inl here ↦ here_is run v d logs (exact (change_by p t) v (equal_at (cmp (change_by p t) v) here)) is
       ];
     }
+
+-- ---- what the quick test shows
+
+-- a message that can't be unsent was sent
+sent_if_there : (run : List Log) (log : List Entry) (m : MsgId) (d : ConfId) → ((WasSentTo run log m d → ⊥) → ⊥) → WasSentTo run log m d
+sent_if_there run log m d there = elim (sent_or_not run log m d) [ inl sent ↦ sent | inr not_sent ↦ absurd (there not_sent) ]
+
+in_ring : (run : List Log) (m : MsgId) (c : RingId) → WasSentTo run [] m (Regular c) → WasSentIn run m (Regular c)
+in_ring run m c (d, sent, inl same) = rw same sent
+in_ring run m c (d, sent, inr follows) = absurd follows.transitional
+
+pub sent_in : (cmp : Sending → Sending → Ordering) (s : BTreeSet Sending) (run : List Log) (m : MsgId) (c : RingId) (b : Bool) → b ≡ sorted.contains cmp s (sending m c) → ∥ WereSent cmp s run ∥₁ → OnTrue b (WasSentIn run m (Regular c))
+sent_in cmp s run m c true e known = in_ring run m c (sent_if_there run [] m (Regular c) (λ never. not_there known (λ h. never (c, h.each (sending m c) (sym e), inl refl))))
+sent_in cmp s run m c false e known = tt
+
+pub sent_regular : (run : List Log) (log : List Entry) (m : MsgId) (c : RingId) (b : Bool) → OnTrue b (WasSentIn run m (Regular c)) → OnTrue b (WasSentTo run log m (Regular c))
+sent_regular run log m c true sent = (c, sent, inl refl)
+sent_regular run log m c false sent = tt
+
+pub sent_before : (cmp : Change → Change → Ordering) (r : BTreeMap Change RingId) (run : List Log) (p : ℕ) (m : MsgId) (c : RingId) (d : ConfId) (b : Bool) → Some c ≡ tree.get cmp r (change_by p d) → ∥ AreFollowed cmp r run ∥₁
+    → OnTrue b (WasSentIn run m (Regular c)) → OnTrue b (WasSentTo run (log_of run p) m d)
+sent_before cmp r run p m c d true is known sent = sent_if_there run (log_of run p) m d (λ never. not_there known (λ h. never (c, sent, inr (h.each (change_by p d) c (sym is)))))
+sent_before cmp r run p m c d false is known sent = tt

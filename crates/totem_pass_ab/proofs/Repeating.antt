@@ -1,5 +1,5 @@
 -- Entering sends and deliveries, and what it shows.
-use Rattle.std.proofs.Common.{◌≡◌, ◌≢◌, ◌⊎◌, ℕ, ◌+◌, ◌-◌, ◌<◌, ◌≤◌, inl, inr, List, [], ◌∷◌, ◌++◌, length, slice_get, slice_range, Option, Some, true, refl, sym, ap, subst, arith, rules}
+use Rattle.std.proofs.Common.{◌≡◌, ◌≢◌, ◌⊎◌, ℕ, ◌+◌, ◌-◌, ◌<◌, ◌≤◌, inl, inr, List, [], ◌∷◌, ◌++◌, length, slice_get, slice_range, Option, Some, true, refl, sym, ap, subst, arith, rules, below_more}
 use Rattle.std.specs.Prelude.{◌==◌, Contains}
 use Rattle.std.specs.declared.cmp.Ordering.{Ordering}
 use Rattle.std.specs.Cmp.{IsTotalOrder}
@@ -13,7 +13,7 @@ use Rattle.totem_ids.specs.declared.message.Service.{Service}
 use Rattle.totem_ids.specs.declared.conf.ConfId.{ConfId}
 use Rattle.totem_ids.specs.declared.place.Place.{Place}
 use Rattle.totem_evs.specs.declared.entry.Entry.{Entry}
-use Rattle.totem_evs.specs.declared.entry.Entry.TheVariants.{Conf, Send, Deliver, Fail}
+use Rattle.totem_evs.specs.declared.entry.Entry.TheVariants.{Send, Deliver}
 use Rattle.totem_evs.specs.declared.log.Log.{Log}
 use Rattle.totem_evs.specs.Events.{log_of}
 use Rattle.totem_evs.specs.Delivery.{DeliversOnce}
@@ -25,7 +25,7 @@ use Rattle.totem_pass_ab.specs.Repeats.{DeliverOnceBut, DeliversEachOnce, KnowsA
 use Rattle.totem_table.specs.Search.{place, HoldsOfNone}
 use Rattle.totem_pass_ab.specs.Pairs.{IsOne}
 use Rattle.totem_pass_ab.specs.Bad.{AreTwice}
-use Rattle.totem_evs.proofs.LogOf.{log_of_cases, less_or_not}
+use Rattle.totem_evs.proofs.LogOf.{log_of_cases}
 use Rattle.totem_pass_ab.proofs.Knowing.{meets_knows, meets_keeps}
 
 abbrev delivery : ℕ → MsgId → Delivery
@@ -44,26 +44,19 @@ pub once_delivery : (run : List Log) (doubtful : List ℕ) (p i : ℕ) (m : MsgI
 once_delivery run doubtful p i m x here sure once = record { none = λ places h. go places h }
   where
     go : (places : List Place) → IsOne run (AreTwice p i (Deliver m x)) places → ⊥
-    go [] h = h
     go (f ∷ []) (j, js, (Deliver n y, at, (same, procs, other))) = other (once.each p sure i j m x y here (rw (procs, same) at))
-    go (f ∷ []) (j, js, (Conf y ns, at, h)) = h
-    go (f ∷ []) (j, js, (Send n y t, at, h)) = h
-    go (f ∷ []) (j, js, (Fail y, at, h)) = h
-    go (f ∷ g ∷ more) h = h
+    go (f ∷ []) (j, js, (act, at, h)) = h
+    go places h = h
 
 -- ---- which processes are doubtful
 
 -- the logs before the one at k deliver each message once, but for those of doubtful processes
 pub record OnceBefore (doubtful : List ℕ) (run : List Log) (k : ℕ) : Type 0 where
-  pub each : (j : ℕ) (log : Log) → j < k → slice_get run j ≡ Some log → (Contains doubtful log.proc → ⊥) → DeliversEachOnce log.entries
+  pub each : (j : ℕ) → j < k → (log : Log) → slice_get run j ≡ Some log → (Contains doubtful log.proc → ⊥) → DeliversEachOnce log.entries
 
 next_log : (doubtful : List ℕ) (run : List Log) (k : ℕ) (log : Log) → slice_get run k ≡ Some log → ((Contains doubtful log.proc → ⊥) → DeliversEachOnce log.entries) → OnceBefore doubtful run k → OnceBefore doubtful run (k + 1)
 next_log doubtful run k log at here before = record {
-  each = λ j l lt at_j sure. elim (less_or_not j k) [
-    | inl under ↦ before.each j l under at_j sure
-    | inr (inl over) ↦ absurd (omega arith)
-    | inr (inr same) ↦ let one : log ≡ l = (let h : slice_get run k ≡ Some l = rw same at at_j in cc) in (rw one at here) sure
-  ];
+  each = below_more _ _ before.each (λ l at_k sure. (let one : log ≡ l = cc in (rw one at here) sure));
 }
 
 -- a log that is once
@@ -86,13 +79,13 @@ sure_log doubtful run k log at once before = next_log doubtful run k log at (λ 
 pub doubtful_log : (doubtful : List ℕ) (run : List Log) (k : ℕ) (log : Log) (new : List ℕ) → slice_get run k ≡ Some log → new ≡ doubtful ++ log.proc ∷ [] → OnceBefore doubtful run k → OnceBefore new run (k + 1)
 doubtful_log doubtful run k log new at is before =
     next_log new run k log at (λ sure. absurd (sure (rw is (Contains-append_right doubtful (log.proc ∷ []) log.proc (0, omega arith, refl)))))
-    (record { each = λ j l lt at_j sure. before.each j l lt at_j (λ has. sure (rw is (Contains-append_left doubtful (log.proc ∷ []) l.proc has))) })
+    (record { each = λ j lt l at_j sure. before.each j lt l at_j (λ has. sure (rw is (Contains-append_left doubtful (log.proc ∷ []) l.proc has))) })
 
 pub once_but : (doubtful : List ℕ) (run : List Log) (k : ℕ) → length run ≤ k → OnceBefore doubtful run k → DeliverOnceBut doubtful run
 once_but doubtful run k end before = record {
   each = λ p sure. elim (log_of_cases run p) [
     | inl none ↦ λ i j m x y here there. absurd (let h : slice_get {X = Entry} [] i ≡ Some (Deliver m x) = rw none at here in cc)
-    | inr (j, log, at, same, is) ↦ rw is (before.each j log (omega (arith, slice_get_within run j log at)) at (λ has. sure (rw same at has)))
+    | inr (j, log, at, same, is) ↦ rw is (before.each j (omega (arith, slice_get_within run j log at)) log at (λ has. sure (rw same at has)))
   ];
 }
 
@@ -139,14 +132,11 @@ module _ (by_message : MsgId → MsgId → Ordering) (by_delivery : Delivery →
       apart q j same (inr other) = other (let ats : j + 1 ≡ i + 1 = ap (λ (e : Place). e.at) same in omega arith)
 
       go : (places : List Place) → IsOne run (AreTwice p i (Send m x v)) places → ⊥
-      go [] h = h
       go (f ∷ []) (j, js, (Send n y t, at, (same, other))) =
           let met = ((known.each f.proc j (slice_get_within (log_of run f.proc) j (Send n y t) at)).sent n y (t, at)).only (place p i) (rw same at once) in
           apart f.proc j (sym met) other
-      go (f ∷ []) (j, js, (Conf y ns, at, h)) = h
-      go (f ∷ []) (j, js, (Deliver n y, at, h)) = h
-      go (f ∷ []) (j, js, (Fail y, at, h)) = h
-      go (f ∷ g ∷ more) h = h
+      go (f ∷ []) (j, js, (act, at, h)) = h
+      go places h = h
 
   -- a message that a process delivered at one place only was not delivered twice
   pub only_delivery : (run : List Log) (s : BTreeMap MsgId (Option Place)) (d : BTreeMap Delivery (Option Place)) (p i : ℕ) (m : MsgId) (x : ConfId) → Contains doubtful p → KnowsRun (KnowsAct by_message by_delivery s d doubtful) run
@@ -154,13 +144,10 @@ module _ (by_message : MsgId → MsgId → Ordering) (by_delivery : Delivery →
   only_delivery run s d p i m x entered known once = record { none = λ places h. go places h }
     where
       go : (places : List Place) → IsOne run (AreTwice p i (Deliver m x)) places → ⊥
-      go [] h = h
       go (f ∷ []) (j, js, (Deliver n y, at, (same, procs, other))) =
           let key : delivery p m ≡ delivery f.proc n = rw (procs, same) refl in
           let met = ((known.each f.proc j (slice_get_within (log_of run f.proc) j (Deliver n y) at)).delivered (rw procs at entered) n y at).only (place p i)
           (subst (λ (k : Delivery). tree.get by_delivery d k ≡ Some (Some (place p i))) key once) in
           other (let ats : i + 1 ≡ j + 1 = ap (λ (e : Place). e.at) met in omega arith)
-      go (f ∷ []) (j, js, (Conf y ns, at, h)) = h
-      go (f ∷ []) (j, js, (Send n y t, at, h)) = h
-      go (f ∷ []) (j, js, (Fail y, at, h)) = h
-      go (f ∷ g ∷ more) h = h
+      go (f ∷ []) (j, js, (act, at, h)) = h
+      go places h = h

@@ -3,11 +3,11 @@ use Rattle.std.proofs.Common.{◌≡◌, ℕ, inl, inr, List, [], ◌∷◌, sli
 use Rattle.std.proofs.lemmas.Option.{slice_get_within}
 use Rattle.totem_ids.specs.declared.ring.RingId.{RingId}
 use Rattle.totem_ids.specs.declared.conf.ConfId.{ConfId}
-use Rattle.totem_ids.specs.declared.conf.ConfId.TheVariants.{Regular, Transitional}
+use Rattle.totem_ids.specs.declared.conf.ConfId.TheVariants.{Regular}
 use Rattle.totem_ids.specs.declared.message.MsgId.{MsgId}
 use Rattle.totem_ids.specs.declared.place.Place.{Place}
 use Rattle.totem_evs.specs.declared.entry.Entry.{Entry}
-use Rattle.totem_evs.specs.declared.entry.Entry.TheVariants.{Conf, Send, Deliver, Fail}
+use Rattle.totem_evs.specs.declared.entry.Entry.TheVariants.{Send, Deliver}
 use Rattle.totem_evs.specs.declared.log.Log.{Log}
 use Rattle.totem_evs.specs.Events.{log_of, IsTransitional}
 use Rattle.totem_evs.specs.Following.{IsFirstChange, Follows}
@@ -44,13 +44,9 @@ follows_decided log c d i j x y ms ns b first succession moves decides = (
 
 -- what a search for sends shows
 pub was_sent : (run : List Log) (log : List Entry) (m : MsgId) (d : ConfId) (ps : List Place) → IsOne run (IsSendTo log m d) ps → WasSentTo run log m d
-was_sent run log m d [] h = absurd h
 was_sent run log m d (e ∷ []) (j, js, (Send n (Regular c) s, at, (same, inside))) = (c, (e.proc, j, (s, rw same at at)), inside)
-was_sent run log m d (e ∷ []) (j, js, (Send n (Transitional x l) s, at, h)) = absurd h
-was_sent run log m d (e ∷ []) (j, js, (Conf x ms, at, h)) = absurd h
-was_sent run log m d (e ∷ []) (j, js, (Deliver n x, at, h)) = absurd h
-was_sent run log m d (e ∷ []) (j, js, (Fail x, at, h)) = absurd h
-was_sent run log m d (e ∷ f ∷ more) h = absurd h
+was_sent run log m d (e ∷ []) (j, js, (other, at, h)) = absurd h
+was_sent run log m d ps h = absurd h
 
 pub was_not_sent : (run : List Log) (log : List Entry) (m : MsgId) (d : ConfId) → HoldsOfNone (IsOne run (IsSendTo log m d)) → WasSentTo run log m d → ⊥
 was_not_sent run log m d never (c, (q, j, (s, at)), inside) = never.none (place q j ∷ []) (j, refl, (Send m (Regular c) s, at, (refl, inside)))
@@ -66,9 +62,8 @@ pub unsent_begins : (run : List Log) → EachBegins run (BreaksUnsent run)
 unsent_begins run = record { each = λ places h. go places h }
   where
     go : (places : List Place) → BreaksUnsent run places → Begins run places
-    go [] h = absurd h
     go (e ∷ []) (i, is, (m, d, at, never)) = begins_at run e i [] is (slice_get_within (log_of run e.proc) i (Deliver m d) at)
-    go (e ∷ f ∷ more) h = absurd h
+    go places h = absurd h
 
 pub unsent_here : (run : List Log) (p i : ℕ) (m : MsgId) (d : ConfId) → slice_get (log_of run p) i ≡ Some (Deliver m d) → (WasSentTo run (log_of run p) m d → ⊥) → IsLeastFrom (BreaksUnsent run) p i []
 unsent_here run p i m d at never = record { least = record { holds = (i, refl, (m, d, at, never)); first = λ others _. tt } }
@@ -83,9 +78,6 @@ none_unsent run p i never = record { none = λ rest h. go rest h }
 pub sent_here : (run : List Log) (p i : ℕ) (m : MsgId) (d : ConfId) → slice_get (log_of run p) i ≡ Some (Deliver m d) → WasSentTo run (log_of run p) m d → NoneFrom (BreaksUnsent run) p i
 sent_here run p i m d at sent = none_unsent run p i (λ (n, x, at', never). let same : Deliver n x ≡ Deliver m d = cc in
     let messages : n ≡ m = cc in let confs : x ≡ d = cc in never (rw (messages, confs) sent))
-
-pub no_delivery : (run : List Log) (p i : ℕ) (e : Entry) → slice_get (log_of run p) i ≡ Some e → ((m : MsgId) (d : ConfId) → e ≡ Deliver m d → ⊥) → NoneFrom (BreaksUnsent run) p i
-no_delivery run p i e at other = none_unsent run p i (λ (n, x, at', never). other n x cc)
 
 pub delivers_what_was_sent : (run : List Log) → HoldsOfNone (BreaksUnsent run) → DeliversWhatWasSent run
 delivers_what_was_sent run never p i m d at = elim (sent_or_not run (log_of run p) m d) [

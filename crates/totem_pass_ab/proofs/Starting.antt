@@ -1,5 +1,7 @@
 -- Lists that begin with an event of the run, and what follows from a search among them.
-use Rattle.std.proofs.Common.{◌≡◌, ℕ, ◌+◌, ◌<◌, List, [], ◌∷◌, length, slice_get, Option, Some, None, MatchOption, refl, ap, arith}
+use Rattle.std.proofs.Common.{◌≡◌, ℕ, ◌+◌, ◌<◌, List, [], ◌∷◌, length, slice_get, Option, Some, None, MatchOption, Bool, true, false, not, IsTrue, ◌↔◌, refl, ap, arith}
+use Rattle.std.specs.Bool.{OnFalse}
+use Rattle.std.proofs.lemmas.Grind.{not_there}
 use Rattle.std.proofs.lemmas.Option.{slice_get_within}
 use Rattle.totem_ids.specs.declared.place.Place.{Place}
 use Rattle.totem_evs.specs.declared.entry.Entry.{Entry}
@@ -43,9 +45,8 @@ pub one_begins : (run : List Log) (P : ℕ → ℕ → Entry → Type 0) → Eac
 one_begins run P = record { each = λ places h. go places h }
   where
     go : (places : List Place) → IsOne run P places → Begins run places
-    go [] h = absurd h
     go (e ∷ []) (i, is, h) = begins_at run e i [] is (has_within run P e.proc i h)
-    go (e ∷ f ∷ rest) h = absurd h
+    go places h = absurd h
 
 pub one_or_two_begins : (run : List Log) (A : ℕ → ℕ → Entry → Type 0) (P : ℕ → ℕ → Entry → ℕ → ℕ → Entry → Type 0) → EachBegins run (IsOneOrTwo run A P)
 one_or_two_begins run A P = record { each = λ places h. go places h }
@@ -54,9 +55,6 @@ one_or_two_begins run A P = record { each = λ places h. go places h }
     go [] h = absurd h
     go (e ∷ []) (i, is, h) = begins_at run e i [] is (has_within run A e.proc i h)
     go (e ∷ f ∷ rest) (i, is, h) = begins_at run e i (f ∷ rest) is (has_within run (λ p i x. IsOne run (P p i x) (f ∷ rest)) e.proc i h)
-
-same_entry : (log : List Entry) (i : ℕ) (x y : Entry) → slice_get log i ≡ Some x → slice_get log i ≡ Some y → x ≡ y
-same_entry log i x y h k = cc
 
 -- what a search found, as places
 pub told_as_places : {V : Type 0} (items : V → List Place) (found : Option V) (places : Option (List Place)) (Told : Option (List Place) → Type 0) (A : Type 0) (P : V → Type 0)
@@ -73,7 +71,7 @@ least_places items run H found places begins is = told_as_places items found pla
 -- what is known about the entry at a place is known about the same entry read again
 pub moved : (log : List Entry) (i j : ℕ) (x y : Entry) (Q : ℕ → Entry → Type 0) → slice_get log i ≡ Some x → i + 1 ≡ j + 1 → slice_get log j ≡ Some y → Q j y → Q i x
 moved log i j x y Q at is at_j h = let same : j ≡ i = omega arith in
-    let one : y ≡ x = same_entry log i y x (rw same at at_j) at in
+    let one : y ≡ x = (let there : slice_get log i ≡ Some y = rw same at at_j in cc) in
     rw (same, one) at h
 
 -- an entry that is bad neither alone nor with another
@@ -84,10 +82,6 @@ bad_with_nothing run A P p i x at not_alone never = record { none = λ rest h. g
     go : (rest : List Place) → IsOneOrTwo run A P (place p i ∷ rest) → ⊥
     go [] (j, is, (y, at_j, h)) = not_alone (moved (log_of run p) i j x y (λ k z. A p k z) at is at_j h)
     go (f ∷ more) (j, is, (y, at_j, h)) = never.none (f ∷ more) (moved (log_of run p) i j x y (λ k z. IsOne run (P p k z) (f ∷ more)) at is at_j h)
-
-pub bad_with_none : (run : List Log) (A : ℕ → ℕ → Entry → Type 0) (P : ℕ → ℕ → Entry → ℕ → ℕ → Entry → Type 0) (p i : ℕ) (x : Entry) → slice_get (log_of run p) i ≡ Some x
-    → (A p i x → ⊥) → NoneOf run (IsOne run (P p i x)) → NoneFrom (IsOneOrTwo run A P) p i
-bad_with_none run A P p i x at not_alone never = bad_with_nothing run A P p i x at not_alone (none_of_all run (IsOne run (P p i x)) (one_begins run (P p i x)) never)
 
 -- an entry that is not bad alone, but with others
 pub bad_with_some : (run : List Log) (A : ℕ → ℕ → Entry → Type 0) (P : ℕ → ℕ → Entry → ℕ → ℕ → Entry → Type 0) (p i : ℕ) (x : Entry) (places : List Place) → slice_get (log_of run p) i ≡ Some x
@@ -104,3 +98,13 @@ bad_with_some run A P p i x places at not_alone least = record { least = record 
     go : (others : List Place) → IsOneOrTwo run A P (place p i ∷ others) → ComesFirst places others
     go [] (j, is, (y, at_j, h)) = absurd (not_alone (moved (log_of run p) i j x y (λ k z. A p k z) at is at_j h))
     go (f ∷ more) (j, is, (y, at_j, h)) = all.first (f ∷ more) (moved (log_of run p) i j x y (λ k z. IsOne run (P p k z) (f ∷ more)) at is at_j h)
+
+-- ---- when a quick test makes a search unnecessary
+
+-- what follows from a fact, if only the existence of its proof is known
+pub none_known : {K : Type 0} (H : List Place → Type 0) → ∥ K ∥₁ → (K → HoldsOfNone H) → HoldsOfNone H
+none_known H known shows = record { none = λ places h. not_there known (λ k. (shows k).none places h) }
+
+pub unless : (b : Bool) (P Q : Type 0) → IsTrue b ↔ Q → (Q → P) → OnFalse (not b) P
+unless true P Q decides f = f (decides.0 refl)
+unless false P Q decides f = tt

@@ -1,5 +1,5 @@
--- Searching for what breaks 2.4, change by change.
-use Rattle.std.proofs.Common.{◌≡◌, ◌≢◌, ℕ, ◌+◌, ◌<◌, ◌≤◌, ◌⊎◌, inl, inr, List, [], ◌∷◌, length, slice_get, Some, Bool, true, false, not, IsTrue, ◌↔◌, refl, sym, subst, ◌∙◌, arith}
+-- Searching for what breaks 2.4, change by change: what is found is the least list that breaks it.
+use Rattle.std.proofs.Common.{◌≡◌, ◌≢◌, ℕ, ◌+◌, ◌<◌, ◌≤◌, ◌⊎◌, inl, inr, List, [], ◌∷◌, length, slice_get, Some, Bool, true, false, not, IsTrue, ◌↔◌, refl, sym, subst, ap, ◌∙◌, arith}
 use Rattle.std.specs.Prelude.{All, Contains}
 use Rattle.std.proofs.lemmas.Option.{slice_get_within}
 use Rattle.totem_ids.specs.declared.ring.RingId.{RingId}
@@ -10,16 +10,19 @@ use Rattle.totem_evs.specs.declared.entry.Entry.{Entry}
 use Rattle.totem_evs.specs.declared.entry.Entry.TheVariants.{Conf}
 use Rattle.totem_evs.specs.declared.log.Log.{Log}
 use Rattle.totem_evs.specs.Events.{log_of, IsChange, IsRegular, IsTransitional}
-use Rattle.totem_evs.specs.Changes.{ChangesNext}
-use Rattle.totem_evs.specs.ChangeFaults.{BeginsTransitional, AreWrongNeighbours}
-use Rattle.totem_evs.specs.Answers.{ComesFirst, IsLeast}
+use Rattle.totem_evs.specs.Changes.{ChangesNext, TakesTurns}
+use Rattle.totem_evs.specs.ChangeFaults.{BeginsTransitional, AreWrongNeighbours, BreaksTurns}
+use Rattle.totem_evs.specs.Answers.{ComesFirst, IsLeast, TakeTurns}
 use Rattle.totem_table.specs.Search.{place, NoneFrom, IsLeastFrom, HoldsOfNone}
 use Rattle.totem_evs.specs.Following.{IsNextOrEnd}
-use Rattle.totem_evs.proofs.NextChanges.{no_change}
+use Rattle.totem_evs.proofs.NextChanges.{no_change, one_next}
 use Rattle.totem_run_rules.specs.Succession.{IsWrongSuccession}
 use Rattle.totem_pass_ab.specs.Turns.{HasNoSuccession, IsOfOtherRing, ComesFromElsewhere, IsOtherOrigin, IsTurnRest, IsTurnFault}
 use Rattle.totem_evs.proofs.LogOf.{less_or_not}
 use Rattle.totem_pass_ab.proofs.Starting.{Begins, EachBegins, begins_at}
+use Rattle.totem_ids.proofs.Orderings.{place_strict}
+use Rattle.totem_run_rules.proofs.Behind.{right_kinds, right_from, right_to, right_name}
+use Rattle.totem_run_rules.proofs.Decisions.{same_ring_or_not, regular_or_transitional}
 
 -- the next change at an index makes a succession
 pub succession_to_next : (log : List Entry) (i j : ℕ) (x y : ConfId) (ms ns : List ℕ) → slice_get log i ≡ Some (Conf x ms) → slice_get log j ≡ Some (Conf y ns) → IsNextOrEnd log i j → ChangesNext log i j x y ms ns
@@ -30,6 +33,24 @@ no_succession_to_end log i j next end = record { none = λ k x y ms ns successio
 
 pub next_is_change : (log : List Entry) (i j : ℕ) (e : Entry) → IsNextOrEnd log i j → j < length log → slice_get log j ≡ Some e → ((x : ConfId) (ms : List ℕ) → e ≡ Conf x ms → ⊥) → ⊥
 next_is_change log i j e next lt at other = no_change log j e at other (next.change lt)
+
+-- no change is at n or later and before `at`
+pub record NoneBetween (log : List Entry) (n at : ℕ) : Type 0 where
+  pub none : (k : ℕ) → n ≤ k → k < at → IsChange log k → ⊥
+
+pub none_between_yet : (log : List Entry) (n at : ℕ) → at ≤ n → NoneBetween log n at
+none_between_yet log n at le = record { none = λ k from lt change. omega arith }
+
+pub none_between_more : (log : List Entry) (n m k at : ℕ) (e : Entry) → n ≡ m + 1 → k ≡ m → slice_get log m ≡ Some e → ((x : ConfId) (ms : List ℕ) → e ≡ Conf x ms → ⊥) → NoneBetween log n at → NoneBetween log k at
+none_between_more log n m k at e is is_m here other before = record {
+  none = λ j from lt change. elim (less_or_not j n) [
+    | inl under ↦ (let same : j ≡ m = omega arith in no_change log m e here other (rw same at change))
+    | inr rest ↦ before.none j (elim rest [ inl over ↦ omega arith | inr same ↦ omega arith ]) lt change
+  ];
+}
+
+pub none_before : (log : List Entry) (n at : ℕ) → n ≡ 0 → NoneBetween log n at → IsTrue false ↔ ((k : ℕ) × (k < at) × IsChange log k)
+none_before log n at is before = (λ t. absurd cc, λ (k, lt, change). absurd (before.none k (omega arith) lt change))
 
 -- the first change of a log
 pub begins_decided : (log : List Entry) (i : ℕ) (x : ConfId) (ms : List ℕ) (before : Bool) → slice_get log i ≡ Some (Conf x ms) → IsTransitional x → IsTrue before ↔ ((k : ℕ) × (k < i) × IsChange log k)
@@ -53,17 +74,12 @@ pub record SameTurn (j k : ℕ) (x x' y y' : ConfId) (ms ms' ns ns' : List ℕ) 
 
 pub one_succession : (log : List Entry) (i j k : ℕ) (x x' y y' : ConfId) (ms ms' ns ns' : List ℕ) → ChangesNext log i j x y ms ns → ChangesNext log i k x' y' ms' ns' → SameTurn j k x x' y y' ms ms' ns ns'
 one_succession log i j k x x' y y' ms ms' ns ns' a b =
-    let same_at = same in
-    record { at = same; conf = (let h = a.first in let g = b.first in cc); members = (let h = a.first in let g = b.first in cc); next = seconds.0; next_members = seconds.1 }
-  where
-    same : j ≡ k
-    same = elim (less_or_not j k) [
-      | inl lt ↦ absurd (b.next.none_between j a.next.later lt a.next.change)
-      | inr more ↦ elim more [ inl gt ↦ absurd (a.next.none_between k b.next.later gt b.next.change) | inr e ↦ e ]
-    ]
-
-    seconds : (y ≡ y') × (ns ≡ ns')
-    seconds = let h : slice_get log k ≡ Some (Conf y ns) = rw same at a.second in let g = b.second in (cc, cc)
+    let same : j ≡ k = one_next log i j k a.next b.next in
+    let first = a.first in
+    let other_first = b.first in
+    let second : slice_get log k ≡ Some (Conf y ns) = rw same at a.second in
+    let other_second = b.second in
+    record { at = same; conf = cc; members = cc; next = cc; next_members = cc }
 
 -- the ways in which a succession is wrong
 pub wrong_succession : (x y : ConfId) (ms ns : List ℕ)
@@ -96,12 +112,6 @@ same_wrong x x' y y' ms ms' ns ns' a b c d h =
     let e : P x' ms' y' ns' ≡ P x ms y ns = cc in
     rw e at h
 
--- a right succession is not one of wrong neighbours
-pub right_not_wrong : (log : List Entry) (i j k : ℕ) (x y : ConfId) (ms ns : List ℕ) → ChangesNext log i j x y ms ns → (IsWrongSuccession x ms y ns → ⊥) → AreWrongNeighbours log i k → ⊥
-right_not_wrong log i j k x y ms ns succession right (x', y', ms', ns', succession', how) =
-    let one = one_succession log i k j x' x y' y ms' ms ns' ns succession' succession in
-    right (same_wrong x x' y y' ms ms' ns ns' one.conf one.members one.next one.next_members (wrong_succession x' y' ms' ns' how))
-
 pub succession_within : (log : List Entry) (i j : ℕ) (x y : ConfId) (ms ns : List ℕ) → ChangesNext log i j x y ms ns → i < length log
 succession_within log i j x y ms ns succession = slice_get_within log i (Conf x ms) succession.first
 
@@ -116,54 +126,59 @@ succession_of_rest run p i j (g ∷ rest) (c, t, ms, ns, moves, succession, othe
 pub none_without_succession : (run : List Log) (p i : ℕ) → (BeginsTransitional (log_of run p) i → ⊥) → HasNoSuccession (log_of run p) i → NoneFrom (IsTurnFault run) p i
 none_without_succession run p i not_first never = record { none = λ rest h. go rest h }
   where
-    at_index : (k : ℕ) (f : Place) (rest : List Place) (j : ℕ) → k ≡ i → IsTurnRest run p k j rest → ⊥
-    at_index k f rest j same h = let found = succession_of_rest run p i j rest (rw same at h) in never.none j found.0 found.1 found.2 found.3 found.4
-
     go : (rest : List Place) → IsTurnFault run (place p i ∷ rest) → ⊥
     go [] (k, is, h) = let same : k ≡ i = omega arith in not_first (rw same at h)
-    go (f ∷ rest) (k, is, (j, js, (procs, h))) = at_index k f rest j (omega arith) h
+    go (f ∷ rest) (k, is, (j, js, (procs, h))) =
+        let same : k ≡ i = omega arith in
+        let found = succession_of_rest run p i j rest (rw same at h) in never.none j found.0 found.1 found.2 found.3 found.4
 
--- no list begins with an entry that is no change
-pub none_without_change : (run : List Log) (p i : ℕ) → (IsChange (log_of run p) i → ⊥) → NoneFrom (IsTurnFault run) p i
-none_without_change run p i never = none_without_succession run p i (λ (x, change, moves, none). never (x, change)) (record { none = λ j x y ms ns succession. never (x, (ms, succession.first)) })
+-- what may follow p's two changes in a list that breaks 2.4
+abbrev IsTurnAfter : List Log → ℕ → ConfId → List ℕ → ConfId → List ℕ → List Place → Type 0
+IsTurnAfter run p x ms y ns [] = IsWrongSuccession x ms y ns
+IsTurnAfter run p x ms y ns (g ∷ rest) = (c : RingId) × (x ≡ Regular c) × IsOtherOrigin run p c y (g ∷ rest)
+
+-- a list that begins with p's change goes on with its next change, at j
+record GoesOn (run : List Log) (p j : ℕ) (x : ConfId) (ms : List ℕ) (y : ConfId) (ns : List ℕ) (places : List Place) : Type 0 where
+  rest : List Place
+  is : places ≡ place p j ∷ rest
+  after : IsTurnAfter run p x ms y ns rest
+
+goes_on : (run : List Log) (p i j : ℕ) (x y : ConfId) (ms ns : List ℕ) → (BeginsTransitional (log_of run p) i → ⊥) → ChangesNext (log_of run p) i j x y ms ns → (places : List Place) → IsTurnFault run (place p i ∷ places)
+    → GoesOn run p j x ms y ns places
+goes_on run p i j x y ms ns not_first succession [] (k, is, h) = let same : k ≡ i = omega arith in absurd (not_first (rw same at h))
+goes_on run p i j x y ms ns not_first succession (f ∷ rest) (k, is, (l, ls, (procs, h))) = go rest (let same : k ≡ i = omega arith in rw same at h)
+  where
+    placed : (more : List Place) → j ≡ l → f ∷ more ≡ place p j ∷ more
+    placed more at = ap (λ (h : Place). h ∷ more) (sym (place_of p j l f procs ls at))
+
+    go : (more : List Place) → IsTurnRest run p i l more → GoesOn run p j x ms y ns (f ∷ more)
+    go [] (x', y', ms', ns', succession', how) =
+        let one = one_succession (log_of run p) i l j x' x y' y ms' ms ns' ns succession' succession in
+        record { rest = []; is = placed [] (sym one.at); after = same_wrong x x' y y' ms ms' ns ns' one.conf one.members one.next one.next_members (wrong_succession x' y' ms' ns' how) }
+    go (g ∷ more) (c, t, ks, os, moves, succession', other) =
+        let one = one_succession (log_of run p) i j l x (Regular c) y t ms ks ns os succession succession' in
+        record { rest = g ∷ more; is = placed (g ∷ more) one.at; after = (c, one.conf, subst (λ (z : ConfId). IsOtherOrigin run p c z (g ∷ more)) (sym one.next) other) }
 
 -- the list ends with a change that may not be the next one
 pub wrong_here : (run : List Log) (p i j : ℕ) (x y : ConfId) (ms ns : List ℕ) → (BeginsTransitional (log_of run p) i → ⊥) → ChangesNext (log_of run p) i j x y ms ns → IsWrongSuccession x ms y ns
     → IsLeastFrom (IsTurnFault run) p i (place p j ∷ [])
-wrong_here run p i j x y ms ns not_first succession w = record {
+wrong_here run p i j x y ms ns not_first succession wrong = record {
   least = record {
-    holds = (i, refl, (j, refl, (refl, wrong_neighbours (log_of run p) i j x y ms ns succession w)));
-    first = λ others h. go others h;
+    holds = (i, refl, (j, refl, (refl, wrong_neighbours (log_of run p) i j x y ms ns succession wrong)));
+    first = λ others h. let on = goes_on run p i j x y ms ns not_first succession others h in rw on.is (inr (refl, tt));
   };
 }
-  where
-    at_index : (k l : ℕ) (f : Place) (rest : List Place) → k ≡ i → p ≡ f.proc → f.at ≡ l + 1 → IsTurnRest run p k l rest → ComesFirst (place p j ∷ []) (f ∷ rest)
-    at_index k l f rest same procs at h =
-        let found = succession_of_rest run p i l rest (rw same at h) in
-        let one = one_succession (log_of run p) i j l x found.0 y found.1 ms found.2 ns found.3 succession found.4 in
-        inr (place_of p j l f procs at one.at, tt)
-
-    go : (others : List Place) → IsTurnFault run (place p i ∷ others) → ComesFirst (place p j ∷ []) others
-    go [] (k, is, h) = let same : k ≡ i = omega arith in absurd (not_first (rw same at h))
-    go (f ∷ rest) (k, is, (l, ls, (procs, h))) = at_index k l f rest (omega arith) procs ls h
 
 -- it may be the next one, and no other log comes there from elsewhere
 pub none_after_right : (run : List Log) (p i j : ℕ) (x y : ConfId) (ms ns : List ℕ) → (BeginsTransitional (log_of run p) i → ⊥) → ChangesNext (log_of run p) i j x y ms ns → (IsWrongSuccession x ms y ns → ⊥)
     → ((c : RingId) → x ≡ Regular c → HoldsOfNone (IsOtherOrigin run p c y)) → NoneFrom (IsTurnFault run) p i
-none_after_right run p i j x y ms ns not_first succession right none_else = record { none = λ rest h. go rest h }
+none_after_right run p i j x y ms ns not_first succession right none_else = record {
+  none = λ rest h. let on = goes_on run p i j x y ms ns not_first succession rest h in go on.rest on.after;
+}
   where
-    at_index : (k l : ℕ) (rest : List Place) → k ≡ i → IsTurnRest run p k l rest → ⊥
-    at_index k l [] same h = right_not_wrong (log_of run p) i j l x y ms ns succession right (rw same at h)
-    at_index k l (g ∷ rest) same (c, t, ks, ls, moves, succession', other) =
-        let one = one_succession (log_of run p) i j l x (Regular c) y t ms ks ns ls succession (rw same at succession') in
-        (none_else c one.conf).none (g ∷ rest) (other_at g rest c t (sym one.next) other)
-      where
-        other_at : (g : Place) (rest : List Place) (c : RingId) (t : ConfId) → t ≡ y → IsOtherOrigin run p c t (g ∷ rest) → IsOtherOrigin run p c y (g ∷ rest)
-        other_at g rest c t e h = let P : ConfId → Type 0 = λ z. IsOtherOrigin run p c z (g ∷ rest) in subst P e h
-
-    go : (rest : List Place) → IsTurnFault run (place p i ∷ rest) → ⊥
-    go [] (k, is, h) = let same : k ≡ i = omega arith in not_first (rw same at h)
-    go (f ∷ rest) (k, is, (l, ls, (procs, h))) = at_index k l rest (omega arith) h
+    go : (rest : List Place) → IsTurnAfter run p x ms y ns rest → ⊥
+    go [] wrong = right wrong
+    go (g ∷ rest) (c, is, other) = (none_else c is).none (g ∷ rest) other
 
 -- it may be the next one, and another log comes there from elsewhere
 pub some_after_right : (run : List Log) (p i j : ℕ) (x y : ConfId) (ms ns : List ℕ) (c : RingId) (rest : List Place) → (BeginsTransitional (log_of run p) i → ⊥) → ChangesNext (log_of run p) i j x y ms ns
@@ -171,7 +186,7 @@ pub some_after_right : (run : List Log) (p i j : ℕ) (x y : ConfId) (ms ns : Li
 some_after_right run p i j x y ms ns c rest not_first succession right is_c least = record {
   least = record {
     holds = (i, refl, (j, refl, (refl, known rest least.holds)));
-    first = λ others h. go others h;
+    first = λ others h. let on = goes_on run p i j x y ms ns not_first succession others h in rw on.is (inr (refl, first on.rest on.after));
   };
 }
   where
@@ -183,20 +198,11 @@ some_after_right run p i j x y ms ns c rest not_first succession right is_c leas
     known [] h = absurd h
     known (g ∷ more) h = (c, y, ms, ns, moves_on y refl, rw is_c at succession, h)
 
-    other_at : (g : Place) (more : List Place) (d : RingId) (t : ConfId) → d ≡ c → t ≡ y → IsOtherOrigin run p d t (g ∷ more) → IsOtherOrigin run p c y (g ∷ more)
-    other_at g more d t a b h = let P : RingId → ConfId → Type 0 = λ e z. IsOtherOrigin run p e z (g ∷ more) in
-        let both : P d t ≡ P c y = cc in rw both at h
-
-    at_index : (k l : ℕ) (f : Place) (more : List Place) → k ≡ i → p ≡ f.proc → f.at ≡ l + 1 → IsTurnRest run p k l more → ComesFirst (place p j ∷ rest) (f ∷ more)
-    at_index k l f [] same procs at h = absurd (right_not_wrong (log_of run p) i j l x y ms ns succession right (rw same at h))
-    at_index k l f (g ∷ more) same procs at (d, t, ks, ls, moves, succession', other) =
-        let one = one_succession (log_of run p) i j l x (Regular d) y t ms ks ns ls succession (rw same at succession') in
-        let rings : d ≡ c = (let e : Regular d ≡ Regular c = sym one.conf ∙ is_c in cc) in
-        inr (place_of p j l f procs at one.at, least.first (g ∷ more) (other_at g more d t rings (sym one.next) other))
-
-    go : (others : List Place) → IsTurnFault run (place p i ∷ others) → ComesFirst (place p j ∷ rest) others
-    go [] (k, is, h) = let same : k ≡ i = omega arith in absurd (not_first (rw same at h))
-    go (f ∷ more) (k, is, (l, ls, (procs, h))) = at_index k l f more (omega arith) procs ls h
+    first : (more : List Place) → IsTurnAfter run p x ms y ns more → ComesFirst rest more
+    first [] wrong = absurd (right wrong)
+    first (g ∷ more) (d, is_d, other) =
+        let rings : d ≡ c = (let e : Regular d ≡ Regular c = sym is_d ∙ is_c in cc) in
+        least.first (g ∷ more) (subst (λ (r : RingId). IsOtherOrigin run p r y (g ∷ more)) rings other)
 
 pub begins_here : (run : List Log) (p i : ℕ) → BeginsTransitional (log_of run p) i → IsLeastFrom (IsTurnFault run) p i []
 begins_here run p i h = record { least = record { holds = (i, refl, h); first = λ others _. tt } }
@@ -206,25 +212,17 @@ pub others_begin : (run : List Log) (p : ℕ) (c : RingId) (t : ConfId) → Each
 others_begin run p c t = record { each = λ places h. go places h }
   where
     go : (places : List Place) → IsOtherOrigin run p c t places → Begins run places
-    go [] h = absurd h
-    go (g ∷ []) h = absurd h
     go (g ∷ h ∷ []) (k, is, (l, ls, (same, (lt, d, ks, ls', never, succession)))) = begins_at run g k (h ∷ []) is (succession_within (log_of run g.proc) k l (Regular d) t ks ls' succession)
-    go (g ∷ h ∷ f ∷ more) b = absurd b
-
-no_other : (run : List Log) (p : ℕ) (c : RingId) (t : ConfId) (q k : ℕ) → ((l : ℕ) → ComesFromElsewhere run p c t q k l → ⊥) → NoneFrom (IsOtherOrigin run p c t) q k
-no_other run p c t q k never = record { none = λ rest h. go rest h }
-  where
-    at_index : (m l : ℕ) → m ≡ k → ComesFromElsewhere run p c t q m l → ⊥
-    at_index m l same h = never l (rw same at h)
-
-    go : (rest : List Place) → IsOtherOrigin run p c t (place q k ∷ rest) → ⊥
-    go [] h = h
-    go (f ∷ []) (m, is, (l, ls, (procs, h))) = at_index m l (omega arith) h
-    go (f ∷ g ∷ more) h = h
+    go places b = absurd b
 
 pub no_other_to_there : (run : List Log) (p : ℕ) (c : RingId) (t : ConfId) (q k j : ℕ) (x y : ConfId) (ms ns : List ℕ) → ChangesNext (log_of run q) k j x y ms ns → (y ≡ t → ⊥) → NoneFrom (IsOtherOrigin run p c t) q k
-no_other_to_there run p c t q k j x y ms ns succession never = no_other run p c t q k (λ l (lt, d, ks, ls, other, succession').
-    never (sym (one_succession (log_of run q) k l j (Regular d) x t y ks ms ls ns succession' succession).next))
+no_other_to_there run p c t q k j x y ms ns succession never = record { none = λ rest h. go rest h }
+  where
+    go : (rest : List Place) → IsOtherOrigin run p c t (place q k ∷ rest) → ⊥
+    go (f ∷ []) (m, is, (l, ls, (procs, (lt, d, ks, os, other, succession')))) =
+        let same : m ≡ k = omega arith in
+        never (one_succession (log_of run q) k j l x (Regular d) y t ms ks ns os succession (rw same at succession')).next
+    go rest h = h
 
 pub other_here : (run : List Log) (p : ℕ) (c : RingId) (t : ConfId) (q k j : ℕ) (x y : ConfId) (ms ns : List ℕ) → p < q → ChangesNext (log_of run q) k j x y ms ns → IsOfOtherRing c x → y ≡ t
     → IsLeastFrom (IsOtherOrigin run p c t) q k (place q j ∷ [])
@@ -236,15 +234,12 @@ other_here run p c t q k j (Regular d) y ms ns lt succession other same = record
   };
 }
   where
-    at_index : (m l : ℕ) (f : Place) → m ≡ k → q ≡ f.proc → f.at ≡ l + 1 → ComesFromElsewhere run p c t q m l → ComesFirst (place q j ∷ []) (f ∷ [])
-    at_index m l f same_at procs at (lt', e, ks, ls, never, succession') =
-        let one = one_succession (log_of run q) k j l (Regular d) (Regular e) y t ms ks ns ls succession (rw same_at at succession') in
-        inr (place_of q j l f procs at one.at, tt)
-
     go : (others : List Place) → IsOtherOrigin run p c t (place q k ∷ others) → ComesFirst (place q j ∷ []) others
-    go [] h = absurd h
-    go (f ∷ []) (m, is, (l, ls, (procs, h))) = at_index m l f (omega arith) procs ls h
-    go (f ∷ g ∷ more) h = absurd h
+    go (f ∷ []) (m, is, (l, ls, (procs, (lt', e, ks, os, never, succession')))) =
+        let here : m ≡ k = omega arith in
+        let one = one_succession (log_of run q) k j l (Regular d) (Regular e) y t ms ks ns os succession (rw here at succession') in
+        inr (place_of q j l f procs ls one.at, tt)
+    go others h = absurd h
 
 pub begins_not : (run : List Log) (p i : ℕ) (log : List Entry) (b : Bool) → log ≡ log_of run p → b ≡ false → IsTrue b ↔ BeginsTransitional log i → BeginsTransitional (log_of run p) i → ⊥
 begins_not run p i log b is e decides h = let t : b ≡ true = decides.1 (rw is h) in cc
@@ -252,3 +247,80 @@ begins_not run p i log b is e decides h = let t : b ≡ true = decides.1 (rw is 
 pub others_of_ring : (run : List Log) (p : ℕ) (x t : ConfId) (c d : RingId) → x ≡ Regular c → x ≡ Regular d → HoldsOfNone (IsOtherOrigin run p c t) → HoldsOfNone (IsOtherOrigin run p d t)
 others_of_ring run p x t c d is_c is_d h = let same : c ≡ d = (let e : Regular c ≡ Regular d = sym is_c ∙ is_d in cc) in
     let P : RingId → Type 0 = λ r. HoldsOfNone (IsOtherOrigin run p r t) in subst P same h
+
+-- ---- from the form of the search to what breaks 2.4
+
+pub comes_before : (es fs gs : List Place) → ComesFirst es fs → ComesFirst fs gs → ComesFirst es gs
+comes_before [] fs gs h k = tt
+comes_before (e ∷ es) [] gs h k = absurd h
+comes_before (e ∷ es) (f ∷ fs) [] h k = absurd k
+comes_before (e ∷ es) (f ∷ fs) (g ∷ gs) (inl h) (inl k) = inl (place_strict.goes_on e f g h k)
+comes_before (e ∷ es) (f ∷ fs) (g ∷ gs) (inl h) (inr (same, k)) = inl (rw same at h)
+comes_before (e ∷ es) (f ∷ fs) (g ∷ gs) (inr (same, h)) (inl k) = inl (rw (← same) at k)
+comes_before (e ∷ es) (f ∷ fs) (g ∷ gs) (inr (same, h)) (inr (same', k)) = inr (same ∙ same', comes_before es fs gs h k)
+
+pub comes_itself : (es : List Place) → ComesFirst es es
+comes_itself [] = tt
+comes_itself (e ∷ es) = inr (refl, comes_itself es)
+
+-- the least of some lists is the least of more, if each of those has one of the first at or before it
+pub least_of_more : (H G : List Place → Type 0) (places : List Place) → ((ps : List Place) → H ps → G ps) → ((ps : List Place) → G ps → (qs : List Place) × H qs × ComesFirst qs ps) → IsLeast H places → IsLeast G places
+least_of_more H G places to from least = record {
+  holds = to places least.holds;
+  first = λ others h. let before = from others h in comes_before places before.0 others (least.first before.0 before.1) before.2;
+}
+
+pub turn_faults_break : (run : List Log) (ps : List Place) → IsTurnFault run ps → BreaksTurns run ps
+turn_faults_break run [] h = absurd h
+turn_faults_break run (e ∷ []) h = h
+turn_faults_break run (e ∷ f ∷ []) (i, is, (j, js, (procs, h))) = (i, is, (j, js, (procs, inl h)))
+turn_faults_break run (e ∷ f ∷ g ∷ h ∷ []) (i, is, (j, js, (procs, (c, t, ms, ns, moves, succession, (k, ks, (l, ls, (others, (lt, d, os, qs, never, succession')))))))) =
+    (i, is, (j, js, (k, ks, (l, ls, (procs, others, (lt, c, d, t, ms, ns, os, qs, moves, never, succession, succession'))))))
+turn_faults_break run (e ∷ f ∷ g ∷ more) (i, is, (j, js, (procs, (c, t, ms, ns, moves, succession, other)))) = absurd other
+
+pub breaks_have_turn_faults : (run : List Log) (ps : List Place) → BreaksTurns run ps → (qs : List Place) × IsTurnFault run qs × ComesFirst qs ps
+breaks_have_turn_faults run (e ∷ []) h = (e ∷ [], h, comes_itself (e ∷ []))
+breaks_have_turn_faults run (e ∷ f ∷ []) (i, is, (j, js, (procs, inl h))) = (e ∷ f ∷ [], (i, is, (j, js, (procs, h))), comes_itself (e ∷ f ∷ []))
+breaks_have_turn_faults run (e ∷ f ∷ []) (i, is, (j, js, (procs, inr h))) =
+    (f ∷ e ∷ [], (j, js, (i, is, (sym procs, rw procs at h))), inl (inr (sym procs, earlier j i e.at f.at is js (log_of run e.proc) h)))
+  where
+    earlier : (j i m n : ℕ) → m ≡ i + 1 → n ≡ j + 1 → (log : List Entry) → AreWrongNeighbours log j i → n < m
+    earlier j i m n is js log (x, y, ms, ns, succession, how) = let lt = succession.next.later in omega arith
+breaks_have_turn_faults run (e ∷ f ∷ g ∷ h ∷ []) (i, is, (j, js, (k, ks, (l, ls, (procs, others, (lt, c, d, t, ms, ns, os, qs, moves, never, succession, succession')))))) =
+    (e ∷ f ∷ g ∷ h ∷ [], (i, is, (j, js, (procs, (c, t, ms, ns, moves, succession, (k, ks, (l, ls, (others, (lt, d, os, qs, never, succession')))))))), comes_itself (e ∷ f ∷ g ∷ h ∷ []))
+breaks_have_turn_faults run ps h = absurd h
+
+pub turn_faults_begin : (run : List Log) → EachBegins run (IsTurnFault run)
+turn_faults_begin run = record { each = λ places h. go places h }
+  where
+    go : (places : List Place) → IsTurnFault run places → Begins run places
+    go [] h = absurd h
+    go (e ∷ []) (i, is, (x, (ms, at), moves, none)) = begins_at run e i [] is (slice_get_within (log_of run e.proc) i (Conf x ms) at)
+    go (e ∷ f ∷ rest) (i, is, (j, js, (procs, h))) = let found = succession_of_rest run e.proc i j rest h in
+        begins_at run e i (f ∷ rest) is (succession_within (log_of run e.proc) i j found.0 found.1 found.2 found.3 found.4)
+
+pub no_turn_faults : (run : List Log) → HoldsOfNone (IsTurnFault run) → TakeTurns run
+no_turn_faults run never = record { each = λ p. each p; origin = λ p i j q k l c d t ms ns ks ls lt moves first second. origin p i j q k l c d t ms ns ks ls lt moves first second }
+  where
+    right : (p i j : ℕ) (x y : ConfId) (ms ns : List ℕ) → ChangesNext (log_of run p) i j x y ms ns → IsWrongSuccession x ms y ns → ⊥
+    right p i j x y ms ns succession w = never.none (place p i ∷ place p j ∷ []) (i, refl, (j, refl, (refl, wrong_neighbours (log_of run p) i j x y ms ns succession w)))
+
+    each : (p : ℕ) → TakesTurns (log_of run p)
+    each p = record {
+      regular_first = λ i x change none. elim (regular_or_transitional x) [
+        | inl regular ↦ regular
+        | inr moves ↦ absurd (never.none (place p i ∷ []) (i, refl, (x, change, moves, none)))
+      ];
+      turns = λ i j x y ms ns succession. right_kinds x y ms ns (right p i j x y ms ns succession);
+      from = λ i j c y ms ns moves succession. right_from c y ms ns moves (right p i j (Regular c) y ms ns succession);
+      to = λ i j x c ms ns moves succession. right_to x c ms ns moves (right p i j x (Regular c) ms ns succession);
+      named = λ i j next c least ms ns succession. right_name next c least ms ns (right p i j (Transitional next least) (Regular c) ms ns succession);
+    }
+
+    origin : (p i j q k l : ℕ) (c d : RingId) (t : ConfId) (ms ns ks ls : List ℕ) → p < q → IsTransitional t
+        → ChangesNext (log_of run p) i j (Regular c) t ms ns → ChangesNext (log_of run q) k l (Regular d) t ks ls → c ≡ d
+    origin p i j q k l c d t ms ns ks ls lt moves first second = elim (same_ring_or_not c d) [
+      | inl same ↦ same
+      | inr other ↦ absurd (never.none (place p i ∷ place p j ∷ place q k ∷ place q l ∷ [])
+          (i, refl, (j, refl, (refl, (c, t, ms, ns, moves, first, (k, refl, (l, refl, (refl, (lt, d, ks, ls, other, second)))))))))
+    ]

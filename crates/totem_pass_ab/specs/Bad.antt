@@ -1,15 +1,13 @@
 -- Which entries are bad alone, and which two are bad together (docs/SPECIFICATIONS.md, "Faults").
 use Rattle.std.specs.Prelude.{◌≡◌, ◌≢◌, ◌⊎◌, ℕ, Contains}
 use Rattle.totem_evs.specs.declared.entry.Entry.{Entry}
-use Rattle.totem_evs.specs.declared.entry.Entry.TheVariants.{Conf, Send, Deliver, Fail}
+use Rattle.totem_evs.specs.declared.entry.Entry.TheVariants.{Conf, Send, Deliver}
 use Rattle.totem_evs.specs.Events.{IsTransitional}
 
 -- a change by p to a configuration of which p is not a member
 abbrev pub IsForeignChange : ℕ → ℕ → Entry → Type 0
 IsForeignChange p i (Conf x ms) = Contains ms p → ⊥
-IsForeignChange p i (Send m x service) = ⊥
-IsForeignChange p i (Deliver m x) = ⊥
-IsForeignChange p i (Fail x) = ⊥
+IsForeignChange p i _ = ⊥
 
 -- two changes to one configuration, in one log or with different members
 abbrev pub AreTwoForms : ℕ → ℕ → Entry → ℕ → ℕ → Entry → Type 0
@@ -18,10 +16,8 @@ AreTwoForms p i _ q j _ = ⊥
 
 -- a send in a transitional configuration
 abbrev pub IsSendBetween : ℕ → ℕ → Entry → Type 0
-IsSendBetween p i (Conf x ms) = ⊥
 IsSendBetween p i (Send m x service) = IsTransitional x
-IsSendBetween p i (Deliver m x) = ⊥
-IsSendBetween p i (Fail x) = ⊥
+IsSendBetween p i _ = ⊥
 
 -- two sends of one message, or two deliveries of one message in one log
 abbrev pub AreTwice : ℕ → ℕ → Entry → ℕ → ℕ → Entry → Type 0

@@ -3,17 +3,16 @@ ghost use Rattle.std.specs.Prelude.{◌≡◌, ◌↔◌, ◌<◌, IsTrue, IfOk,
 ghost use Rattle.totem_evs.specs.Answers.{Finds};
 ghost use Rattle.totem_table.specs.Changes.{AreChanges};
 ghost use Rattle.totem_pass_ab.specs.Bad.{IsForeignChange, AreTwoForms};
-ghost use Rattle.totem_pass_ab.specs.Pairs.{IsOneOrTwo};
 ghost use Rattle.totem_table.specs.Registers.{KnowsRun};
 ghost use Rattle.totem_pass_ab.specs.Forms.{KnowsChange};
 
-use crate::change_search::{ChangeRelation, least_change};
 use crate::forms::Forms;
-use crate::pairs::{Standing, Test, bad_from};
+use crate::met::Met;
+use crate::pairs::{Standing, Test, least_bad};
 use std::alloc::{AllocError, Global};
 use totem_evs::{Entry, Places, Run, SpecNo};
-use totem_ids::{ConfId, Place, Proc};
-use totem_table::{Change, Changes, enter_changes, places_of};
+use totem_ids::{ConfId, Place};
+use totem_table::{Change, Changes, enter_changes};
 
 /// Looks for changes by processes that are not members, for two changes of one log to one configuration, and for two
 /// forms of a configuration.
@@ -66,33 +65,16 @@ impl Test for TwoForms<'_> {
     }
 }
 
-impl ChangeRelation for TwoForms<'_> {
-    ghost of = { λ t. t.run.now.logs };
-
-    ghost holds = { λ t. IsOneOrTwo t.run.now.logs IsForeignChange AreTwoForms };
-
-    fn spares(&self) {}
-
-    fn rest(
-        &self,
-        alloc: Global,
-        proc: Proc,
-        log: &[Entry],
-        at: usize,
-        _next: usize,
-        _is_later: bool,
-    ) -> Result<Option<Vec<Place>>, AllocError> {
-        bad_from(self, alloc, proc, log, at)
-    }
-}
-
 /// Finds the least events that break 2.3.
 pub fn find(alloc: Global, run: &Run, changes: &Changes) -> Result<Option<Places>, AllocError>
     requires { AreChanges run.now.logs changes.now.rows.items }
     ensures { IfOk result (Finds run.now.logs SpecNo.Configuration) }
 {
-    let mut forms = Forms::new(alloc);
+    let mut forms = Forms {
+        changes: Met::new(alloc),
+        members: Met::new(alloc),
+    };
     enter_changes(&mut forms, alloc, run, changes)?;
     let two_forms = TwoForms { run, forms };
-    Ok(places_of(least_change(&two_forms, alloc, run, changes)?))
+    least_bad(&two_forms, alloc)
 }

@@ -3,7 +3,7 @@ ghost use Rattle.std.specs.Prelude.{◌≡◌, ◌↔◌, IsTrue};
 ghost use Rattle.totem_pass_ab.specs.Followed.{KnowsRegularChange, AreFollowed};
 
 use crate::kinds::is_transitional;
-use crate::neighbours::succession_between;
+use crate::neighbours::succession_at;
 use std::alloc::{AllocError, Global};
 use std::collections::{BTreeMap, BTreeSet};
 use totem_evs::Entry;
@@ -18,26 +18,12 @@ pub struct Followed {
     pub rings: BTreeMap<Change, RingId>,
 }
 
-impl Followed {
-    ghost use Rattle.std.specs.BTreeMap.{IsEmpty};
-    ghost use Rattle.std.specs.BTreeSet as sorted;
-
-    pub fn new(alloc: Global) -> Followed
-        ensures changes { sorted.IsEmpty result.changes }
-        ensures rings { IsEmpty result.rings }
-    {
-        Followed {
-            changes: BTreeSet::new(alloc),
-            rings: BTreeMap::new(alloc),
-        }
-    }
-}
-
 impl ChangeRegister for Followed {
     ghost sound = { λ s. AreFollowed ⟦<Change as Ord>⟧.cmp s.rings };
 
     ghost knows = { λ s. KnowsRegularChange ⟦<Change as Ord>⟧.cmp s.changes };
 
+    #[tactic(auto, using(crate::proofs::QuickSends::spares_regular_change))]
     fn spares(&self) {}
 
     fn enter_change(
@@ -46,7 +32,7 @@ impl ChangeRegister for Followed {
         proc: Proc,
         log: &[Entry],
         at: usize,
-        next: usize,
+        _next: usize,
     ) -> Result<(), AllocError> {
         let Entry::Conf(conf, _) = &log[at] else {
             return Ok(());
@@ -59,7 +45,7 @@ impl ChangeRegister for Followed {
         if !self.changes.insert(Change { proc, conf })? {
             return Ok(());
         }
-        let Some(succession) = succession_between(log, at, next) else {
+        let Some(succession) = succession_at(log, at) else {
             return Ok(());
         };
         if is_transitional(succession.next) {

@@ -22,25 +22,12 @@ pub struct Forms {
     pub members: Met<ConfId, Members>,
 }
 
-impl Forms {
-    ghost use Rattle.std.specs.BTreeMap.{IsEmpty};
-
-    pub fn new(alloc: Global) -> Forms
-        ensures changes { IsEmpty result.changes.values }
-        ensures members { IsEmpty result.members.values }
-    {
-        Forms {
-            changes: Met::new(alloc),
-            members: Met::new(alloc),
-        }
-    }
-}
-
 impl ChangeRegister for Forms {
     ghost sound = { λ s run. Unit {0} };
 
     ghost knows = { λ s. KnowsChange ⟦<Change as Ord>⟧.cmp ⟦<ConfId as Ord>⟧.cmp s.changes.values s.members.values };
 
+    #[tactic(auto, using(crate::proofs::Forming::spares_change))]
     fn spares(&self) {}
 
     fn enter_change(

@@ -10,7 +10,6 @@
 //! the judge says no, passes A, B and D name what is broken.
 #![tactic(auto)]
 
-mod change_search;
 mod configuration;
 mod ends;
 mod follow;

@@ -1,8 +1,6 @@
 //! A change and the next one of its log.
 ghost use Rattle.std.specs.Prelude.{◌≡◌, ◌<◌, IfSome, IfNone, length};
-ghost use Rattle.totem_evs.specs.Events.{IsChange};
 ghost use Rattle.totem_evs.specs.Changes.{ChangesNext};
-ghost use Rattle.totem_evs.specs.Following.{IsNextOrEnd};
 ghost use Rattle.totem_pass_ab.specs.Turns.{HasNoSuccession};
 
 use totem_evs::{Entry, Members};
@@ -26,22 +24,10 @@ pub fn succession_at(log: &[Entry], at: usize) -> Option<Succession<'_>>
     ensures within { IfSome result (λ succession. succession.next_at < length log.now) }
     ensures none { IfNone result (HasNoSuccession log.now at) }
 {
-    match &log[at] {
-        Entry::Conf(_, _) => succession_between(log, at, walk_to_change(log, at)),
-        _ => None,
-    }
-}
-
-/// Returns the change at this index and the one at `next_at`, or `None` unless both exist. No change may be between them.
-pub fn succession_between(log: &[Entry], at: usize, next_at: usize) -> Option<Succession<'_>>
-    requires { IsNextOrEnd log.now at next_at }
-    ensures found { IfSome result (λ succession. ChangesNext log.now at succession.next_at succession.conf.now succession.next.now succession.members.now succession.next_members.now) }
-    ensures within { IfSome result (λ succession. succession.next_at < length log.now) }
-    ensures none { IfNone result (HasNoSuccession log.now at) }
-{
     let Entry::Conf(conf, members) = &log[at] else {
         return None;
     };
+    let next_at = walk_to_change(log, at);
     if next_at >= log.len() {
         return None;
     }

@@ -2,7 +2,7 @@
 ghost use Rattle.totem_pass_ab.specs.Origins.{KnowsOrigin};
 
 use crate::met::{Met, Same};
-use crate::neighbours::succession_between;
+use crate::neighbours::succession_at;
 use std::alloc::{AllocError, Global};
 use totem_evs::Entry;
 use totem_ids::{ConfId, Proc, RingId};
@@ -21,23 +21,12 @@ pub struct Origins {
     pub rings: Met<ConfId, RingId>,
 }
 
-impl Origins {
-    ghost use Rattle.std.specs.BTreeMap.{IsEmpty};
-
-    pub fn new(alloc: Global) -> Origins
-        ensures { IsEmpty result.rings.values }
-    {
-        Origins {
-            rings: Met::new(alloc),
-        }
-    }
-}
-
 impl ChangeRegister for Origins {
     ghost sound = { λ s run. Unit {0} };
 
     ghost knows = { λ s. KnowsOrigin ⟦<ConfId as Ord>⟧.cmp s.rings.values };
 
+    #[tactic(auto, using(crate::proofs::Originating::spares_origin))]
     fn spares(&self) {}
 
     fn enter_change(
@@ -46,9 +35,9 @@ impl ChangeRegister for Origins {
         _proc: Proc,
         log: &[Entry],
         at: usize,
-        next: usize,
+        _next: usize,
     ) -> Result<(), AllocError> {
-        let Some(succession) = succession_between(log, at, next) else {
+        let Some(succession) = succession_at(log, at) else {
             return Ok(());
         };
         let ConfId::Regular(ring) = succession.conf else {

@@ -76,33 +76,7 @@ impl<T: Test> Relation for Partners<'_, '_, T> {
     }
 }
 
-/// Returns the rest of the least list of one or two bad entries that begins with the entry at index `at` of a process's log,
-/// or `None` if no list does.
-pub fn bad_from<T: Test>(
-    test: &T,
-    alloc: Global,
-    proc: Proc,
-    log: &[Entry],
-    at: usize,
-) -> Result<Option<Vec<Place>>, AllocError>
-    requires log { log.now ≡ log_of (T.of test.now) proc }
-    requires within { at < length log.now }
-    requires few { length log.now ≤ 1000000 }
-    ensures { IfOk result (λ found. MatchOption found (NoneFrom (IsOneOrTwo (T.of test.now) (T.alone test.now) (T.pair test.now)) proc at)
-        (λ rest. IsLeastFrom (IsOneOrTwo (T.of test.now) (T.alone test.now) (T.pair test.now)) proc at rest.items)) }
-{
-    let entry = &log[at];
-    let first = Standing { proc, at, entry };
-    if test.is_alone(&first) {
-        return Ok(Some(Vec::new(alloc)));
-    }
-    if !test.may_pair(&first) {
-        return Ok(None);
-    }
-    let partners = Partners { test, first };
-    least(&partners, alloc, test.run())
-}
-
+/// Looks for entries that are bad alone, or together with another one.
 #[derive(Clone, Copy)]
 struct OneOrTwo<'t, T> {
     test: &'t T,
@@ -120,7 +94,17 @@ impl<T: Test> Relation for OneOrTwo<'_, T> {
         log: &[Entry],
         at: usize,
     ) -> Result<Option<Vec<Place>>, AllocError> {
-        bad_from(self.test, alloc, proc, log, at)
+        let test = self.test;
+        let entry = &log[at];
+        let first = Standing { proc, at, entry };
+        if test.is_alone(&first) {
+            return Ok(Some(Vec::new(alloc)));
+        }
+        if !test.may_pair(&first) {
+            return Ok(None);
+        }
+        let partners = Partners { test, first };
+        least(&partners, alloc, test.run())
     }
 }
 

@@ -26,20 +26,6 @@ pub struct Repeats {
 }
 
 impl Repeats {
-    ghost use Rattle.std.specs.BTreeMap.{IsEmpty};
-
-    pub fn new(alloc: Global, doubtful: Vec<Proc>) -> Repeats
-        ensures sends { IsEmpty result.sends.values }
-        ensures deliveries { IsEmpty result.deliveries.values }
-        ensures doubtful { result.doubtful.items ≡ doubtful.items }
-    {
-        Repeats {
-            sends: Met::new(alloc),
-            deliveries: Met::new(alloc),
-            doubtful,
-        }
-    }
-
     pub fn is_doubtful(&self, proc: Proc) -> bool
         ensures { IsTrue result ↔ Contains self.now.doubtful.items proc }
     {

@@ -16,18 +16,6 @@ pub struct Sendings {
     pub sends: BTreeSet<Sending>,
 }
 
-impl Sendings {
-    ghost use Rattle.std.specs.BTreeSet.{IsEmpty};
-
-    pub fn new(alloc: Global) -> Sendings
-        ensures { IsEmpty result.sends }
-    {
-        Sendings {
-            sends: BTreeSet::new(alloc),
-        }
-    }
-}
-
 impl Register for Sendings {
     ghost sound = { λ s. WereSent ⟦<Sending as Ord>⟧.cmp s.sends };
 

@@ -8,9 +8,9 @@ ghost use Rattle.totem_table.specs.Registers.{KnowsRun};
 ghost use Rattle.totem_pass_ab.specs.Origins.{KnowsOrigin};
 ghost use Rattle.totem_pass_ab.specs.Turns.{IsTurnFault, IsOtherOrigin, IsOfOtherRing};
 
-use crate::change_search::{ChangeRelation, least_change};
 use crate::kinds::is_transitional;
-use crate::neighbours::{succession_at, succession_between};
+use crate::met::Met;
+use crate::neighbours::succession_at;
 use crate::origins::Origins;
 use std::alloc::{AllocError, Global};
 use totem_evs::{Entry, Places, Run, SpecNo};
@@ -18,15 +18,26 @@ use totem_ids::{ConfId, Place, Proc, RingId};
 use totem_run_rules::is_wrong;
 use totem_table::{Changes, Relation, begin_at, enter_changes, least, places_of};
 
-/// Returns whether the change at this index is the first of its log, and to a transitional configuration. `is_later` says
-/// whether there is a change before it.
-fn begins_transitional(log: &[Entry], at: usize, is_later: bool) -> bool
-    requires within { at < length log.now }
-    requires later { IsTrue is_later ↔ ((k : ℕ) × (k < at) × IsChange log.now k) }
+/// Returns whether a change is before this index of a log. Walks back to the last one.
+fn comes_later(log: &[Entry], at: usize) -> bool
+    requires { at < length log.now }
+    ensures { IsTrue result ↔ ((k : ℕ) × (k < at) × IsChange log.now k) }
+{
+    for back in 0..at {
+        if let Entry::Conf(_, _) = &log[at - 1 - back] {
+            return true;
+        }
+    }
+    false
+}
+
+/// Returns whether the change at this index is the first of its log, and to a transitional configuration.
+fn begins_transitional(log: &[Entry], at: usize) -> bool
+    requires { at < length log.now }
     ensures { IsTrue result ↔ BeginsTransitional log.now at }
 {
     match &log[at] {
-        Entry::Conf(conf, _) => is_transitional(conf) && !is_later,
+        Entry::Conf(conf, _) => is_transitional(conf) && !comes_later(log, at),
         _ => false,
     }
 }
@@ -86,12 +97,10 @@ struct Turns<'r> {
     ghost known: { ∥ KnowsRun (KnowsOrigin ⟦<ConfId as Ord>⟧.cmp origins.rings.values) run.now.logs ∥₁ },
 }
 
-impl ChangeRelation for Turns<'_> {
+impl Relation for Turns<'_> {
     ghost of = { λ s. s.run.now.logs };
 
     ghost holds = { λ s. IsTurnFault s.run.now.logs };
-
-    fn spares(&self) {}
 
     fn rest(
         &self,
@@ -99,13 +108,11 @@ impl ChangeRelation for Turns<'_> {
         proc: Proc,
         log: &[Entry],
         at: usize,
-        next: usize,
-        is_later: bool,
     ) -> Result<Option<Vec<Place>>, AllocError> {
-        if begins_transitional(log, at, is_later) {
+        if begins_transitional(log, at) {
             return Ok(Some(Vec::new(alloc)));
         }
-        let Some(succession) = succession_between(log, at, next) else {
+        let Some(succession) = succession_at(log, at) else {
             return Ok(None);
         };
         if is_wrong(
@@ -140,8 +147,10 @@ pub fn find(alloc: Global, run: &Run, changes: &Changes) -> Result<Option<Places
     requires { AreChanges run.now.logs changes.now.rows.items }
     ensures { IfOk result (Finds run.now.logs SpecNo.Turns) }
 {
-    let mut origins = Origins::new(alloc);
+    let mut origins = Origins {
+        rings: Met::new(alloc),
+    };
     enter_changes(&mut origins, alloc, run, changes)?;
     let turns = Turns { run, origins };
-    Ok(places_of(least_change(&turns, alloc, run, changes)?))
+    Ok(places_of(least(&turns, alloc, run)?))
 }

@@ -9,6 +9,7 @@ ghost use Rattle.totem_pass_ab.specs.Repeats.{DeliverOnceBut, KnowsAct};
 
 use crate::keys::Delivery;
 use crate::kinds::is_transitional;
+use crate::met::Met;
 use crate::pairs::{Standing, Test, least_bad};
 use crate::repeats::Repeats;
 use std::alloc::{AllocError, Global};
@@ -99,7 +100,11 @@ pub fn find(alloc: Global, run: &Run) -> Result<Option<Places>, AllocError>
     if doubtful.is_empty() && sends_are_once(alloc, run.logs.as_slice())? {
         return Ok(None);
     }
-    let mut repeats = Repeats::new(alloc, doubtful);
+    let mut repeats = Repeats {
+        sends: Met::new(alloc),
+        deliveries: Met::new(alloc),
+        doubtful,
+    };
     enter_run(&mut repeats, alloc, run)?;
     let twice = Twice { run, repeats };
     least_bad(&twice, alloc)

@@ -15,6 +15,7 @@ use crate::followed::Followed;
 use crate::keys::Sending;
 use crate::sendings::Sendings;
 use std::alloc::{AllocError, Global};
+use std::collections::{BTreeMap, BTreeSet};
 use totem_evs::{Entry, Places, Run, SpecNo};
 use totem_ids::{ConfId, MsgId, Place, Proc, RingId};
 use totem_table::{Change, Changes, Relation, enter_changes, enter_run, least, places_of};
@@ -149,9 +150,14 @@ pub fn find(alloc: Global, run: &Run, changes: &Changes) -> Result<Option<Places
     requires { AreChanges run.now.logs changes.now.rows.items }
     ensures { IfOk result (Finds run.now.logs SpecNo.Unsent) }
 {
-    let mut sendings = Sendings::new(alloc);
+    let mut sendings = Sendings {
+        sends: BTreeSet::new(alloc),
+    };
     enter_run(&mut sendings, alloc, run)?;
-    let mut followed = Followed::new(alloc);
+    let mut followed = Followed {
+        changes: BTreeSet::new(alloc),
+        rings: BTreeMap::new(alloc),
+    };
     enter_changes(&mut followed, alloc, run, changes)?;
     let unsent = Unsent {
         run,

@@ -14,8 +14,8 @@ returns-in-Some-clause-least c =
     let entries = ap (λ (l : LogRecord). l.entries) c.log.view_is in
     let procs = ap (λ (l : LogRecord). l.proc) c.log.view_is in
     rw procs
-    (least_at run _ _ _ _ (rw runs at c.as_slice-log-items.ensures.run.rising) (rw (c.as_slice-log-items.ensures.value ∙ runs) at at) (rw (c.as_slice.ensures.value ∙ entries) at c.in-Some.ensures.found)
-    (rw (c.as_slice-log-items.ensures.value ∙ runs) at c.loop-log.invariant) (rw (c.as_slice.ensures.value ∙ entries) at c.in-Some.ensures.least) refl)
+    (least_at run _ _ _ (rw runs at c.as_slice-log-items.ensures.run.rising) (rw (c.as_slice-log-items.ensures.value ∙ runs) at at) (rw (c.as_slice.ensures.value ∙ entries) at c.in-Some.ensures.found)
+    (rw (c.as_slice-log-items.ensures.value ∙ runs) at c.loop-log.invariant) (rw (c.as_slice.ensures.value ∙ entries) at c.in-Some.ensures.least))
 
 pub loop-log-preserved : goal.loop-log-preserved
 loop-log-preserved c =

@@ -1,5 +1,5 @@
 use Rattle.std.proofs.Common.{refl}
-use Rattle.totem_pass_ab.proofs.Sparing.{none_known, unless}
+use Rattle.totem_pass_ab.proofs.Starting.{none_known, unless}
 use Rattle.totem_pass_ab.proofs.Forming.{only_form}
 use Rattle.totem_pass_ab.proofs.configuration.TwoFormsTest.may_pair.Goals as goal
 

@@ -1,4 +1,4 @@
-use Rattle.totem_pass_ab.proofs.Sparing.{none_known, unless}
+use Rattle.totem_pass_ab.proofs.Starting.{none_known, unless}
 use Rattle.totem_pass_ab.proofs.Repeating.{only_send, only_delivery, once_delivery}
 use Rattle.totem_pass_ab.proofs.twice.TwiceTest.may_pair.Goals as goal
 

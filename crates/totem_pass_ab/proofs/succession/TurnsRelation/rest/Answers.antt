@@ -1,9 +1,8 @@
 use Rattle.std.proofs.Common.{refl}
-use Rattle.totem_pass_ab.proofs.Starting.{none_of_all, least_of_all}
 use Rattle.totem_pass_ab.proofs.Turning.{begins_here, none_without_succession, wrong_here, none_after_right, some_after_right, others_begin, begins_not, others_of_ring}
-use Rattle.totem_pass_ab.proofs.Sparing.{none_known}
+use Rattle.totem_pass_ab.proofs.Starting.{none_of_all, least_of_all, none_known}
 use Rattle.totem_pass_ab.proofs.Originating.{one_origin}
-use Rattle.totem_pass_ab.proofs.succession.TurnsChangeRelation.rest.Goals as goal
+use Rattle.totem_pass_ab.proofs.succession.TurnsRelation.rest.Goals as goal
 
 pub returns-then-begins_transitional : goal.returns-then-begins_transitional
 returns-then-begins_transitional c = rw c.new.ensures.items (begins_here _ _ _ (rw c.requires.log at (c.if-begins_transitional.ensures.0 refl)))
