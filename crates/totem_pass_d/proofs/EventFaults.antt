@@ -1,35 +1,61 @@
--- What breaks 3, 7.1 and 7.2 in one regular configuration, event by event.
-use Rattle.std.proofs.Common.{◌≡◌, ℕ, ◌<◌, ◌≤◌, ◌⊎◌, inl, inr, List, length, get_or, slice_get, Some, Bool, true, false, not, IsTrue, ◌↔◌, refl, sym, arith}
+-- What breaks 3, 7.1 and 7.2 in one regular configuration, event by event, and which processes the end of their stay excuses.
+use Rattle.std.proofs.Common.{◌≡◌, ◌⊎◌, inl, inr, List, length, Bool, true, false, refl, arith, ℕ, ◌<◌, ◌≤◌, get_or, slice_get, Some, not, IsTrue, ◌↔◌, sym}
+use Rattle.totem_ids.specs.declared.ring.RingId.{RingId}
+use Rattle.totem_evs.specs.declared.log.Log.{Log}
+use Rattle.totem_evs.specs.Events.{IsQuiet, log_of, ChangesTo, Delivers}
+use Rattle.totem_evs.specs.Following.{FailedIn, StaysIn, OpenIn, Com, DeliversIn, HasDelivered, DeliversOrEnds}
+use Rattle.totem_traffic_rules.proofs.Rowing.{before_or_at}
+use Rattle.totem_pass_d.specs.declared.stay.Stay.{Stay}
+use Rattle.totem_pass_d.specs.Stays.{IsExcused, IsStayOf}
 use Rattle.std.specs.Prelude.{All}
 use Rattle.std.specs.Bool.{MatchBool, OnTrue, OnFalse}
 use Rattle.std.specs.List.{AllWithin, HoldsAt}
 use Rattle.std.proofs.lemmas.Bool.{cases_eq}
 use Rattle.std.proofs.lemmas.Grind.{get_or_default_zero}
 use Rattle.std.proofs.lemmas.List.Elements.{All-from_all_within, All-contains}
-use Rattle.totem_ids.specs.declared.ring.RingId.{RingId}
 use Rattle.totem_ids.specs.declared.conf.ConfId.{ConfId}
 use Rattle.totem_ids.specs.declared.conf.ConfId.TheVariants.{Regular}
 use Rattle.totem_ids.specs.declared.message.MsgId.{MsgId}
 use Rattle.totem_ids.specs.declared.message.Service.{Service}
 use Rattle.totem_evs.specs.declared.entry.Entry.{Entry}
 use Rattle.totem_evs.specs.declared.entry.Entry.TheVariants.{Send, Deliver, Fail}
-use Rattle.totem_evs.specs.declared.log.Log.{Log}
-use Rattle.totem_evs.specs.Events.{ChangesTo, Delivers, log_of}
 use Rattle.totem_evs.specs.Changes.{Names}
-use Rattle.totem_evs.specs.Following.{Com, DeliversIn, HasDelivered, DeliversOrEnds}
 use Rattle.totem_evs.specs.AgreementFaults.{IsNotOwned, IsNotReached, IsNotInstalled}
 use Rattle.totem_evs.specs.declared.spec.SpecNo.TheVariants as spec
 use Rattle.totem_evs.specs.Answers.{MeetsPasses}
-use Rattle.totem_traffic_rules.proofs.Rowing.{before_or_at}
-use Rattle.totem_pass_d.specs.declared.stay.Stay.{Stay}
-use Rattle.totem_pass_d.specs.Stays.{IsExcused, IsStayOf}
 use Rattle.totem_pass_d.specs.Acts.{HasCome, NeverComes, DeliversNot}
 use Rattle.totem_pass_d.specs.Search.{IsInside, IsBrokenAlone}
 use Rattle.totem_pass_d.specs.Reached.{IsSafeIn, AreMembersAt, HoldsNotOfAll}
 use Rattle.totem_pass_d.proofs.Deciding.{both_or_not, changes_or_not, has_delivered_or_not}
-use Rattle.totem_pass_d.proofs.Excusing.{excused, not_excused}
 use Rattle.totem_pass_d.proofs.Facts.{Facts, StayFacts, at_turn_no_name}
 use Rattle.totem_pass_d.proofs.Reaching.{is_among_members, is_member, safe_in}
+
+pub excused : (run : List Log) (c : RingId) (stay : Stay) → IsStayOf run c stay → IsExcused stay → FailedIn (log_of run stay.proc) c ⊎ OpenIn run stay.proc c
+excused run c stay is e = go (rw is.log at (is.is.ends e.0))
+  where
+    loud : IsQuiet run stay.proc → ⊥
+    loud quiet = let told = is.quiet.1 quiet in let other = e.1 in cc
+
+    go : FailedIn (log_of run stay.proc) c ⊎ StaysIn (log_of run stay.proc) c → FailedIn (log_of run stay.proc) c ⊎ OpenIn run stay.proc c
+    go (inl failed) = inl failed
+    go (inr stays) = inr (loud, stays)
+
+pub not_excused : (run : List Log) (c : RingId) (stay : Stay) → IsStayOf run c stay → (IsExcused stay → ⊥) → FailedIn (log_of run stay.proc) c ⊎ OpenIn run stay.proc c → ⊥
+not_excused run c stay is never ends = elim (before_or_at stay.end (length stay.log.now) (omega (arith, is.is.within))) [
+  | inl lt ↦ is.is.goes_on lt (rw is.log (here ends))
+  | inr last ↦ at_end last stay.quiet refl ends
+]
+  where
+    here : FailedIn (log_of run stay.proc) c ⊎ OpenIn run stay.proc c → FailedIn (log_of run stay.proc) c ⊎ StaysIn (log_of run stay.proc) c
+    here (inl failed) = inl failed
+    here (inr (loud, stays)) = inr stays
+
+    at_end : stay.end ≡ length stay.log.now → (b : Bool) → stay.quiet ≡ b → FailedIn (log_of run stay.proc) c ⊎ OpenIn run stay.proc c → ⊥
+    at_end last false is_not h = never (last, is_not)
+    at_end last true told (inl (i, d, fails, inside)) = is.unfailed told i d (rw is.log fails)
+    at_end last true told (inr (loud, stays)) = loud (is.quiet.0 told)
+
+-- ---- the events
 
 -- a process that has changed to c, is not excused and has not delivered m has missed it
 pub missed : (run : List Log) (c : RingId) (stay : Stay) (m : MsgId) → IsStayOf run c stay → (IsExcused stay → ⊥) → DeliversNot (log_of run stay.proc) c m → DeliversOrEnds run stay.proc c m → ⊥

@@ -26,9 +26,6 @@ use Rattle.totem_pass_d.proofs.Searching.{stay_of}
 pub record StayFacts (run : List Log) (c : RingId) (stay : Stay) : Type 0 where
   pub of : IsStayOf run c stay
   pub log : stay.log.now ≡ log_of run stay.proc
-  pub before : stay.from < stay.turn
-  pub until : stay.turn ≤ stay.end
-  pub within : stay.end ≤ length (log_of run stay.proc)
   pub few : stay.end ≤ 1000000
   pub size : length (log_of run stay.proc) ≤ 1000000
   pub is : IsStay (log_of run stay.proc) c stay.from stay.turn stay.end
@@ -94,9 +91,6 @@ stay_facts run c stays stay meets are among =
     record {
       of = of;
       log = of.log;
-      before = is.before;
-      until = is.until;
-      within = is.within;
       few = (let few = of.few in let within = of.is.within in omega arith);
       size = rw of.log at of.few;
       is = is;

@@ -1,8 +1,5 @@
 pub mod Deciding
-pub mod Excusing
-pub mod Building
 pub mod Reaching
-pub mod OneEvent
 pub mod EventFaults
 pub mod Indexing
 pub mod Searching
@@ -13,7 +10,5 @@ pub mod GapFaults
 pub mod AtomicityFaults
 pub mod Coming
 pub mod Listing
-pub mod Adding
 pub mod WhatIsPending
-pub mod Suspecting
 pub mod Sending

@@ -1,5 +1,5 @@
 -- From what is shown of a configuration to the findings of its job, and from these to the faults of the pass.
-use Rattle.std.proofs.Common.{◌≡◌, ◌<◌, ◌≤◌, ◌+◌, ℕ, inl, inr, List, [], ◌∷◌, ◌++◌, length, take, Option, Some, None, Result, Ok, Err, IfOk, refl, ap, arith}
+use Rattle.std.proofs.Common.{◌≡◌, ◌<◌, ◌≤◌, ◌+◌, ℕ, inl, inr, List, [], ◌∷◌, ◌++◌, length, take, Option, Some, None, Result, Ok, Err, IfOk, refl, sym, append-nil, arith}
 use Rattle.std.proofs.lemmas.List.{take_more, take_all}
 use Rattle.std.proofs.lemmas.Option.{slice_get_cases}
 use Rattle.totem_ids.specs.declared.ring.RingId.{RingId}
@@ -55,10 +55,6 @@ found_more run cs c old new findings h grows before = record {
   installed = rw grows.installed (one_more run spec.Installed cs c old.installed.items findings.installed before.installed h.installed);
 }
 
-nil_behind : (fs : List Fault) → fs ≡ fs ++ []
-nil_behind [] = refl
-nil_behind (f ∷ fs) = ap (λ (gs : List Fault). f ∷ gs) (nil_behind fs)
-
 each_found : (run : List Log) (rings : List RingId) (found : Found) → AreFound run rings found → ListsEach run rings specs_d (all_found found)
 each_found run rings found h = (
   found.own.items,
@@ -75,7 +71,7 @@ each_found run rings found h = (
       found.gap.items ++ (found.safety.items ++ found.installed.items),
       refl,
       h.causality,
-      (found.gap.items, found.safety.items ++ found.installed.items, refl, h.gap, (found.safety.items, found.installed.items, refl, h.safety, (found.installed.items, [], nil_behind found.installed.items, h.installed, refl))),
+      (found.gap.items, found.safety.items ++ found.installed.items, refl, h.gap, (found.safety.items, found.installed.items, refl, h.safety, (found.installed.items, [], sym (append-nil found.installed.items), h.installed, refl))),
     ),
   ),
 )

@@ -1,11 +1,14 @@
 -- What is pending: message by message, stay by stay and ring by ring.
-use Rattle.std.proofs.Common.{◌≡◌, ◌⊎◌, ◌↔◌, ℕ, ◌≤◌, inl, inr, List, [], ◌∷◌, ◌++◌, length, Option, Some, None, Bool, true, false, not, IsTrue, refl, sym, ◌∙◌, ap, arith}
+use Rattle.std.proofs.Common.{◌≡◌, ◌⊎◌, ◌↔◌, ℕ, ◌+◌, ◌<◌, inl, inr, List, [], ◌∷◌, ◌++◌, slice_get, Some, subst, arith, ◌≤◌, length, Option, None, Bool, true, false, not, IsTrue, refl, sym, ◌∙◌, ap}
 use Rattle.std.specs.Prelude.{Contains}
+use Rattle.std.proofs.lemmas.List.Elements.{Contains-push, Contains-append_left, Contains-push_cases}
+use Rattle.totem_evs.specs.declared.pending.Pending.{Pending}
+use Rattle.totem_traffic_rules.proofs.Rowing.{before_or_at}
+use Rattle.totem_pass_d.specs.Pendings.{Adds, IsPendingIn, IsPendingFor}
 use Rattle.std.specs.Bool.{OnTrue, OnFalse}
 use Rattle.std.specs.Option.{IsSome}
 use Rattle.std.specs.BTreeMap as tree
-use Rattle.std.proofs.lemmas.Option.{slice_get_within, slice_get_read}
-use Rattle.std.proofs.lemmas.List.Elements.{Contains-push_cases, Contains-append_left, Contains-append_right, Contains-append_cases}
+use Rattle.std.proofs.lemmas.Option.{slice_get_within, slice_get_read, get_or_from_slice_get}
 use Rattle.std.proofs.lemmas.Map.Views.{btree_map_contains_key_iff}
 use Rattle.totem_ids.specs.declared.ring.RingId.{RingId}
 use Rattle.totem_ids.specs.declared.conf.ConfId.TheVariants.{Regular}
@@ -15,7 +18,6 @@ use Rattle.totem_ids.specs.contracts.message.MsgIdOrd.TheImpl.Laws.{total-law}
 use Rattle.totem_ids.proofs.Exact.{exact_message}
 use Rattle.totem_evs.specs.declared.entry.Entry.{Entry}
 use Rattle.totem_evs.specs.declared.log.Log.{Log}
-use Rattle.totem_evs.specs.declared.pending.Pending.{Pending}
 use Rattle.totem_evs.specs.Events.{log_of, ChangesTo}
 use Rattle.totem_evs.specs.Following.{HasDelivered, StaysIn, OpenIn, FailedIn}
 use Rattle.totem_evs.specs.Unsettled.{IsPending}
@@ -27,9 +29,42 @@ use Rattle.totem_pass_d.specs.declared.stays.Sending.{Sending}
 use Rattle.totem_pass_d.specs.declared.stays.Stays.{Stays}
 use Rattle.totem_pass_d.specs.Stays.{IsExcused, IsStayOf, HasStay, AreStays}
 use Rattle.totem_pass_d.specs.KnownStays.{AreKnown}
-use Rattle.totem_pass_d.specs.Pendings.{Adds, IsPendingIn, IsPendingFor}
-use Rattle.totem_pass_d.proofs.Excusing.{excused, not_excused}
-use Rattle.totem_pass_d.proofs.Adding.{AtSome, adds_alike, Leaves, leaves_nothing, leaves_same, leaves_pushed}
+use Rattle.totem_pass_d.proofs.EventFaults.{excused, not_excused}
+
+-- the property holds at one of the first n elements
+pub record AtSome {X : Type 0} (P : X → Pending → Type 0) (xs : List X) (n : ℕ) (x : Pending) : Type 0 where
+  pub at : ℕ
+  pub item : X
+  pub below : at < n
+  pub stands : slice_get xs at ≡ Some item
+  pub holds : P item x
+
+pub adds_alike : (P Q : Pending → Type 0) (s t : List Pending) → ((x : Pending) → P x → Q x) → ((x : Pending) → Q x → P x) → Adds P s t → Adds Q s t
+adds_alike P Q s t to from h = record {
+  each = λ x. (λ has. elim ((h.each x).0 has) [ inl old ↦ inl old | inr new ↦ inr (to x new) ], λ k. (h.each x).1 (elim k [ inl old ↦ inl old | inr new ↦ inr (from x new) ]));
+}
+
+pub some_more : {X : Type 0} (P : X → Pending → Type 0) (xs : List X) (n : ℕ) (item : X) (s t u : List Pending) → slice_get xs n ≡ Some item → Adds (P item) t u → Adds (AtSome P xs n) s t → Adds (AtSome P xs (n + 1)) s u
+some_more P xs n item s t u at second first = record { each = λ x. (λ has. to x has, λ given. from x given) }
+  where
+    to : (x : Pending) → Contains u x → Contains s x ⊎ AtSome P xs (n + 1) x
+    to x has = elim ((second.each x).0 has) [
+      | inl old ↦ elim ((first.each x).0 old) [
+        | inl oldest ↦ inl oldest
+        | inr b ↦ inr (record { at = b.at; item = b.item; below = (let lt = b.below in omega arith); stands = b.stands; holds = b.holds })
+      ]
+      | inr new ↦ inr (record { at = n; item = item; below = omega arith; stands = at; holds = new })
+    ]
+
+    here : (x : Pending) (b : AtSome P xs (n + 1) x) → b.at ≡ n → P item x
+    here x b same = (let there : slice_get xs n ≡ Some b.item = rw same at b.stands in let one : b.item ≡ item = cc in rw one at b.holds)
+
+    from : (x : Pending) → Contains s x ⊎ AtSome P xs (n + 1) x → Contains u x
+    from x (inl old) = (second.each x).1 (inl ((first.each x).1 (inl old)))
+    from x (inr b) = elim (before_or_at b.at n b.below) [
+      | inl under ↦ (second.each x).1 (inl ((first.each x).1 (inr (record { at = b.at; item = b.item; below = under; stands = b.stands; holds = b.holds }))))
+      | inr same ↦ (second.each x).1 (inr (here x b same))
+    ]
 
 -- ---- whether a process is open
 
@@ -46,54 +81,37 @@ not_excused_open run c stay b is is_false decides = (λ t. absurd cc, λ h. absu
 
 -- ---- message by message
 
--- x is one of these messages, which p does not deliver in c
-pub record Misses (run : List Log) (c : RingId) (p : ℕ) (ms : List MsgId) (x : Pending) : Type 0 where
-  pub listed : Contains ms x.msg
-  pub missing : HasDelivered (log_of run p) c x.msg → ⊥
+-- x is this message, which p does not deliver in c
+pub record IsMissed (run : List Log) (c : RingId) (p : ℕ) (m : MsgId) (x : Pending) : Type 0 where
   pub proc : x.proc ≡ p
+  pub msg : x.msg ≡ m
+  pub missing : HasDelivered (log_of run p) c m → ⊥
 
-first_or_later : (m n : MsgId) (ms : List MsgId) → Contains (m ∷ ms) n → (m ≡ n) ⊎ Contains ms n
-first_or_later m n ms has = elim (Contains-append_cases (m ∷ []) ms n has) [
-  | inl first ↦ elim (Contains-push_cases [] m n first) [ inl (k, lt, is) ↦ absurd (omega arith) | inr same ↦ inl same ]
-  | inr later ↦ inr later
-]
+pub not_missed : (run : List Log) (c : RingId) (p : ℕ) (m : MsgId) (list : List Pending) → HasDelivered (log_of run p) c m → Adds (IsMissed run c p m) list list
+not_missed run c p m list has = record { each = λ x. (λ here. inl here, λ h. elim h [ inl here ↦ here | inr missed ↦ absurd (missed.missing has) ]) }
 
-wider : (run : List Log) (c : RingId) (p : ℕ) (m : MsgId) (ms : List MsgId) (x : Pending) → Misses run c p ms x → Misses run c p (m ∷ ms) x
-wider run c p m ms x h = record { listed = Contains-append_right (m ∷ []) ms x.msg h.listed; missing = h.missing; proc = h.proc }
-
--- the next message is delivered
-pub leaves_delivered : (P : Pending → Type 0) (run : List Log) (c : RingId) (p : ℕ) (m : MsgId) (ms rest : List MsgId) (old now : List Pending) → rest ≡ m ∷ ms → HasDelivered (log_of run p) c m → Leaves P (Misses run c p rest) old now → Leaves P (Misses run c p ms) old now
-leaves_delivered P run c p m ms rest old now is has h = leaves_same P (Misses run c p (m ∷ ms)) (Misses run c p ms) old now later (wider run c p m ms) (rw is at h)
+pub one_missed : (run : List Log) (c : RingId) (p : ℕ) (m : MsgId) (list : List Pending) (k : Pending) → IsMissed run c p m k → Adds (IsMissed run c p m) list (list ++ k ∷ [])
+one_missed run c p m list k missed = record {
+  each = λ x. (
+    λ has. elim (Contains-push_cases list k x has) [ inl old ↦ inl old | inr same ↦ inr (subst (IsMissed run c p m) same missed) ],
+    λ h. elim h [
+      | inl old ↦ Contains-append_left list (k ∷ []) x old
+      | inr other ↦ subst (λ (y : Pending). Contains (list ++ k ∷ []) y) (same_pending x other) (Contains-push list k)
+    ],
+  );
+}
   where
-    later : (x : Pending) → Misses run c p (m ∷ ms) x → Misses run c p ms x
-    later x h = elim (first_or_later m x.msg ms h.listed) [
-      | inl same ↦ absurd (h.missing (rw same at has))
-      | inr listed ↦ record { listed = listed; missing = h.missing; proc = h.proc }
-    ]
-
--- the next message is missing
-pub leaves_missing : (P : Pending → Type 0) (run : List Log) (c : RingId) (p : ℕ) (m : MsgId) (ms rest : List MsgId) (old now : List Pending) (k : Pending) → rest ≡ m ∷ ms → k.proc ≡ p → k.msg ≡ m → (HasDelivered (log_of run p) c m → ⊥)
-    → Leaves P (Misses run c p rest) old now → Leaves P (Misses run c p ms) old (now ++ k ∷ [])
-leaves_missing P run c p m ms rest old now k is proc msg missing h = leaves_pushed P (Misses run c p (m ∷ ms)) (Misses run c p ms) k old now
-    (record { listed = rw msg (Contains-append_left (m ∷ []) ms m (0, omega arith, refl)); missing = rw msg missing; proc = proc }) either (wider run c p m ms) (rw is at h)
-  where
-    same_pending : (x : Pending) → x.proc ≡ p → m ≡ x.msg → k ≡ x
-    same_pending x procs msgs =
+    same_pending : (x : Pending) → IsMissed run c p m x → k ≡ x
+    same_pending x other =
         let of : ℕ → MsgId → Pending = λ q n. record { proc = q; msg = n } in
-        ap (λ (q : ℕ). of q k.msg) (proc ∙ sym procs) ∙ ap (λ (n : MsgId). of x.proc n) (msg ∙ msgs)
+        ap (λ (q : ℕ). of q k.msg) (missed.proc ∙ sym other.proc) ∙ ap (λ (n : MsgId). of x.proc n) (missed.msg ∙ sym other.msg)
 
-    either : (x : Pending) → Misses run c p (m ∷ ms) x → (k ≡ x) ⊎ Misses run c p ms x
-    either x h = elim (first_or_later m x.msg ms h.listed) [
-      | inl same ↦ inl (same_pending x h.proc same)
-      | inr listed ↦ inr (record { listed = listed; missing = h.missing; proc = h.proc })
-    ]
-
--- no message is left: what an open process misses is pending, and the converse
-pub all_missing : (stays : Stays) (p : ℕ) (rest : List MsgId) (old now : List Pending) → AreKnown stays → OpenIn stays.run.now.logs p stays.ring → rest ≡ []
-    → Leaves (Misses stays.run.now.logs stays.ring p (tree.keys stays.sends)) (Misses stays.run.now.logs stays.ring p rest) old now → Adds (IsPendingFor stays.run.now.logs stays.ring p) old now
-all_missing stays p rest old now known still_open none h =
-    adds_alike (Misses run c p (tree.keys stays.sends)) (IsPendingFor run c p) old now (λ x m. to x m (lookup x m)) (λ x m. from x m (tree.get message.cmp-value.it stays.sends x.msg) refl)
-    (leaves_nothing (Misses run c p (tree.keys stays.sends)) (Misses run c p []) old now (λ x m. nothing m.listed) (rw none at h))
+-- of the messages sent in c, those that an open process misses are pending, and the converse
+pub all_missing : (stays : Stays) (p n : ℕ) (old now : List Pending) → AreKnown stays → OpenIn stays.run.now.logs p stays.ring → length (tree.keys stays.sends) ≤ n
+    → Adds (AtSome (IsMissed stays.run.now.logs stays.ring p) (tree.keys stays.sends) n) old now → Adds (IsPendingFor stays.run.now.logs stays.ring p) old now
+all_missing stays p n old now known still_open end h =
+    adds_alike (AtSome (IsMissed run c p) sent n) (IsPendingFor run c p) old now (λ x b. to x b (lookup b.item (b.at, slice_get_within sent b.at b.item b.stands, get_or_from_slice_get sent b.at b.item b.item b.stands)))
+    (λ x m. from x m (tree.get message.cmp-value.it stays.sends x.msg) refl) h
   where
     run : List Log
     run = stays.run.now.logs
@@ -101,22 +119,36 @@ all_missing stays p rest old now known still_open none h =
     c : RingId
     c = stays.ring
 
-    nothing : {m : MsgId} → Contains {X = MsgId} [] m → ⊥
-    nothing (k, lt, is) = omega arith
+    sent : List MsgId
+    sent = tree.keys stays.sends
 
-    lookup : (x : Pending) → Misses run c p (tree.keys stays.sends) x → (s : Sending) × (tree.get message.cmp-value.it stays.sends x.msg ≡ Some s)
-    lookup x m = go (tree.get message.cmp-value.it stays.sends x.msg) refl ((btree_map_contains_key_iff total-law exact_message stays.sends x.msg).1 m.listed)
+    lookup : (m : MsgId) → Contains sent m → (s : Sending) × (tree.get message.cmp-value.it stays.sends m ≡ Some s)
+    lookup m has = go (tree.get message.cmp-value.it stays.sends m) refl ((btree_map_contains_key_iff total-law exact_message stays.sends m).1 has)
       where
-        go : (o : Option Sending) → tree.get message.cmp-value.it stays.sends x.msg ≡ o → IsSome (tree.get message.cmp-value.it stays.sends x.msg) → (s : Sending) × (tree.get message.cmp-value.it stays.sends x.msg ≡ Some s)
+        go : (o : Option Sending) → tree.get message.cmp-value.it stays.sends m ≡ o → IsSome (tree.get message.cmp-value.it stays.sends m) → (s : Sending) × (tree.get message.cmp-value.it stays.sends m ≡ Some s)
         go (Some s) is some = (s, is)
         go None is some = absurd (let h = rw is at some in cc)
 
-    to : (x : Pending) → Misses run c p (tree.keys stays.sends) x → (s : Sending) × (tree.get message.cmp-value.it stays.sends x.msg ≡ Some s) → IsPendingFor run c p x
-    to x m (s, is) = record { is = record { sent = (s.proc, s.at, (s.service, (known.sent.found x.msg s is).sends)); still_open = rw m.proc still_open; missing = rw m.proc m.missing }; proc = m.proc }
+    to : (x : Pending) (b : AtSome (IsMissed run c p) sent n x) → (s : Sending) × (tree.get message.cmp-value.it stays.sends b.item ≡ Some s) → IsPendingFor run c p x
+    to x b (s, is) =
+        let missed = b.holds in
+        record {
+          is = record { sent = (s.proc, s.at, (s.service, rw missed.msg (known.sent.found b.item s is).sends)); still_open = rw missed.proc still_open; missing = rw (missed.proc, missed.msg) missed.missing };
+          proc = missed.proc;
+        }
 
-    from : (x : Pending) → IsPendingFor run c p x → (o : Option Sending) → tree.get message.cmp-value.it stays.sends x.msg ≡ o → Misses run c p (tree.keys stays.sends) x
+    from : (x : Pending) → IsPendingFor run c p x → (o : Option Sending) → tree.get message.cmp-value.it stays.sends x.msg ≡ o → AtSome (IsMissed run c p) sent n x
     from x m None is = absurd ((known.sent.none x.msg is).never m.is.sent)
-    from x m (Some s) is = record { listed = (btree_map_contains_key_iff total-law exact_message stays.sends x.msg).0 (rw is refl); missing = rw m.proc at m.is.missing; proc = m.proc }
+    from x m (Some s) is = listed ((btree_map_contains_key_iff total-law exact_message stays.sends x.msg).0 (rw is refl))
+      where
+        listed : Contains sent x.msg → AtSome (IsMissed run c p) sent n x
+        listed (k, lt, here) = record {
+          at = k;
+          item = x.msg;
+          below = omega arith;
+          stands = slice_get_read sent _ k x.msg refl lt (sym here);
+          holds = record { proc = m.proc; msg = refl; missing = rw m.proc at m.is.missing };
+        }
 
 -- ---- stay by stay
 

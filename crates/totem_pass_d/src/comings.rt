@@ -22,6 +22,7 @@ impl ChangeRegister for Comings {
 
     ghost knows = { λ s. KnowsComing ⟦<RingId as Ord>⟧.cmp ⟦<Change as Ord>⟧.cmp s.rings s.indices };
 
+    #[tactic(auto, using(crate::proofs::Coming::spares_coming))]
     fn spares(&self) {}
 
     fn enter_change(
@@ -48,29 +49,21 @@ impl ChangeRegister for Comings {
 
 impl Comings {
     ghost use Rattle.std.specs.Prelude.{◌≡◌, ◌+◌, ◌<◌, ◌≤◌, IfOk, List, length};
-    ghost use Rattle.std.specs.BTreeMap as tree;
     ghost use Rattle.std.specs.BTreeSet as sorted;
     ghost use Rattle.totem_evs.specs.Answers.{AreRings, MeetsPasses};
     ghost use Rattle.totem_table.specs.Changes.{AreChanges};
     ghost use Rattle.totem_pass_d.specs.Stays.{AreStays};
     ghost use Rattle.totem_pass_d.specs.Comings.{HoldsComings};
 
-    fn new(alloc: Global) -> Comings
-        ensures rings { sorted.IsEmpty result.rings }
-        ensures indices { tree.IsEmpty result.indices }
-    {
-        Comings {
-            rings: BTreeSet::new(alloc),
-            indices: BTreeMap::new(alloc),
-        }
-    }
-
     /// Collects the changes of a run to regular configurations, in n log n steps for n changes.
     pub fn build(alloc: Global, run: &Run, changes: &Changes) -> Result<Comings, AllocError>
         requires { AreChanges run.now.logs changes.now.rows.items }
         ensures { IfOk result (λ comings. HoldsComings ⟦<RingId as Ord>⟧.cmp ⟦<Change as Ord>⟧.cmp comings.rings comings.indices run.now.logs) }
     {
-        let mut comings = Comings::new(alloc);
+        let mut comings = Comings {
+            rings: BTreeSet::new(alloc),
+            indices: BTreeMap::new(alloc),
+        };
         enter_changes(&mut comings, alloc, run, changes)?;
         Ok(comings)
     }

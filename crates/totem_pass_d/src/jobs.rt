@@ -93,14 +93,8 @@ impl<'r> Jobs<'r> {
         requires { AreJobs self.now.run.now.logs self.now }
         ensures { IfSome result (λ traffic. IsTrafficOf self.now.run.now.logs ring.now traffic.now) }
     {
-        if index >= self.slots.len() {
-            return None;
-        }
-        let slot = self.slots[index];
-        if slot >= self.observed.len() {
-            return None;
-        }
-        let one = &self.observed[slot];
+        let slot = *self.slots.get(index)?;
+        let one = self.observed.get(slot)?;
         if !is_of(one, ring) {
             return None;
         }
@@ -108,6 +102,7 @@ impl<'r> Jobs<'r> {
     }
 
     /// Applies the rules to what was observed of the configuration of this ring, for the job at this index.
+    #[tactic(auto, using(crate::proofs::Listing::nothing_met))]
     fn shown(&self, index: usize, ring: &RingId) -> Shown
         requires { AreJobs self.now.run.now.logs self.now }
         ensures { AreMet self.now.run.now.logs ring.now result }

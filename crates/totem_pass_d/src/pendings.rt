@@ -1,5 +1,6 @@
 //! What a run leaves open (docs/SPECIFICATIONS.md, "Pending and waiting").
-ghost use Rattle.std.specs.Prelude.{◌↔◌, IsTrue, IfOk, OnOk};
+ghost use Rattle.std.specs.Prelude.{◌≡◌, ◌↔◌, IsTrue, IfOk, OnOk};
+ghost use Rattle.std.specs.BTreeMap as tree;
 ghost use Rattle.totem_evs.specs.Answers.{MeetsPasses};
 ghost use Rattle.totem_evs.specs.Following.{OpenIn};
 ghost use Rattle.totem_evs.specs.Unsettled.{ArePending, AreWaiting};
@@ -13,7 +14,7 @@ use crate::stay::Stay;
 use crate::stays::Stays;
 use std::alloc::{AllocError, Global};
 use totem_evs::{Pending, Run, Waiting};
-use totem_ids::RingId;
+use totem_ids::{MsgId, RingId};
 use totem_run_rules::{has_failed, in_order};
 
 /// Returns whether the process of this stay is open in it.
@@ -25,17 +26,34 @@ fn is_open(stays: &Stays, stay: &Stay) -> bool
     stay.is_excused() && !has_failed(stay.log)
 }
 
-/// Adds what is pending for the process of this stay.
-fn add_missing(list: &mut Vec<Pending>, stays: &Stays, stay: &Stay) -> Result<(), AllocError>
+/// Returns the messages that are sent in one configuration.
+fn sent_in(alloc: Global, stays: &Stays) -> Result<Vec<MsgId>, AllocError>
+    ensures { IfOk result (λ sent. sent.items ≡ tree.keys stays.now.sends) }
+{
+    let mut sent = Vec::new(alloc);
+    for message in stays.sends.keys() {
+        sent.push(*message)?;
+    }
+    Ok(sent)
+}
+
+/// Adds what is pending for the process of this stay, of the messages that are sent in the configuration.
+fn add_missing(
+    list: &mut Vec<Pending>,
+    stays: &Stays,
+    stay: &Stay,
+    sent: &[MsgId],
+) -> Result<(), AllocError>
     requires known { AreKnown stays.now }
     requires among { IsAmong stays.now.list.items stay.now }
+    requires sent { sent.now ≡ tree.keys stays.now.sends }
     ensures { OnOk result (Adds (IsPendingFor stays.now.run.now.logs stays.now.ring stay.now.proc) list.old.items list.new.items) }
 {
     if !is_open(stays, stay) {
         return Ok(());
     }
     let proc = stay.proc;
-    for message in stays.sends.keys() {
+    for message in sent {
         if !stays.delivers(stay, message) {
             let msg = *message;
             list.push(Pending { proc, msg })?;
@@ -45,12 +63,13 @@ fn add_missing(list: &mut Vec<Pending>, stays: &Stays, stay: &Stay) -> Result<()
 }
 
 /// Adds what is pending in one configuration.
-fn add_pending(list: &mut Vec<Pending>, stays: &Stays) -> Result<(), AllocError>
+fn add_pending(alloc: Global, list: &mut Vec<Pending>, stays: &Stays) -> Result<(), AllocError>
     requires { AreKnown stays.now }
     ensures { OnOk result (Adds (IsPendingIn stays.now.run.now.logs stays.now.ring) list.old.items list.new.items) }
 {
+    let sent = sent_in(alloc, stays)?;
     for stay in &stays.list {
-        add_missing(list, stays, stay)?;
+        add_missing(list, stays, stay, &sent)?;
     }
     Ok(())
 }
@@ -67,7 +86,7 @@ fn add_ring(
 {
     let found = jobs.comings.stays(alloc, jobs.run, ring)?;
     let stays = Stays::build(alloc, jobs.run, ring, found)?;
-    add_pending(list, &stays)
+    add_pending(alloc, list, &stays)
 }
 
 /// Returns all that is pending in the run of these jobs, by process and then by message.

@@ -25,6 +25,7 @@ fn handled(entry: &Entry) -> Option<MsgId>
 }
 
 /// Returns whether the receiver delivers the message before this index of its log.
+#[tactic(auto, using(crate::proofs::CausalityFaults::comes_if_before))]
 fn comes_before(stays: &Stays, receiver: &Stay, message: &MsgId, index: usize) -> bool
     requires known { AreKnown stays.now }
     requires among { IsAmong stays.now.list.items receiver.now }
@@ -53,6 +54,7 @@ fn earlier(stays: &Stays, receiver: &Stay, entry: &Entry, early: usize) -> usize
 
 /// Notes the message that the entry sends or delivers, unless the receiver delivers it before `early`, the index at which it first
 /// delivers something that the sender sends later. If it delivers nothing of that, `early` is the end of its stay.
+#[tactic(auto, using(crate::proofs::CausalityFaults::noted_before))]
 fn note(
     suspects: &mut BTreeSet<MsgId>,
     stays: &Stays,

@@ -1,4 +1,4 @@
-use Rattle.totem_pass_d.proofs.OneEvent.{begins_inside, finds_event}
+use Rattle.totem_pass_d.proofs.Searching.{begins_inside, finds_event}
 use Rattle.totem_pass_d.proofs.events.least_event.Goals as goal
 
 pub least_found-requires-clause-begins : goal.least_found-requires-clause-begins

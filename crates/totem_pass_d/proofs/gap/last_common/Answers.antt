@@ -13,7 +13,7 @@ pub overflow_add-leader : goal.overflow_add-leader
 overflow_add-leader c =
     let s = c.args.stays.now in
     let of = (facts_of s c.requires.known).each c.args.leader.now c.requires.leader in
-    omega (arith, of.before, of.until, of.few)
+    omega (arith, of.is.before, of.is.until, of.few)
 
 pub back-preserved : goal.back-preserved
 back-preserved c = record { apart = apart_more _ _ _ _ _ _ (omega arith) c.if-is_common.ensures c.back.invariant.apart; until = (let le = c.back.invariant.until in omega arith) }

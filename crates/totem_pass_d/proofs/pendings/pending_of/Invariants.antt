@@ -1,5 +1,5 @@
 use Rattle.totem_pass_d.specs.Pendings.{Adds, IsPendingIn}
-use Rattle.totem_pass_d.proofs.Adding.{AtSome}
+use Rattle.totem_pass_d.proofs.WhatIsPending.{AtSome}
 use Rattle.totem_pass_d.proofs.pendings.pending_of.Given as goal
 
 abbrev pub invariant-loop-ring : goal.invariant-loop-ring

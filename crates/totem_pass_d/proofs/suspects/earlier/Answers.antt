@@ -1,6 +1,6 @@
 use Rattle.std.proofs.Common.{arith}
 use Rattle.totem_pass_d.proofs.Facts.{facts_of}
-use Rattle.totem_pass_d.proofs.Suspecting.{delivered_at, undelivered}
+use Rattle.totem_pass_d.proofs.CausalityFaults.{delivered_at, undelivered}
 use Rattle.totem_pass_d.proofs.suspects.earlier.Goals as goal
 
 pub returns-in-Some : goal.returns-in-Some

@@ -1,21 +1,21 @@
 use Rattle.std.proofs.Common.{arith}
 use Rattle.totem_ids.specs.contracts.message.MsgIdOrd.TheImpl as message
 use Rattle.totem_pass_d.proofs.Facts.{facts_of}
-use Rattle.totem_pass_d.proofs.Suspecting.{so_far_more, noted_all}
+use Rattle.totem_pass_d.proofs.CausalityFaults.{so_far_more, noted_all}
 use Rattle.totem_pass_d.proofs.suspects.note_pair.Goals as goal
 
 pub overflow_add-sender : goal.overflow_add-sender
 overflow_add-sender c =
     let s = c.args.stays.now in
     let of = (facts_of s c.requires.known).each c.args.sender.now c.requires.sender in
-    omega (arith, of.before, of.until, of.few)
+    omega (arith, of.is.before, of.is.until, of.few)
 
 pub entry_in-entry-requires-clause-inside : goal.entry_in-entry-requires-clause-inside
 entry_in-entry-requires-clause-inside c =
     let s = c.args.stays.now in
     let of = (facts_of s c.requires.known).each c.args.sender.now c.requires.sender in
     let lt = c.back-test.true in
-    record { after = omega arith; until = (let until = c.back.invariant.until in let end = of.until in omega arith) }
+    record { after = omega arith; until = (let until = c.back.invariant.until in let end = of.is.until in omega arith) }
 
 pub back-preserved : goal.back-preserved
 back-preserved c =

@@ -1,6 +1,6 @@
 use Rattle.std.proofs.Common.{◌-◌}
 use Rattle.totem_ids.specs.contracts.message.MsgIdOrd.TheImpl as message
-use Rattle.totem_pass_d.proofs.Suspecting.{SoFar}
+use Rattle.totem_pass_d.proofs.CausalityFaults.{SoFar}
 use Rattle.totem_pass_d.proofs.suspects.note_pair.Given as goal
 
 abbrev pub invariant-back : goal.invariant-back

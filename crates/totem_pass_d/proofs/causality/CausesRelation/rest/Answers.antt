@@ -1,8 +1,7 @@
 use Rattle.std.proofs.Common.{sym, ◌∙◌}
 use Rattle.totem_pass_d.proofs.Facts.{facts_of}
 use Rattle.totem_pass_d.proofs.Rests.{started}
-use Rattle.totem_pass_d.proofs.CausalityFaults.{send_here, effects_begin, cause_starts}
-use Rattle.totem_pass_d.proofs.Suspecting.{none_unsuspected}
+use Rattle.totem_pass_d.proofs.CausalityFaults.{send_here, effects_begin, cause_starts, none_unsuspected}
 use Rattle.totem_pass_d.proofs.causality.CausesRelation.rest.Goals as goal
 
 pub returns-then-not-contains : goal.returns-then-not-contains

@@ -2,7 +2,7 @@ use Rattle.std.proofs.Common.{refl, sym, ap, ◌∙◌}
 use Rattle.std.proofs.lemmas.Option.{slice_get_read}
 use Rattle.totem_evs.specs.LogRecord.{LogRecord}
 use Rattle.totem_evs.specs.RunRecord.{RunRecord}
-use Rattle.totem_pass_d.proofs.Building.{few_entries, no_more, one_more, stay_at, from_within, all_stays}
+use Rattle.totem_pass_d.proofs.Coming.{few_entries, no_stay, one_stay, stay_at, from_within, all_stays}
 use Rattle.totem_pass_d.proofs.comings.Comings.stays.Goals.{in-Some+in_ok-stay_from+in_ok-push, in_default}
 use Rattle.totem_pass_d.proofs.comings.Comings.stays.Goals as goal
 
@@ -31,9 +31,9 @@ loop-log-preserved c =
     let value = rw procs at c.get.ensures.value in
     elim c.match-get.branch [
       | in-Some+in_ok-stay_from+in_ok-push w ↦ (let h = w.in_ok-stay_from.ensures in rw (w.list-is, w.in_ok-push.ensures.items)
-          (one_more _ _ _ _ is_run there _ w.in_ok-stay_from.field-0 h.proc
+          (one_stay _ _ _ _ is_run there _ w.in_ok-stay_from.field-0 h.proc
           (stay_at _ _ _ _ is_run there _ _ _ _ _ w.in_ok-stay_from.field-0 c.requires.comings (sym (rw w.in-Some.is at value)) c.requires.meets h) c.loop-log.invariant))
-      | in_default w ↦ rw w.list-is (no_more _ _ _ _ is_run there _ _ _ _ _ c.requires.comings (sym (rw w.in_default.is at value)) c.loop-log.invariant)
+      | in_default w ↦ rw w.list-is (no_stay _ _ _ _ is_run there _ _ _ _ _ c.requires.comings (sym (rw w.in_default.is at value)) c.loop-log.invariant)
     ]
 
 pub returns : goal.returns

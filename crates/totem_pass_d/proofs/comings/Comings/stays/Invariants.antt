@@ -1,4 +1,4 @@
-use Rattle.totem_pass_d.proofs.Building.{AreOfFirst}
+use Rattle.totem_pass_d.proofs.Coming.{AreOfFirst}
 use Rattle.totem_pass_d.proofs.comings.Comings.stays.Given as goal
 
 abbrev pub invariant-loop-log : goal.invariant-loop-log

@@ -1,4 +1,4 @@
-use Rattle.std.proofs.Common.{◌≡◌, slice_get, Some, refl, subst, arith}
+use Rattle.std.proofs.Common.{refl, subst}
 use Rattle.std.proofs.lemmas.Option.{slice_get_read}
 use Rattle.totem_ids.specs.declared.ring.RingId.{RingId}
 use Rattle.totem_traffic_rules.specs.Traffics.{IsTrafficOf}
@@ -6,7 +6,7 @@ use Rattle.totem_pass_d.proofs.jobs.Jobs.traffic.Goals as goal
 
 pub returns : goal.returns
 returns c =
-    let jobs = c.args.self.now in
-    let one = c.index-one.result.now in
-    let at : slice_get jobs.observed.items c.index-slot.result.now ≡ Some one = slice_get_read jobs.observed.items _ c.index-slot.result.now one refl (omega (arith, c.if-slot-len.false, c.len-2.ensures)) c.index-one.ensures in
-    subst (λ (ring : RingId). IsTrafficOf jobs.run.now.logs ring one.traffic) c.if-not-is_of.ensures (c.requires.observed.each c.index-slot.result.now one at)
+    let one = c.in_ok-one.one.now in
+    let found = c.in_ok-one.ensures.lookup in
+    let at = rw c.deref-2.ensures.value at (slice_get_read c.deref-2.result.now _ c.in_ok-slot.field-0.now one refl found.3.0 found.1) in
+    subst (λ (ring : RingId). IsTrafficOf c.args.self.now.run.now.logs ring one.traffic) c.if-not-is_of.ensures (c.requires.observed.each _ one at)

@@ -1,7 +1,6 @@
 use Rattle.std.proofs.Common.{inr}
 use Rattle.totem_pass_d.proofs.Facts.{facts_of}
-use Rattle.totem_pass_d.proofs.Excusing.{excused}
-use Rattle.totem_pass_d.proofs.EventFaults.{reached, absent}
+use Rattle.totem_pass_d.proofs.EventFaults.{excused, reached, absent}
 use Rattle.totem_pass_d.proofs.safety.Unreached.is_reached.Goals as goal
 
 pub returns-in_default : goal.returns-in_default

@@ -11,10 +11,10 @@ offset_bounds-stay-at c =
 pub bounds-stay-at : goal.bounds-stay-at
 bounds-stay-at c =
     let of = (facts_of c.args.self.now c.requires.known).each c.args.stay.now c.requires.among in
-    rw of.log (omega (arith, of.within, c.requires.inside.until))
+    rw of.log (omega (arith, of.is.within, c.requires.inside.until))
 
 pub returns : goal.returns
 returns c =
     let of = (facts_of c.args.self.now c.requires.known).each c.args.stay.now c.requires.among in
-    let within : c.args.at < length c.args.stay.now.log.now = rw of.log (omega (arith, of.within, c.requires.inside.until)) in
+    let within : c.args.at < length c.args.stay.now.log.now = rw of.log (omega (arith, of.is.within, c.requires.inside.until)) in
     rw (← of.log) (slice_get-get_or c.args.stay.now.log.now c.args.at c.index-stay-at.result within)
