@@ -1,5 +1,5 @@
 -- Searching for the sends of what is delivered.
-use Rattle.std.proofs.Common.{◌≡◌, ℕ, inl, inr, List, [], ◌∷◌, slice_get, Some, Bool, true, false, IsTrue, ◌↔◌, refl, arith}
+use Rattle.std.proofs.Common.{◌≡◌, ℕ, inl, inr, List, [], ◌∷◌, slice_get, Option, Some, None, MatchOption, is_some, Bool, false, IsTrue, ◌↔◌, refl, arith}
 use Rattle.std.proofs.lemmas.Option.{slice_get_within}
 use Rattle.totem_ids.specs.declared.ring.RingId.{RingId}
 use Rattle.totem_ids.specs.declared.conf.ConfId.{ConfId}
@@ -51,11 +51,10 @@ was_sent run log m d ps h = absurd h
 pub was_not_sent : (run : List Log) (log : List Entry) (m : MsgId) (d : ConfId) → HoldsOfNone (IsOne run (IsSendTo log m d)) → WasSentTo run log m d → ⊥
 was_not_sent run log m d never (c, (q, j, (s, at)), inside) = never.none (place q j ∷ []) (j, refl, (Send m (Regular c) s, at, (refl, inside)))
 
-pub sent_if_found : (run : List Log) (log : List Entry) (m : MsgId) (d : ConfId) (ps : List Place) → IsLeastOf run (IsOne run (IsSendTo log m d)) ps → IsTrue true ↔ WasSentTo run log m d
-sent_if_found run log m d ps least = (λ t. was_sent run log m d ps least.holds, λ sent. refl)
-
-pub not_sent_if_none : (run : List Log) (log : List Entry) (m : MsgId) (d : ConfId) → NoneOf run (IsOne run (IsSendTo log m d)) → IsTrue false ↔ WasSentTo run log m d
-not_sent_if_none run log m d none = (λ t. absurd cc, λ sent. absurd (was_not_sent run log m d (none_of_all run (IsOne run (IsSendTo log m d)) (one_begins run (IsSendTo log m d)) none) sent))
+pub sent_if_found : {V : Type 0} (items : V → List Place) (run : List Log) (log : List Entry) (m : MsgId) (d : ConfId) (found : Option V) (b : Bool) → b ≡ is_some found
+    → MatchOption found (NoneOf run (IsOne run (IsSendTo log m d))) (λ v. IsLeastOf run (IsOne run (IsSendTo log m d)) (items v)) → IsTrue b ↔ WasSentTo run log m d
+sent_if_found items run log m d None b is none = rw is (λ t. absurd cc, λ sent. absurd (was_not_sent run log m d (none_of_all run (IsOne run (IsSendTo log m d)) (one_begins run (IsSendTo log m d)) none) sent))
+sent_if_found items run log m d (Some v) b is least = rw is (λ t. was_sent run log m d (items v) least.holds, λ sent. refl)
 
 -- deliveries of messages that were not sent for them
 pub unsent_begins : (run : List Log) → EachBegins run (BreaksUnsent run)

@@ -7,7 +7,7 @@ use Rattle.totem_ids.specs.declared.place.Place.{Place}
 use Rattle.totem_evs.specs.declared.entry.Entry.{Entry}
 use Rattle.totem_evs.specs.declared.log.Log.{Log}
 use Rattle.totem_evs.specs.Events.{log_of}
-use Rattle.totem_evs.specs.Answers.{ComesFirst, IsLeast}
+use Rattle.totem_evs.specs.Answers.{IsLeast}
 use Rattle.totem_table.specs.Search.{place, NoneFrom, IsLeastFrom, NoneOf, IsLeastOf, HoldsOfNone}
 use Rattle.totem_pass_ab.specs.Pairs.{Has, IsOne, IsOneOrTwo}
 
@@ -74,19 +74,21 @@ moved log i j x y Q at is at_j h = let same : j ≡ i = omega arith in
     let one : y ≡ x = (let there : slice_get log i ≡ Some y = rw same at at_j in cc) in
     rw (same, one) at h
 
--- an entry that is bad neither alone nor with another
+-- with an entry that is not bad alone, the others of the list are bad
+bad_with : (run : List Log) (A : ℕ → ℕ → Entry → Type 0) (P : ℕ → ℕ → Entry → ℕ → ℕ → Entry → Type 0) (p i : ℕ) (x : Entry) → slice_get (log_of run p) i ≡ Some x
+    → (A p i x → ⊥) → (rest : List Place) → IsOneOrTwo run A P (place p i ∷ rest) → IsOne run (P p i x) rest
+bad_with run A P p i x at not_alone [] (j, is, (y, at_j, h)) = absurd (not_alone (moved (log_of run p) i j x y (λ k z. A p k z) at is at_j h))
+bad_with run A P p i x at not_alone (f ∷ more) (j, is, (y, at_j, h)) = moved (log_of run p) i j x y (λ k z. IsOne run (P p k z) (f ∷ more)) at is at_j h
+
 pub bad_with_nothing : (run : List Log) (A : ℕ → ℕ → Entry → Type 0) (P : ℕ → ℕ → Entry → ℕ → ℕ → Entry → Type 0) (p i : ℕ) (x : Entry) → slice_get (log_of run p) i ≡ Some x
     → (A p i x → ⊥) → HoldsOfNone (IsOne run (P p i x)) → NoneFrom (IsOneOrTwo run A P) p i
-bad_with_nothing run A P p i x at not_alone never = record { none = λ rest h. go rest h }
-  where
-    go : (rest : List Place) → IsOneOrTwo run A P (place p i ∷ rest) → ⊥
-    go [] (j, is, (y, at_j, h)) = not_alone (moved (log_of run p) i j x y (λ k z. A p k z) at is at_j h)
-    go (f ∷ more) (j, is, (y, at_j, h)) = never.none (f ∷ more) (moved (log_of run p) i j x y (λ k z. IsOne run (P p k z) (f ∷ more)) at is at_j h)
+bad_with_nothing run A P p i x at not_alone never = record { none = λ rest h. never.none rest (bad_with run A P p i x at not_alone rest h) }
 
--- an entry that is not bad alone, but with others
 pub bad_with_some : (run : List Log) (A : ℕ → ℕ → Entry → Type 0) (P : ℕ → ℕ → Entry → ℕ → ℕ → Entry → Type 0) (p i : ℕ) (x : Entry) (places : List Place) → slice_get (log_of run p) i ≡ Some x
     → (A p i x → ⊥) → IsLeastOf run (IsOne run (P p i x)) places → IsLeastFrom (IsOneOrTwo run A P) p i places
-bad_with_some run A P p i x places at not_alone least = record { least = record { holds = known places all.holds; first = λ others h. go others h } }
+bad_with_some run A P p i x places at not_alone least = record {
+  least = record { holds = known places all.holds; first = λ others h. all.first others (bad_with run A P p i x at not_alone others h) };
+}
   where
     all : IsLeast (IsOne run (P p i x)) places
     all = least_of_all run (IsOne run (P p i x)) places (one_begins run (P p i x)) least
@@ -94,10 +96,6 @@ bad_with_some run A P p i x places at not_alone least = record { least = record 
     known : (rest : List Place) → IsOne run (P p i x) rest → IsOneOrTwo run A P (place p i ∷ rest)
     known [] h = absurd h
     known (f ∷ more) h = (i, refl, (x, at, h))
-
-    go : (others : List Place) → IsOneOrTwo run A P (place p i ∷ others) → ComesFirst places others
-    go [] (j, is, (y, at_j, h)) = absurd (not_alone (moved (log_of run p) i j x y (λ k z. A p k z) at is at_j h))
-    go (f ∷ more) (j, is, (y, at_j, h)) = all.first (f ∷ more) (moved (log_of run p) i j x y (λ k z. IsOne run (P p k z) (f ∷ more)) at is at_j h)
 
 -- ---- when a quick test makes a search unnecessary
 

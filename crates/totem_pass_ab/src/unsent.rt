@@ -78,10 +78,7 @@ fn was_sent(
         message,
         conf,
     };
-    match least(&sends, alloc, run)? {
-        None => Ok(false),
-        Some(_) => Ok(true),
-    }
+    Ok(least(&sends, alloc, run)?.is_some())
 }
 
 /// Looks for deliveries of messages that were not sent for them.

@@ -1,9 +1,5 @@
-use Rattle.totem_pass_ab.proofs.Sent.{sent_if_found, not_sent_if_none}
+use Rattle.totem_pass_ab.proofs.Sent.{sent_if_found}
 use Rattle.totem_pass_ab.proofs.unsent.was_sent.Goals as goal
-use Rattle.totem_pass_ab.proofs.unsent.was_sent.Goals.{in-None, in-Some}
 
 pub returns : goal.returns
-returns c = elim c.match-branch-2.branch [
-  | in-None w ↦ rw w.result-is (not_sent_if_none _ _ _ _ (rw w.in-None.is at c.in_ok-least.ensures))
-  | in-Some w ↦ rw w.result-is (sent_if_found _ _ _ _ _ (rw w.in-Some.is at c.in_ok-least.ensures))
-]
+returns c = sent_if_found (λ list. list.items) _ _ _ _ _ c.is_some.result c.is_some.ensures c.in_ok-least.ensures
