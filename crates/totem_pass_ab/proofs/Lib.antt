@@ -7,5 +7,3 @@ pub mod Passes
 pub mod Knowing
 pub mod Repeating
 pub mod Forming
-pub mod Originating
-pub mod QuickSends

@@ -1,5 +1,5 @@
--- Searching for the sends of what is delivered.
-use Rattle.std.proofs.Common.{◌≡◌, ℕ, inl, inr, List, [], ◌∷◌, slice_get, Option, Some, None, MatchOption, is_some, Bool, false, IsTrue, ◌↔◌, refl, arith}
+-- Searching for the sends of what is delivered, and the quick test that makes most searches unnecessary.
+use Rattle.std.proofs.Common.{◌≡◌, ℕ, inl, inr, List, [], ◌∷◌, slice_get, Option, Some, None, MatchOption, is_some, Bool, false, IsTrue, ◌↔◌, refl, arith, true, sym, ◌∙◌, ap, subst}
 use Rattle.std.proofs.lemmas.Option.{slice_get_within}
 use Rattle.totem_ids.specs.declared.ring.RingId.{RingId}
 use Rattle.totem_ids.specs.declared.conf.ConfId.{ConfId}
@@ -7,9 +7,9 @@ use Rattle.totem_ids.specs.declared.conf.ConfId.TheVariants.{Regular}
 use Rattle.totem_ids.specs.declared.message.MsgId.{MsgId}
 use Rattle.totem_ids.specs.declared.place.Place.{Place}
 use Rattle.totem_evs.specs.declared.entry.Entry.{Entry}
-use Rattle.totem_evs.specs.declared.entry.Entry.TheVariants.{Send, Deliver}
+use Rattle.totem_evs.specs.declared.entry.Entry.TheVariants.{Send, Deliver, Conf}
 use Rattle.totem_evs.specs.declared.log.Log.{Log}
-use Rattle.totem_evs.specs.Events.{log_of, IsTransitional}
+use Rattle.totem_evs.specs.Events.{log_of, IsTransitional, IsChange, WasSentIn}
 use Rattle.totem_evs.specs.Following.{IsFirstChange, Follows}
 use Rattle.totem_evs.specs.Changes.{ChangesNext}
 use Rattle.totem_evs.specs.Delivery.{DeliversWhatWasSent}
@@ -23,6 +23,25 @@ use Rattle.totem_evs.proofs.NextChanges.{same_first}
 use Rattle.totem_run_rules.proofs.SentOrNot.{sent_or_not}
 use Rattle.totem_pass_ab.proofs.Starting.{Begins, EachBegins, begins_at, one_begins, none_of_all}
 use Rattle.totem_pass_ab.proofs.Turning.{one_succession}
+use Rattle.std.specs.Bool.{OnTrue}
+use Rattle.std.specs.declared.cmp.Ordering.{Ordering}
+use Rattle.std.specs.BTreeMap.{BTreeMap}
+use Rattle.std.specs.BTreeMap as tree
+use Rattle.std.specs.BTreeSet.{BTreeSet}
+use Rattle.std.specs.BTreeSet as sorted
+use Rattle.std.proofs.lemmas.Grind.{not_there}
+use Rattle.std.proofs.lemmas.Map.Lookups.{CmpEqualImpliesEq}
+use Rattle.totem_ids.specs.declared.message.Service.{Service}
+use Rattle.totem_ids.specs.contracts.ring.RingIdOrd.TheImpl as ring
+use Rattle.totem_ids.specs.contracts.message.MsgIdOrd.TheImpl as message
+use Rattle.totem_pass_ab.specs.declared.keys.Sending.{Sending}
+use Rattle.totem_pass_ab.specs.contracts.keys.SendingOrd.TheImpl as by_sending
+use Rattle.totem_table.specs.declared.keys.Change.{Change}
+use Rattle.totem_table.specs.Registers.{StaysSound, KnowsLog}
+use Rattle.totem_pass_ab.specs.Sendings.{WereSent}
+use Rattle.totem_pass_ab.specs.Followed.{KnowsRegularChange, AreFollowed}
+use Rattle.totem_ids.proofs.Exact.{equal_at, apart_or_at, both_equal, exact_ring, exact_message}
+use Rattle.totem_table.proofs.Exact.{change_by}
 
 -- what follows c is the next change after the first change to c
 pub not_without_change : (log : List Entry) (c : RingId) (d : ConfId) → NeverChangesTo log (Regular c) → IsTrue false ↔ Follows log c d
@@ -83,3 +102,86 @@ delivers_what_was_sent run never p i m d at = elim (sent_or_not run (log_of run 
   | inl sent ↦ sent
   | inr not_sent ↦ absurd (never.none (place p i ∷ []) (i, refl, (m, d, at, not_sent)))
 ]
+
+-- ---- what is noted for the quick test
+
+abbrev pub sending : MsgId → RingId → Sending
+sending m c = record { message = m; ring = c }
+
+pub exact_sending : CmpEqualImpliesEq by_sending.cmp-value.it
+exact_sending s t e = let h = both_equal (message.cmp-value.it s.message t.message) (ring.cmp-value.it s.ring t.ring) e in
+    ap (λ (m : MsgId). sending m s.ring) (exact_message s.message t.message h.0) ∙ ap (sending t.message) (exact_ring s.ring t.ring h.1)
+
+pub one_more_send : (cmp : Sending → Sending → Ordering) → CmpEqualImpliesEq cmp → (s n : BTreeSet Sending) (p i : ℕ) (log : List Entry) (m : MsgId) (x : ConfId) (c : RingId) (v : Service) → slice_get log i ≡ Some (Send m x v) → x ≡ Regular c
+    → sorted.Updates cmp s n (sending m c) true → StaysSound (WereSent cmp s) (WereSent cmp n) p log
+one_more_send cmp exact s n p i log m x c v at is h = record { each = λ run logs old. more run logs old }
+  where
+    more : (run : List Log) → log ≡ log_of run p → WereSent cmp s run → WereSent cmp n run
+    more run logs old = record {
+      each = λ k has. elim (apart_or_at cmp (sending m c) k) [
+        | inr apart ↦ old.each k (sym (h.2 k apart) ∙ has)
+        | inl here ↦ subst (λ (z : Sending). WasSentIn run z.message (Regular z.ring)) (exact (sending m c) k (equal_at (cmp (sending m c) k) here)) (p, i, (v, rw (logs, is) at at))
+      ];
+    }
+
+pub enters_regular_change : (cmp : Change → Change → Ordering) (s n : BTreeSet Change) (p i : ℕ) (log : List Entry) (x : ConfId) (c : RingId) (ms : List ℕ) → slice_get log i ≡ Some (Conf x ms) → x ≡ Regular c → sorted.Updates cmp s n (change_by p (Regular c)) true
+    → KnowsRegularChange cmp n p log i
+enters_regular_change cmp s n p i log x c ms at is h = record {
+  each = λ d (ns, at'). (let same : c ≡ d = (let one : Conf x ms ≡ Conf (Regular d) ns = cc in cc) in
+      subst (λ (z : RingId). IsTrue (sorted.contains cmp n (change_by p (Regular z)))) same h.1);
+}
+
+-- an entry that is no change is no change to a regular configuration
+pub spares_regular_change : (cmp : Change → Change → Ordering) (s : BTreeSet Change) (p : ℕ) (log : List Entry) (i : ℕ) → (IsChange log i → ⊥) → KnowsRegularChange cmp s p log i
+spares_regular_change cmp s p log i never = record { each = λ c to. absurd (never (Regular c, to)) }
+
+first_regular_change : (cmp : Change → Change → Ordering) (s : BTreeSet Change) (p i : ℕ) (log : List Entry) (x : ConfId) (c : RingId) (ms : List ℕ) → slice_get log i ≡ Some (Conf x ms) → x ≡ Regular c → sorted.contains cmp s (change_by p (Regular c)) ≡ false
+    → KnowsLog (KnowsRegularChange cmp s) p log i → IsFirstChange log (Regular c) i
+first_regular_change cmp s p i log x c ms at is new known = record { change = (ms, rw is at at); none_before = λ k lt change. (let had = (known.each k lt).each c change in cc) }
+
+-- the next change after the first one to c follows c
+pub follows_first : (cmp : Change → Change → Ordering) (s : BTreeSet Change) (p i j : ℕ) (log : List Entry) (x y z : ConfId) (c : RingId) (ms ks ns : List ℕ) → slice_get log i ≡ Some (Conf x ms) → x ≡ Regular c
+    → sorted.contains cmp s (change_by p (Regular c)) ≡ false → KnowsLog (KnowsRegularChange cmp s) p log i → ChangesNext log i j z y ks ns → IsTransitional y → Follows log c y
+follows_first cmp s p i j log x y z c ms ks ns at is new known succession moves =
+    record { from = i; to = j; first = first_regular_change cmp s p i log x c ms at is new known; next = succession.next; change = (ns, succession.second); transitional = moves }
+
+pub one_more_followed : (cmp : Change → Change → Ordering) → CmpEqualImpliesEq cmp → (r n : BTreeMap Change RingId) (p : ℕ) (log : List Entry) (t : ConfId) (c : RingId) → Follows log c t → tree.Updates cmp r n (change_by p t) (Some c)
+    → StaysSound (AreFollowed cmp r) (AreFollowed cmp n) p log
+one_more_followed cmp exact r n p log t c follows h = record { each = λ run logs old. more run logs old }
+  where
+    here_is : (run : List Log) (v : Change) (d : RingId) → log ≡ log_of run p → change_by p t ≡ v → tree.get cmp n v ≡ Some d → Follows (log_of run v.proc) d v.conf
+    here_is run v d logs same is =
+        let there : tree.get cmp n (change_by p t) ≡ Some d = subst (λ (z : Change). tree.get cmp n z ≡ Some d) (sym same) is in
+        let rings : c ≡ d = (let found = h.1 in cc) in
+        subst (λ (z : Change). Follows (log_of run z.proc) d z.conf) same (rw (← logs, ← rings) follows)
+
+    more : (run : List Log) → log ≡ log_of run p → AreFollowed cmp r run → AreFollowed cmp n run
+    more run logs old = record {
+      each = λ v d is. elim (apart_or_at cmp (change_by p t) v) [
+        | inr apart ↦ old.each v d (sym (h.2 v apart) ∙ is)
+        | inl here ↦ here_is run v d logs (exact (change_by p t) v (equal_at (cmp (change_by p t) v) here)) is
+      ];
+    }
+
+-- ---- what the quick test shows
+
+-- a message that can't be unsent was sent
+sent_if_there : (run : List Log) (log : List Entry) (m : MsgId) (d : ConfId) → ((WasSentTo run log m d → ⊥) → ⊥) → WasSentTo run log m d
+sent_if_there run log m d there = elim (sent_or_not run log m d) [ inl sent ↦ sent | inr not_sent ↦ absurd (there not_sent) ]
+
+in_ring : (run : List Log) (m : MsgId) (c : RingId) → WasSentTo run [] m (Regular c) → WasSentIn run m (Regular c)
+in_ring run m c (d, sent, inl same) = rw same sent
+in_ring run m c (d, sent, inr follows) = absurd follows.transitional
+
+pub sent_in : (cmp : Sending → Sending → Ordering) (s : BTreeSet Sending) (run : List Log) (m : MsgId) (c : RingId) (b : Bool) → b ≡ sorted.contains cmp s (sending m c) → ∥ WereSent cmp s run ∥₁ → OnTrue b (WasSentIn run m (Regular c))
+sent_in cmp s run m c true e known = in_ring run m c (sent_if_there run [] m (Regular c) (λ never. not_there known (λ h. never (c, h.each (sending m c) (sym e), inl refl))))
+sent_in cmp s run m c false e known = tt
+
+pub sent_regular : (run : List Log) (log : List Entry) (m : MsgId) (c : RingId) (b : Bool) → OnTrue b (WasSentIn run m (Regular c)) → OnTrue b (WasSentTo run log m (Regular c))
+sent_regular run log m c true sent = (c, sent, inl refl)
+sent_regular run log m c false sent = tt
+
+pub sent_before : (cmp : Change → Change → Ordering) (r : BTreeMap Change RingId) (run : List Log) (p : ℕ) (m : MsgId) (c : RingId) (d : ConfId) (b : Bool) → Some c ≡ tree.get cmp r (change_by p d) → ∥ AreFollowed cmp r run ∥₁
+    → OnTrue b (WasSentIn run m (Regular c)) → OnTrue b (WasSentTo run (log_of run p) m d)
+sent_before cmp r run p m c d true is known sent = sent_if_there run (log_of run p) m d (λ never. not_there known (λ h. never (c, sent, inr (h.each (change_by p d) c (sym is)))))
+sent_before cmp r run p m c d false is known sent = tt

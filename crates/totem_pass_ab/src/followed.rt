@@ -23,7 +23,7 @@ impl ChangeRegister for Followed {
 
     ghost knows = { λ s. KnowsRegularChange ⟦<Change as Ord>⟧.cmp s.changes };
 
-    #[tactic(auto, using(crate::proofs::QuickSends::spares_regular_change))]
+    #[tactic(auto, using(crate::proofs::Sent::spares_regular_change))]
     fn spares(&self) {}
 
     fn enter_change(

@@ -26,7 +26,7 @@ impl ChangeRegister for Origins {
 
     ghost knows = { λ s. KnowsOrigin ⟦<ConfId as Ord>⟧.cmp s.rings.values };
 
-    #[tactic(auto, using(crate::proofs::Originating::spares_origin))]
+    #[tactic(auto, using(crate::proofs::Turning::spares_origin))]
     fn spares(&self) {}
 
     fn enter_change(

@@ -1,8 +1,7 @@
 use Rattle.totem_evs.specs.Answers.{Finds}
 use Rattle.totem_evs.specs.declared.spec.SpecNo.TheVariants as spec
 use Rattle.totem_pass_ab.proofs.Starting.{none_of_all, least_of_all, told_as_places}
-use Rattle.totem_pass_ab.proofs.Sent.{unsent_begins}
-use Rattle.totem_pass_ab.proofs.Sent.{delivers_what_was_sent}
+use Rattle.totem_pass_ab.proofs.Sent.{unsent_begins, delivers_what_was_sent}
 use Rattle.totem_pass_ab.proofs.unsent.find.Goals as goal
 
 pub returns : goal.returns

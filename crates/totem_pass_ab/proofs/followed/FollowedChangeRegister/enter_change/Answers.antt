@@ -1,7 +1,7 @@
 use Rattle.std.proofs.Common.{◌≡◌, Bool, true, false, not, refl}
 use Rattle.std.proofs.lemmas.Option.{slice_get_read}
 use Rattle.totem_table.proofs.Exact.{exact_change}
-use Rattle.totem_pass_ab.proofs.QuickSends.{enters_regular_change, follows_first, one_more_followed}
+use Rattle.totem_pass_ab.proofs.Sent.{enters_regular_change, follows_first, one_more_followed}
 use Rattle.totem_pass_ab.proofs.followed.FollowedChangeRegister.enter_change.Goals as goal
 
 was_new : (b c : Bool) → c ≡ not b → c ≡ true → b ≡ false

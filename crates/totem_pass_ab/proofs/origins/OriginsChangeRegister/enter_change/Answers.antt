@@ -1,6 +1,6 @@
 use Rattle.std.proofs.lemmas.Result.{on_ok_weaker}
 use Rattle.totem_ids.specs.contracts.conf.ConfIdOrd.TheImpl.Laws as conf
-use Rattle.totem_pass_ab.proofs.Originating.{keeps_origins, enters_origin}
+use Rattle.totem_pass_ab.proofs.Turning.{keeps_origins, enters_origin}
 use Rattle.totem_pass_ab.proofs.origins.OriginsChangeRegister.enter_change.Goals as goal
 
 pub returns-clause-entered : goal.returns-clause-entered

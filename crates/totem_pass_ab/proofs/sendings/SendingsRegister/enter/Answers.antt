@@ -1,6 +1,6 @@
 use Rattle.std.proofs.Common.{refl}
 use Rattle.std.proofs.lemmas.Option.{slice_get_read}
-use Rattle.totem_pass_ab.proofs.QuickSends.{exact_sending, one_more_send}
+use Rattle.totem_pass_ab.proofs.Sent.{exact_sending, one_more_send}
 use Rattle.totem_pass_ab.proofs.sendings.SendingsRegister.enter.Goals as goal
 
 pub returns-clause-sound : goal.returns-clause-sound

@@ -1,7 +1,6 @@
 use Rattle.std.proofs.Common.{refl}
-use Rattle.totem_pass_ab.proofs.Turning.{begins_here, none_without_succession, wrong_here, none_after_right, some_after_right, others_begin, begins_not, others_of_ring}
 use Rattle.totem_pass_ab.proofs.Starting.{none_of_all, least_of_all, none_known}
-use Rattle.totem_pass_ab.proofs.Originating.{one_origin}
+use Rattle.totem_pass_ab.proofs.Turning.{begins_here, none_without_succession, wrong_here, none_after_right, some_after_right, others_begin, begins_not, others_of_ring, one_origin}
 use Rattle.totem_pass_ab.proofs.succession.TurnsRelation.rest.Goals as goal
 
 pub returns-then-begins_transitional : goal.returns-then-begins_transitional

@@ -1,4 +1,4 @@
-use Rattle.totem_pass_ab.proofs.QuickSends.{sent_regular, sent_before}
+use Rattle.totem_pass_ab.proofs.Sent.{sent_regular, sent_before}
 use Rattle.totem_pass_ab.proofs.unsent.Unsent.is_sent.Goals as goal
 
 pub returns-in-Regular : goal.returns-in-Regular

@@ -1,4 +1,4 @@
-use Rattle.totem_pass_ab.proofs.QuickSends.{sent_in}
+use Rattle.totem_pass_ab.proofs.Sent.{sent_in}
 use Rattle.totem_pass_ab.proofs.unsent.Unsent.was_sent_in.Goals as goal
 
 pub returns : goal.returns
