@@ -16,16 +16,15 @@ use Rattle.totem_evs.specs.Following.{Com, DeliversIn}
 use Rattle.totem_evs.specs.RingAgreement.{IsHop, CausalityIn}
 use Rattle.totem_evs.specs.RingFaults.{BreaksCausalityIn}
 use Rattle.totem_table.specs.Search.{place, HoldsOfNone, NoneFrom}
-use Rattle.totem_pass_d.proofs.Searching.{no_event, only_event, begins_inside}
 use Rattle.totem_pass_d.specs.declared.stay.Stay.{Stay}
 use Rattle.totem_pass_d.specs.Acts.{IsAmong, DeliversNot}
 use Rattle.totem_pass_d.specs.Search.{IsInside, EachBeginsWithin, NoneWithin, IsLeastWithin, BeginsWithin, IsOneEvent}
-use Rattle.totem_pass_d.specs.Causality.{IsSurprise, IsEffect}
+use Rattle.totem_pass_d.specs.Searched.{IsSurprise, IsEffect}
 use Rattle.totem_pass_d.proofs.Deciding.{both_or_not, below_or_not, delivery_or_not}
 use Rattle.totem_run_rules.proofs.SentOrNot.{in_or_not}
 use Rattle.totem_pass_d.proofs.Facts.{Facts, delivery_inside}
-use Rattle.totem_pass_d.proofs.Rests.{Starts, sends_there, there_sends, index_of, begins_at}
-use Rattle.std.specs.Bool.{OnTrue}
+use Rattle.totem_pass_d.proofs.Searching.{no_event, only_event, begins_inside, Starts, sends_there, there_sends, index_of, begins_at}
+use Rattle.std.specs.Bool.{OnTrue, OnFalse}
 use Rattle.std.specs.declared.cmp.Ordering.{Ordering}
 use Rattle.std.specs.BTreeSet.{BTreeSet}
 use Rattle.std.specs.BTreeSet as sorted
@@ -42,46 +41,37 @@ one_delivery_in run c stays p i j m facts (x, at_i, _) (y, at_j, _) = facts.meet
 pub none_undelivered : (run : List Log) (c : RingId) (stay : Stay) (m n : MsgId) → DeliversNot (log_of run stay.proc) c n → NoneWithin IsInside (IsOneEvent (IsSurprise run c m n)) stay
 none_undelivered run c stay m n never = no_event IsInside (IsSurprise run c m n) stay (λ i (delivers, none). never.never (i, delivers))
 
-pub none_caused : (run : List Log) (c : RingId) (stays : List Stay) (stay : Stay) (m n : MsgId) (k l : ℕ) → Facts run c stays → DeliversIn (log_of run stay.proc) c n k → DeliversIn (log_of run stay.proc) c m l → l < k
+pub none_caused : (run : List Log) (c : RingId) (stays : List Stay) (stay : Stay) (m n : MsgId) (k : ℕ) → Facts run c stays → DeliversIn (log_of run stay.proc) c n k → ComesBefore run c stay.proc m k
     → NoneWithin IsInside (IsOneEvent (IsSurprise run c m n)) stay
-none_caused run c stays stay m n k l facts effect cause lt =
-    no_event IsInside (IsSurprise run c m n) stay (λ i (delivers, none). none l (rw (one_delivery_in run c stays stay.proc i k n facts delivers effect) lt) cause)
+none_caused run c stays stay m n k facts effect before =
+    no_event IsInside (IsSurprise run c m n) stay (λ i (delivers, none). none before.index (rw (one_delivery_in run c stays stay.proc i k n facts delivers effect) before.before) before.delivers)
 
 pub surprise_here : (run : List Log) (c : RingId) (stays : List Stay) (stay : Stay) (m n : MsgId) (k : ℕ) (places : List Place) → Facts run c stays → DeliversIn (log_of run stay.proc) c n k
     → ((l : ℕ) → l < k → DeliversIn (log_of run stay.proc) c m l → ⊥) → places ≡ place stay.proc k ∷ [] → IsLeastWithin IsInside (IsOneEvent (IsSurprise run c m n)) stay places
 surprise_here run c stays stay m n k places facts delivers none is =
     only_event IsInside (IsSurprise run c m n) stay k places (delivers, none) (λ i h. one_delivery_in run c stays stay.proc i k n facts h.0 delivers) is
 
-pub not_before : (run : List Log) (c : RingId) (stays : List Stay) (stay : Stay) (m : MsgId) (k l : ℕ) → Facts run c stays → DeliversIn (log_of run stay.proc) c m l → k ≤ l
+not_before : (run : List Log) (c : RingId) (stays : List Stay) (stay : Stay) (m : MsgId) (k l : ℕ) → Facts run c stays → DeliversIn (log_of run stay.proc) c m l → k ≤ l
     → (i : ℕ) → i < k → DeliversIn (log_of run stay.proc) c m i → ⊥
 not_before run c stays stay m k l facts cause le i lt delivers = let same = one_delivery_in run c stays stay.proc i l m facts delivers cause in omega arith
 
 pub surprises_begin : (run : List Log) (c : RingId) (stays : List Stay) (m n : MsgId) → Facts run c stays → EachBeginsWithin stays IsInside (IsOneEvent (IsSurprise run c m n))
 surprises_begin run c stays m n facts = begins_inside (IsSurprise run c m n) stays (record { each = λ p k ((x, at, belongs), none). facts.inside p k x (Deliver n x, at, refl) belongs })
 
-pub no_hop : (run : List Log) (c : RingId) (stay : Stay) (m : MsgId) (p i j : ℕ) → ((stay.proc ≡ p) × (i < j) → ⊥) → DeliversNot (log_of run stay.proc) c m → IsTrue false ↔ IsHop run c m (place p i) (place stay.proc j)
-no_hop run c stay m p i j apart never = (λ t. absurd cc, λ h. absurd (go h))
+pub hop_decided : (run : List Log) (c : RingId) (stays : List Stay) (stay : Stay) (m : MsgId) (p i j : ℕ) (b : Bool) → ((stay.proc ≡ p) × (i < j) → ⊥) → Facts run c stays → IsAmong stays stay → j < stay.turn
+    → OnTrue b (ComesBefore run c stay.proc m j) → OnFalse b (ComesNotBefore run c stay.proc m j) → IsTrue b ↔ IsHop run c m (place p i) (place stay.proc j)
+hop_decided run c stays stay m p i j true apart facts among inside there never = (λ t. let h : ComesBefore run c stay.proc m j = there in to h h.delivers, λ h. refl)
   where
-    go : IsHop run c m (place p i) (place stay.proc j) → ⊥
-    go (inl (same, lt)) = apart (sym same, omega arith)
-    go (inr (k, is, (l, lt, at))) = never.never (l, (Regular c, at, inl refl))
-
-pub hop_by_delivery : (run : List Log) (c : RingId) (stays : List Stay) (stay : Stay) (m : MsgId) (p i j l : ℕ) (b : Bool) → ((stay.proc ≡ p) × (i < j) → ⊥) → Facts run c stays → IsAmong stays stay → DeliversIn (log_of run stay.proc) c m l
-    → j < stay.turn → IsTrue b ↔ (l < j) → IsTrue b ↔ IsHop run c m (place p i) (place stay.proc j)
-hop_by_delivery run c stays stay m p i j l b apart facts among delivers before decides = (λ t. to delivers (decides.0 t), λ h. decides.1 (from h))
-  where
-    to : DeliversIn (log_of run stay.proc) c m l → l < j → IsHop run c m (place p i) (place stay.proc j)
-    to (d, at, belongs) lt =
+    to : (h : ComesBefore run c stay.proc m j) → DeliversIn (log_of run stay.proc) c m h.index → IsHop run c m (place p i) (place stay.proc j)
+    to h (d, at, belongs) =
         let of = facts.each stay among in
-        let here = of.is.here l d (Deliver m d, at, refl) belongs in
-        inr (j, refl, (l, lt, rw (of.is.regular l d here.0 (omega arith) (Deliver m d, at, refl)) at at))
-
-    from : IsHop run c m (place p i) (place stay.proc j) → l < j
-    from (inl (same, lt)) = absurd (apart (sym same, omega arith))
-    from (inr (k, is, (o, lt, at))) = let same = one_delivery_in run c stays stay.proc o l m facts (Regular c, at, inl refl) delivers in omega arith
-
-pub lt_decided : (a b : ℕ) → IsTrue (nat_lt a b) ↔ (a < b)
-lt_decided a b = search rules
+        let here = of.is.here h.index d (Deliver m d, at, refl) belongs in
+        inr (j, refl, (h.index, h.before, rw (of.is.regular h.index d here.0 (omega (arith, h.before)) (Deliver m d, at, refl)) at at))
+hop_decided run c stays stay m p i j false apart facts among inside there never = (λ t. absurd cc, λ h. absurd (from h))
+  where
+    from : IsHop run c m (place p i) (place stay.proc j) → ⊥
+    from (inl (same, lt)) = apart (sym same, omega arith)
+    from (inr (k, is, (l, lt, at))) = never l (omega arith) (Regular c, at, inl refl)
 
 -- a message that is sent inside a stay is sent in c
 pub send_here : (run : List Log) (c : RingId) (stays : List Stay) (stay : Stay) (i : ℕ) (m : MsgId) (x : ConfId) (s : Service) → Facts run c stays → IsAmong stays stay → IsInside stay i → slice_get (log_of run stay.proc) i ≡ Some (Send m x s)
@@ -178,6 +168,13 @@ comes_if_before run c stay m at k here = go (nat_lt at k) refl
     go : (b : Bool) → nat_lt at k ≡ b → OnTrue b (ComesBefore run c stay.proc m k)
     go true e = record { index = at; before = grind arith; delivers = here }
     go false e = tt
+
+pub comes_late : (run : List Log) (c : RingId) (stays : List Stay) (stay : Stay) (m : MsgId) (at k : ℕ) → Facts run c stays → DeliversIn (log_of run stay.proc) c m at → OnFalse (nat_lt at k) (ComesNotBefore run c stay.proc m k)
+comes_late run c stays stay m at k facts here = go (nat_lt at k) refl
+  where
+    go : (b : Bool) → nat_lt at k ≡ b → OnFalse b (ComesNotBefore run c stay.proc m k)
+    go true e = tt
+    go false e = not_before run c stays stay m k at facts here (grind arith)
 
 module _ (cmp : MsgId → MsgId → Ordering) where
   pub has_through : (r s t : BTreeSet MsgId) → HasAllOf cmp s r → HasAllOf cmp t s → HasAllOf cmp t r

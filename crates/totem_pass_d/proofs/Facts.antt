@@ -1,5 +1,6 @@
 -- What the stays of a run that meets the specifications of the first two passes say about its logs.
 use Rattle.std.proofs.Common.{◌≡◌, ℕ, ◌<◌, ◌≤◌, inl, inr, List, length, refl, arith}
+use Rattle.std.proofs.lemmas.Option.{slice_get_within, get_or_from_slice_get}
 use Rattle.totem_ids.specs.declared.ring.RingId.{RingId}
 use Rattle.totem_ids.specs.declared.conf.ConfId.{ConfId}
 use Rattle.totem_ids.specs.declared.conf.ConfId.TheVariants.{Regular, Transitional}
@@ -20,7 +21,11 @@ use Rattle.totem_pass_d.specs.Stays.{IsStayOf, HasStay, AreStays}
 use Rattle.totem_pass_d.specs.Acts.{IsAmong}
 use Rattle.totem_pass_d.specs.Search.{IsInside, StandsInside}
 use Rattle.totem_pass_d.specs.KnownStays.{AreKnown}
-use Rattle.totem_pass_d.proofs.Searching.{stay_of}
+
+pub stay_of : (run : List Log) (c : RingId) (stays : List Stay) (stay : Stay) → AreStays run c stays → IsAmong stays stay → IsStayOf run c stay
+stay_of run c stays stay are among =
+    let h = are.each among.at stay (slice_get_within stays among.at stay among.stands) in
+    rw (get_or_from_slice_get stays among.at stay stay among.stands) at h
 
 -- what is known of a stay
 pub record StayFacts (run : List Log) (c : RingId) (stay : Stay) : Type 0 where

@@ -1,10 +1,8 @@
 pub mod Deciding
 pub mod Reaching
 pub mod EventFaults
-pub mod Indexing
 pub mod Searching
 pub mod Facts
-pub mod Rests
 pub mod CausalityFaults
 pub mod GapFaults
 pub mod AtomicityFaults

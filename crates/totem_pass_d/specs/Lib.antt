@@ -5,11 +5,9 @@ pub mod Acts
 pub mod Indexes
 pub mod Reached
 pub mod Search
-pub mod Causality
-pub mod Gaps
 pub mod Jobs
-pub mod Partings
 pub mod Suspects
 pub mod Findings
 pub mod Sends
 pub mod KnownStays
+pub mod Searched

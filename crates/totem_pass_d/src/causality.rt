@@ -9,13 +9,13 @@ ghost use Rattle.totem_evs.specs.Answers.{FindsIn};
 ghost use Rattle.totem_pass_d.specs.KnownStays.{AreKnown};
 ghost use Rattle.totem_pass_d.specs.Acts.{IsAmong};
 ghost use Rattle.totem_pass_d.specs.Search.{IsInside, IsOneEvent};
-ghost use Rattle.totem_pass_d.specs.Causality.{IsEffect, IsSurprise};
+ghost use Rattle.totem_pass_d.specs.Searched.{IsEffect, IsSurprise};
 ghost use Rattle.totem_pass_d.specs.Suspects.{AreSuspects};
 
 use crate::search::{EachIndex, Finder, Relation, first_found, least_found, only};
 use crate::stay::Stay;
 use crate::stays::Stays;
-use crate::suspects::suspects_of;
+use crate::suspects::{comes_before, suspects_of};
 use std::alloc::{AllocError, Global};
 use std::collections::BTreeSet;
 use totem_evs::{Entry, Places, SpecNo};
@@ -40,10 +40,8 @@ impl Finder for Surprises<'_, '_, '_> {
         let Some(at) = self.stays.delivery_of(stay, self.effect) else {
             return Ok(None);
         };
-        if let Some(before) = self.stays.delivery_of(stay, self.cause) {
-            if before < at {
-                return Ok(None);
-            }
+        if comes_before(self.stays, stay, self.cause, at) {
+            return Ok(None);
         }
         Ok(Some(only(alloc, stay.proc, at)?))
     }
@@ -69,10 +67,7 @@ impl Effects<'_, '_, '_> {
         if stay.proc == self.proc && self.at < at {
             return true;
         }
-        match self.stays.delivery_of(stay, self.cause) {
-            None => false,
-            Some(before) => before < at,
-        }
+        comes_before(self.stays, stay, self.cause, at)
     }
 }
 

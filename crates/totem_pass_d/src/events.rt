@@ -27,11 +27,6 @@ pub trait EventTest {
     /// What it means that the event at an index of a process's log breaks the specification.
     ghost breaks: { Self → ℕ → ℕ → Type 0 };
 
-    /// Does nothing. Its contract says that the specification is broken by such events and by nothing else.
-    fn breaks_alone(&self)
-        requires { AreKnown (among self.now) }
-        ensures { IsBrokenAlone (among self.now).run.now.logs (among self.now).ring (among self.now).list.items spec (breaks self.now) };
-
     /// Returns whether the event at this index of a stay breaks the specification.
     fn breaks_at(&self, stay: &Stay, at: usize) -> bool
         requires known { AreKnown (among self.now) }
@@ -66,7 +61,8 @@ impl<T: EventTest> Relation for OneEvent<'_, T> {
     }
 }
 
-/// Returns the least event that breaks the specification of a test. None is searched for where it is known to be met.
+/// Returns the least event that breaks the specification of a test, which such events break and nothing else. None is searched for
+/// where it is known to be met.
 pub fn least_event<T: EventTest>(
     test: &T,
     alloc: Global,
@@ -75,13 +71,13 @@ pub fn least_event<T: EventTest>(
 ) -> Result<Option<Places>, AllocError>
     requires known { AreKnown stays.now }
     requires among { T.among test.now ≡ stays.now }
+    requires alone { IsBrokenAlone stays.now.run.now.logs stays.now.ring stays.now.list.items T.spec (T.breaks test.now) }
     requires met { OnTrue is_met (MeetsIn stays.now.run.now.logs stays.now.ring T.spec) }
     ensures { IfOk result (FindsIn stays.now.run.now.logs stays.now.ring T.spec) }
 {
     if is_met {
         return Ok(None);
     }
-    test.breaks_alone();
     let relation = OneEvent { test };
     let finder = EachIndex {
         relation: &relation,

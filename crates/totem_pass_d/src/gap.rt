@@ -10,7 +10,7 @@ ghost use Rattle.totem_evs.specs.Answers.{FindsIn};
 ghost use Rattle.totem_pass_d.specs.KnownStays.{AreKnown};
 ghost use Rattle.totem_pass_d.specs.Acts.{IsAmong};
 ghost use Rattle.totem_pass_d.specs.Search.{IsInside, IsOneEvent};
-ghost use Rattle.totem_pass_d.specs.Gaps.{IsLater, TellsMember, IsApart, IsBeyond, AreLasts, IsSettled, IsLack};
+ghost use Rattle.totem_pass_d.specs.Searched.{IsLater, TellsMember, IsApart, IsBeyond, AreLasts, IsSettled, IsLack};
 
 use crate::search::{EachIndex, Finder, Relation, first_found, least_found, only};
 use crate::stay::Stay;

@@ -21,8 +21,6 @@ impl EventTest for Undelivered<'_, '_> {
 
     ghost breaks = { λ s. IsNotOwned s.stays.now.run.now.logs s.stays.now.ring };
 
-    fn breaks_alone(&self) {}
-
     fn breaks_at(&self, stay: &Stay, at: usize) -> bool {
         let Entry::Send(message, _, _) = self.stays.entry_in(stay, at) else {
             return false;

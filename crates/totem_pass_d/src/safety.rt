@@ -51,8 +51,6 @@ impl EventTest for Unreached<'_, '_> {
 
     ghost breaks = { λ s. IsNotReached s.stays.now.run.now.logs s.stays.now.ring };
 
-    fn breaks_alone(&self) {}
-
     fn breaks_at(&self, stay: &Stay, at: usize) -> bool {
         let Entry::Deliver(message, _) = self.stays.entry_in(stay, at) else {
             return false;

@@ -1,10 +1,10 @@
 //! The messages for which 5 may be broken, found by walking back along each sender's log for each receiver
 //! (docs/SPECIFICATIONS.md, "5 Causal delivery"). Other messages need not be searched as causes.
 ghost use Rattle.std.specs.Prelude.{◌≡◌, IfSome, IfNone, IfOk, OnOk, length};
-ghost use Rattle.std.specs.Bool.{OnTrue};
+ghost use Rattle.std.specs.Bool.{OnTrue, OnFalse};
 ghost use Rattle.totem_pass_d.specs.KnownStays.{AreKnown};
 ghost use Rattle.totem_pass_d.specs.Acts.{IsAmong};
-ghost use Rattle.totem_pass_d.specs.Suspects.{Handles, HandlesNothing, ComesBefore, IsEarlier, IsNoted, HasAllOf, AreNoted, AreSuspects};
+ghost use Rattle.totem_pass_d.specs.Suspects.{Handles, HandlesNothing, ComesBefore, ComesNotBefore, IsEarlier, IsNoted, HasAllOf, AreNoted, AreSuspects};
 
 use crate::stay::Stay;
 use crate::stays::Stays;
@@ -25,11 +25,11 @@ fn handled(entry: &Entry) -> Option<MsgId>
 }
 
 /// Returns whether the receiver delivers the message before this index of its log.
-#[tactic(auto, using(crate::proofs::CausalityFaults::comes_if_before))]
-fn comes_before(stays: &Stays, receiver: &Stay, message: &MsgId, index: usize) -> bool
+pub fn comes_before(stays: &Stays, receiver: &Stay, message: &MsgId, index: usize) -> bool
     requires known { AreKnown stays.now }
     requires among { IsAmong stays.now.list.items receiver.now }
-    ensures { OnTrue result (ComesBefore stays.now.run.now.logs stays.now.ring receiver.now.proc message.now index) }
+    ensures there { OnTrue result (ComesBefore stays.now.run.now.logs stays.now.ring receiver.now.proc message.now index) }
+    ensures never { OnFalse result (ComesNotBefore stays.now.run.now.logs stays.now.ring receiver.now.proc message.now index) }
 {
     match stays.delivery_of(receiver, message) {
         Some(at) => at < index,

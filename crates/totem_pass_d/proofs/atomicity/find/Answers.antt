@@ -1,6 +1,6 @@
 use Rattle.totem_evs.specs.declared.spec.SpecNo.TheVariants as spec
 use Rattle.totem_pass_d.proofs.Facts.{facts_of}
-use Rattle.totem_pass_d.proofs.Rests.{answered}
+use Rattle.totem_pass_d.proofs.Searching.{answered}
 use Rattle.totem_pass_d.proofs.AtomicityFaults.{deliveries_begin, atomic}
 use Rattle.totem_pass_d.proofs.atomicity.find.Goals as goal
 

@@ -1,6 +1,6 @@
 use Rattle.totem_evs.specs.declared.spec.SpecNo.TheVariants as spec
 use Rattle.totem_pass_d.proofs.Facts.{facts_of}
-use Rattle.totem_pass_d.proofs.Rests.{answered}
+use Rattle.totem_pass_d.proofs.Searching.{answered}
 use Rattle.totem_pass_d.proofs.GapFaults.{gaps_begin, no_gaps}
 use Rattle.totem_pass_d.proofs.gap.find.Goals as goal
 

@@ -1,5 +1,5 @@
 use Rattle.std.proofs.Common.{sym, ◌∙◌, arith}
-use Rattle.totem_pass_d.proofs.Indexing.{one_entered, nothing_told}
+use Rattle.totem_pass_d.proofs.Sending.{one_entered, nothing_told}
 use Rattle.totem_pass_d.proofs.indexes.by_message.Goals.{in-Some+in_ok-insert, in_default}
 use Rattle.totem_pass_d.proofs.indexes.by_message.Goals as goal
 

@@ -1,6 +1,6 @@
 use Rattle.std.proofs.Common.{refl}
 use Rattle.totem_pass_d.proofs.Facts.{facts_of}
-use Rattle.totem_pass_d.proofs.Rests.{started}
+use Rattle.totem_pass_d.proofs.Searching.{started}
 use Rattle.totem_pass_d.proofs.CausalityFaults.{send_here, surprises_begin, effect_starts}
 use Rattle.totem_pass_d.proofs.causality.EffectsRelation.rest.Goals as goal
 

@@ -1,5 +1,5 @@
 use Rattle.totem_pass_d.proofs.Facts.{facts_of}
-use Rattle.totem_pass_d.proofs.Rests.{started}
+use Rattle.totem_pass_d.proofs.Searching.{started}
 use Rattle.totem_pass_d.proofs.GapFaults.{lacks_begin, lack_starts}
 use Rattle.totem_pass_d.proofs.gap.LaterRelation.rest.Goals as goal
 

@@ -1,6 +1,6 @@
 use Rattle.std.proofs.Common.{sym, ◌∙◌}
 use Rattle.totem_pass_d.specs.Indexes.{told}
-use Rattle.totem_pass_d.proofs.Indexing.{untold_never}
+use Rattle.totem_pass_d.proofs.Sending.{untold_never}
 use Rattle.totem_pass_d.proofs.indexes.Indexes.index_of.Goals as goal
 
 pub returns-in_err-at-clause-none : goal.returns-in_err-at-clause-none

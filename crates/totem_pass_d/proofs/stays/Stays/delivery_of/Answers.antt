@@ -1,5 +1,5 @@
 use Rattle.totem_pass_d.proofs.Facts.{facts_of}
-use Rattle.totem_pass_d.proofs.Indexing.{delivery_is, no_delivery}
+use Rattle.totem_pass_d.proofs.Sending.{delivery_is, no_delivery}
 use Rattle.totem_pass_d.proofs.stays.Stays.delivery_of.Goals as goal
 
 pub index_of-requires : goal.index_of-requires
