@@ -14,7 +14,7 @@ use Rattle.totem_evs.specs.Events.{log_of, IsChange}
 use Rattle.totem_table.specs.declared.keys.Change.{Change}
 use Rattle.totem_pass_ab.specs.Met.{IsMet}
 use Rattle.totem_table.specs.Registers.{Keeps, KnowsRun}
-use Rattle.totem_pass_ab.specs.Forms.{KnowsChange}
+use Rattle.totem_pass_ab.specs.Noted.{KnowsChange}
 use Rattle.totem_table.specs.Search.{place, HoldsOfNone}
 use Rattle.totem_pass_ab.specs.Pairs.{IsOne}
 use Rattle.totem_pass_ab.specs.Bad.{AreTwoForms}

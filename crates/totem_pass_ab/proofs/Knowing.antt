@@ -1,20 +1,16 @@
 -- What is known about the values that were recorded under a key stays known.
-use Rattle.std.proofs.Common.{◌≡◌, inl, inr, List, [], ◌∷◌, Option, Some, None, Bool, true, refl, ◌∙◌}
+use Rattle.std.proofs.Common.{◌≡◌, inl, inr, Option, Some, None, true, refl, sym, ◌∙◌}
 use Rattle.std.specs.declared.cmp.Ordering.{Ordering}
 use Rattle.std.specs.Cmp.{IsTotalOrder}
-use Rattle.std.specs.Map.{lookup}
+use Rattle.std.specs.HashMap.Eq.{lookup_congr}
 use Rattle.std.specs.BTreeMap.{BTreeMap, is_at, IsUnchanged}
 use Rattle.std.specs.BTreeMap as tree
 use Rattle.totem_ids.proofs.Exact.{equal_at, apart_or_at}
 use Rattle.totem_pass_ab.specs.Met.{IsMet, Knows}
 
-lookup_alike : {K X : Type 0} (f g : K → Bool) (es : List (K × X)) → ((x : K) → f x ≡ g x) → lookup f es ≡ lookup g es
-lookup_alike f g [] same = refl
-lookup_alike f g (e ∷ es) same = rw (same e.0, lookup_alike f g es same) refl
-
 -- equal keys have one value
-pub same_get : {K X : Type 0} (cmp : K → K → Ordering) → IsTotalOrder cmp → (m : BTreeMap K X) (k q : K) → is_at (cmp k) q ≡ true → tree.get cmp m q ≡ tree.get cmp m k
-same_get cmp total m k q e = lookup_alike (is_at (cmp q)) (is_at (cmp k)) m.entries (λ x. let same = total.congr k q x (equal_at (cmp k q) e) in cc)
+same_get : {K X : Type 0} (cmp : K → K → Ordering) → IsTotalOrder cmp → (m : BTreeMap K X) (k q : K) → is_at (cmp k) q ≡ true → tree.get cmp m q ≡ tree.get cmp m k
+same_get cmp total m k q e = sym (lookup_congr (λ x. is_at (cmp x)) (λ x y z at. let same = total.congr x y z (equal_at (cmp x y) at) in cc) m.entries k q e)
 
 module _ {K V : Type 0} (cmp : K → K → Ordering) (total : IsTotalOrder cmp) where
   unchanged : (m n : BTreeMap K (Option V)) → IsUnchanged m n → (q : K) → tree.get cmp n q ≡ tree.get cmp m q

@@ -21,7 +21,7 @@ use Rattle.totem_pass_ab.specs.declared.keys.Delivery.{Delivery}
 use Rattle.totem_pass_ab.specs.Met.{IsMet, Knows}
 use Rattle.totem_run_rules.specs.Orderly.{DeliveriesAreOnce, SendsAreOnce}
 use Rattle.totem_table.specs.Registers.{Keeps, KnowsRun}
-use Rattle.totem_pass_ab.specs.Repeats.{DeliverOnceBut, DeliversEachOnce, KnowsAct}
+use Rattle.totem_pass_ab.specs.Noted.{DeliverOnceBut, DeliversEachOnce, KnowsAct}
 use Rattle.totem_table.specs.Search.{place, HoldsOfNone}
 use Rattle.totem_pass_ab.specs.Pairs.{IsOne}
 use Rattle.totem_pass_ab.specs.Bad.{AreTwice}

@@ -38,8 +38,7 @@ use Rattle.totem_pass_ab.specs.declared.keys.Sending.{Sending}
 use Rattle.totem_pass_ab.specs.contracts.keys.SendingOrd.TheImpl as by_sending
 use Rattle.totem_table.specs.declared.keys.Change.{Change}
 use Rattle.totem_table.specs.Registers.{StaysSound, KnowsLog}
-use Rattle.totem_pass_ab.specs.Sendings.{WereSent}
-use Rattle.totem_pass_ab.specs.Followed.{KnowsRegularChange, AreFollowed}
+use Rattle.totem_pass_ab.specs.Noted.{WereSent, KnowsRegularChange, AreFollowed}
 use Rattle.totem_ids.proofs.Exact.{equal_at, apart_or_at, both_equal, exact_ring, exact_message}
 use Rattle.totem_table.proofs.Exact.{change_by}
 

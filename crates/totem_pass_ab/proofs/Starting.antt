@@ -1,5 +1,5 @@
 -- Lists that begin with an event of the run, and what follows from a search among them.
-use Rattle.std.proofs.Common.{◌≡◌, ℕ, ◌+◌, ◌<◌, List, [], ◌∷◌, length, slice_get, Option, Some, None, MatchOption, Bool, true, false, not, IsTrue, ◌↔◌, refl, ap, arith}
+use Rattle.std.proofs.Common.{◌≡◌, ℕ, ◌+◌, ◌<◌, List, [], ◌∷◌, length, slice_get, Option, Some, None, MatchOption, Bool, true, false, not, IsTrue, ◌↔◌, refl, arith}
 use Rattle.std.specs.Bool.{OnFalse}
 use Rattle.std.proofs.lemmas.Grind.{not_there}
 use Rattle.std.proofs.lemmas.Option.{slice_get_within}
@@ -9,7 +9,7 @@ use Rattle.totem_evs.specs.declared.log.Log.{Log}
 use Rattle.totem_evs.specs.Events.{log_of}
 use Rattle.totem_evs.specs.Answers.{IsLeast}
 use Rattle.totem_table.specs.Search.{place, NoneFrom, IsLeastFrom, NoneOf, IsLeastOf, HoldsOfNone}
-use Rattle.totem_pass_ab.specs.Pairs.{Has, IsOne, IsOneOrTwo}
+use Rattle.totem_pass_ab.specs.Pairs.{IsOne, IsOneOrTwo}
 
 -- the list begins at an entry of p's log
 pub record Begins (run : List Log) (places : List Place) : Type 0 where
@@ -23,11 +23,8 @@ pub record Begins (run : List Log) (places : List Place) : Type 0 where
 pub record EachBegins (run : List Log) (H : List Place → Type 0) : Type 0 where
   pub each : (places : List Place) → H places → Begins run places
 
-place_at : (e : Place) (i : ℕ) → e.at ≡ i + 1 → e ≡ place e.proc i
-place_at e i is = rw (← is) refl
-
 pub begins_at : (run : List Log) (e : Place) (i : ℕ) (rest : List Place) → e.at ≡ i + 1 → i < length (log_of run e.proc) → Begins run (e ∷ rest)
-begins_at run e i rest is lt = record { proc = e.proc; index = i; rest = rest; within = lt; is = ap (λ (f : Place). f ∷ rest) (place_at e i is) }
+begins_at run e i rest is lt = record { proc = e.proc; index = i; rest = rest; within = lt; is = rw (← is) refl }
 
 pub least_of_all : (run : List Log) (H : List Place → Type 0) (places : List Place) → EachBegins run H → IsLeastOf run H places → IsLeast H places
 least_of_all run H places begins least = record {
@@ -38,14 +35,11 @@ least_of_all run H places begins least = record {
 pub none_of_all : (run : List Log) (H : List Place → Type 0) → EachBegins run H → NoneOf run H → HoldsOfNone H
 none_of_all run H begins never = record { none = λ others h. let b = begins.each others h in never.none b.proc b.index b.rest b.within (rw b.is at h) }
 
-has_within : (run : List Log) (P : ℕ → ℕ → Entry → Type 0) (p i : ℕ) → Has run P p i → i < length (log_of run p)
-has_within run P p i (x, at, h) = slice_get_within (log_of run p) i x at
-
 pub one_begins : (run : List Log) (P : ℕ → ℕ → Entry → Type 0) → EachBegins run (IsOne run P)
 one_begins run P = record { each = λ places h. go places h }
   where
     go : (places : List Place) → IsOne run P places → Begins run places
-    go (e ∷ []) (i, is, h) = begins_at run e i [] is (has_within run P e.proc i h)
+    go (e ∷ []) (i, is, (x, at, h)) = begins_at run e i [] is (slice_get_within (log_of run e.proc) i x at)
     go places h = absurd h
 
 pub one_or_two_begins : (run : List Log) (A : ℕ → ℕ → Entry → Type 0) (P : ℕ → ℕ → Entry → ℕ → ℕ → Entry → Type 0) → EachBegins run (IsOneOrTwo run A P)
@@ -53,8 +47,8 @@ one_or_two_begins run A P = record { each = λ places h. go places h }
   where
     go : (places : List Place) → IsOneOrTwo run A P places → Begins run places
     go [] h = absurd h
-    go (e ∷ []) (i, is, h) = begins_at run e i [] is (has_within run A e.proc i h)
-    go (e ∷ f ∷ rest) (i, is, h) = begins_at run e i (f ∷ rest) is (has_within run (λ p i x. IsOne run (P p i x) (f ∷ rest)) e.proc i h)
+    go (e ∷ []) (i, is, (x, at, h)) = begins_at run e i [] is (slice_get_within (log_of run e.proc) i x at)
+    go (e ∷ f ∷ rest) (i, is, (x, at, h)) = begins_at run e i (f ∷ rest) is (slice_get_within (log_of run e.proc) i x at)
 
 -- what a search found, as places
 pub told_as_places : {V : Type 0} (items : V → List Place) (found : Option V) (places : Option (List Place)) (Told : Option (List Place) → Type 0) (A : Type 0) (P : V → Type 0)

@@ -29,7 +29,7 @@ use Rattle.std.specs.Cmp.{IsTotalOrder}
 use Rattle.std.specs.BTreeMap.{BTreeMap}
 use Rattle.std.specs.BTreeMap as tree
 use Rattle.totem_pass_ab.specs.Met.{IsMet}
-use Rattle.totem_pass_ab.specs.Origins.{KnowsOrigin}
+use Rattle.totem_pass_ab.specs.Noted.{KnowsOrigin}
 use Rattle.totem_table.specs.Registers.{Keeps, KnowsRun}
 use Rattle.totem_pass_ab.proofs.Knowing.{meets_knows, meets_keeps}
 

@@ -3,8 +3,4 @@ pub mod Bad
 pub mod Turns
 pub mod Listed
 pub mod Met
-pub mod Repeats
-pub mod Forms
-pub mod Origins
-pub mod Sendings
-pub mod Followed
+pub mod Noted

@@ -4,7 +4,7 @@ ghost use Rattle.totem_evs.specs.Answers.{Finds};
 ghost use Rattle.totem_table.specs.Changes.{AreChanges};
 ghost use Rattle.totem_pass_ab.specs.Bad.{IsForeignChange, AreTwoForms};
 ghost use Rattle.totem_table.specs.Registers.{KnowsRun};
-ghost use Rattle.totem_pass_ab.specs.Forms.{KnowsChange};
+ghost use Rattle.totem_pass_ab.specs.Noted.{KnowsChange};
 
 use crate::forms::Forms;
 use crate::met::Met;

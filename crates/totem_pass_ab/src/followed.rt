@@ -1,6 +1,6 @@
 //! Which regular configuration each transitional one follows in a log (docs/SPECIFICATIONS.md, "Following").
 ghost use Rattle.std.specs.Prelude.{◌≡◌, ◌↔◌, IsTrue};
-ghost use Rattle.totem_pass_ab.specs.Followed.{KnowsRegularChange, AreFollowed};
+ghost use Rattle.totem_pass_ab.specs.Noted.{KnowsRegularChange, AreFollowed};
 
 use crate::kinds::is_transitional;
 use crate::neighbours::succession_at;

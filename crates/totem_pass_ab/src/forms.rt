@@ -1,6 +1,6 @@
 //! Where each process changed to each configuration, and with which members.
 ghost use Rattle.std.specs.Prelude.{◌≡◌, ℕ, ◌<◌, List};
-ghost use Rattle.totem_pass_ab.specs.Forms.{KnowsChange};
+ghost use Rattle.totem_pass_ab.specs.Noted.{KnowsChange};
 
 use crate::met::{Met, Same};
 use std::alloc::{AllocError, Global};

@@ -1,5 +1,5 @@
 //! The rings from which logs come to each configuration.
-ghost use Rattle.totem_pass_ab.specs.Origins.{KnowsOrigin};
+ghost use Rattle.totem_pass_ab.specs.Noted.{KnowsOrigin};
 
 use crate::met::{Met, Same};
 use crate::neighbours::succession_at;

@@ -1,6 +1,6 @@
 //! Where each message was sent, and where each process delivered it.
 ghost use Rattle.std.specs.Prelude.{◌≡◌, ◌↔◌, ℕ, ◌<◌, List, Contains, IsTrue};
-ghost use Rattle.totem_pass_ab.specs.Repeats.{DeliverOnceBut, KnowsAct};
+ghost use Rattle.totem_pass_ab.specs.Noted.{DeliverOnceBut, KnowsAct};
 
 use crate::keys::Delivery;
 use crate::met::{Met, Same};

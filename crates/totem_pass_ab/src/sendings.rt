@@ -1,7 +1,7 @@
 //! Which messages were sent in which regular configuration.
 ghost use Rattle.std.specs.Prelude.{◌≡◌, ◌↔◌, IsTrue};
 ghost use Rattle.std.specs.BTreeSet.{contains};
-ghost use Rattle.totem_pass_ab.specs.Sendings.{KnowsSend, WereSent};
+ghost use Rattle.totem_pass_ab.specs.Noted.{KnowsSend, WereSent};
 
 use crate::keys::Sending;
 use std::alloc::{AllocError, Global};

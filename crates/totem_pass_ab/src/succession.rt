@@ -5,7 +5,7 @@ ghost use Rattle.totem_evs.specs.ChangeFaults.{BeginsTransitional};
 ghost use Rattle.totem_evs.specs.Answers.{Finds};
 ghost use Rattle.totem_table.specs.Changes.{AreChanges};
 ghost use Rattle.totem_table.specs.Registers.{KnowsRun};
-ghost use Rattle.totem_pass_ab.specs.Origins.{KnowsOrigin};
+ghost use Rattle.totem_pass_ab.specs.Noted.{KnowsOrigin};
 ghost use Rattle.totem_pass_ab.specs.Turns.{IsTurnFault, IsOtherOrigin, IsOfOtherRing};
 
 use crate::kinds::is_transitional;

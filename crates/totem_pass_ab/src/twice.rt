@@ -5,7 +5,7 @@ ghost use Rattle.std.specs.Bool.{OnTrue};
 ghost use Rattle.totem_evs.specs.Answers.{Finds};
 ghost use Rattle.totem_pass_ab.specs.Bad.{IsSendBetween, AreTwice};
 ghost use Rattle.totem_table.specs.Registers.{KnowsRun};
-ghost use Rattle.totem_pass_ab.specs.Repeats.{DeliverOnceBut, KnowsAct};
+ghost use Rattle.totem_pass_ab.specs.Noted.{DeliverOnceBut, KnowsAct};
 
 use crate::keys::Delivery;
 use crate::kinds::is_transitional;

@@ -7,8 +7,7 @@ ghost use Rattle.totem_evs.specs.DeliveryFaults.{BreaksUnsent};
 ghost use Rattle.totem_table.specs.Changes.{AreChanges};
 ghost use Rattle.totem_pass_ab.specs.Pairs.{IsOne};
 ghost use Rattle.totem_run_rules.specs.Sent.{IsSendTo, WasSentTo};
-ghost use Rattle.totem_pass_ab.specs.Sendings.{WereSent};
-ghost use Rattle.totem_pass_ab.specs.Followed.{AreFollowed};
+ghost use Rattle.totem_pass_ab.specs.Noted.{WereSent, AreFollowed};
 
 use crate::follow::is_in;
 use crate::followed::Followed;

@@ -1,0 +1,63 @@
+-- What is noted of a run, so that few entries need a search (docs/SPECIFICATIONS.md, "1 Basic delivery", "2 Changes of configuration",
+-- "Following").
+use Rattle.std.specs.Prelude.{◌≡◌, ℕ, List, Option, Contains, IsTrue, Some}
+use Rattle.std.specs.declared.cmp.Ordering.{Ordering}
+use Rattle.std.specs.BTreeMap.{BTreeMap}
+use Rattle.totem_ids.specs.declared.message.MsgId.{MsgId}
+use Rattle.totem_ids.specs.declared.conf.ConfId.{ConfId}
+use Rattle.totem_ids.specs.declared.place.Place.{Place}
+use Rattle.totem_evs.specs.declared.entry.Entry.{Entry}
+use Rattle.totem_evs.specs.declared.log.Log.{Log}
+use Rattle.totem_evs.specs.Events.{Sends, Delivers, log_of, ChangesWith, WasSentIn, ChangesTo}
+use Rattle.totem_pass_ab.specs.declared.keys.Delivery.{Delivery}
+use Rattle.totem_pass_ab.specs.Met.{Knows}
+use Rattle.totem_table.specs.Search.{place}
+use Rattle.totem_table.specs.declared.keys.Change.{Change}
+use Rattle.totem_ids.specs.declared.ring.RingId.{RingId}
+use Rattle.totem_ids.specs.declared.conf.ConfId.TheVariants.{Regular}
+use Rattle.totem_evs.specs.Changes.{ChangesNext}
+use Rattle.std.specs.BTreeSet.{BTreeSet}
+use Rattle.std.specs.BTreeSet as sorted
+use Rattle.totem_pass_ab.specs.declared.keys.Sending.{Sending}
+use Rattle.std.specs.BTreeMap as tree
+use Rattle.totem_evs.specs.Following.{Follows}
+
+-- the place of p's entry is recorded under the message that it sends, or under its delivery by p, if p is doubtful
+pub record KnowsAct (by_message : MsgId → MsgId → Ordering) (by_delivery : Delivery → Delivery → Ordering) (sends : BTreeMap MsgId (Option Place)) (deliveries : BTreeMap Delivery (Option Place))
+    (doubtful : List ℕ) (p : ℕ) (log : List Entry) (i : ℕ) : Type 0 where
+  pub sent : (m : MsgId) (x : ConfId) → Sends log i m x → Knows by_message sends m (place p i)
+  pub delivered : Contains doubtful p → (m : MsgId) (x : ConfId) → Delivers log i m x → Knows by_delivery deliveries (record { proc = p; message = m }) (place p i)
+
+-- the log delivers each message once
+abbrev pub DeliversEachOnce : List Entry → Type 0
+DeliversEachOnce log = (i j : ℕ) (m : MsgId) (x y : ConfId) → Delivers log i m x → Delivers log j m y → i ≡ j
+
+-- all processes but the doubtful ones deliver each message once
+pub record DeliverOnceBut (doubtful : List ℕ) (run : List Log) : Type 0 where
+  pub each : (p : ℕ) → (Contains doubtful p → ⊥) → DeliversEachOnce (log_of run p)
+
+-- the place of p's change is recorded under p and its configuration, and the members under the configuration
+pub record KnowsChange (by_change : Change → Change → Ordering) (by_conf : ConfId → ConfId → Ordering) (changes : BTreeMap Change (Option Place)) (members : BTreeMap ConfId (Option (List ℕ)))
+    (p : ℕ) (log : List Entry) (i : ℕ) : Type 0 where
+  pub placed : (x : ConfId) (ms : List ℕ) → ChangesWith log i x ms → Knows by_change changes (record { proc = p; conf = x }) (place p i)
+  pub formed : (x : ConfId) (ms : List ℕ) → ChangesWith log i x ms → Knows by_conf members x ms
+
+-- the ring of the regular configuration at i is recorded under the configuration that the log changes to next
+pub record KnowsOrigin (by_conf : ConfId → ConfId → Ordering) (rings : BTreeMap ConfId (Option RingId)) (p : ℕ) (log : List Entry) (i : ℕ) : Type 0 where
+  pub each : (j : ℕ) (c : RingId) (t : ConfId) (ms ns : List ℕ) → ChangesNext log i j (Regular c) t ms ns → Knows by_conf rings t c
+
+-- if the entry at i is a send in a regular configuration, the set has it
+pub record KnowsSend (by_sending : Sending → Sending → Ordering) (sends : BTreeSet Sending) (log : List Entry) (i : ℕ) : Type 0 where
+  pub each : (m : MsgId) (c : RingId) → Sends log i m (Regular c) → IsTrue (sorted.contains by_sending sends (record { message = m; ring = c }))
+
+-- each message in the set was sent in its configuration
+pub record WereSent (by_sending : Sending → Sending → Ordering) (sends : BTreeSet Sending) (run : List Log) : Type 0 where
+  pub each : (k : Sending) → IsTrue (sorted.contains by_sending sends k) → WasSentIn run k.message (Regular k.ring)
+
+-- if p's entry i is a change to a regular configuration, the set has it
+pub record KnowsRegularChange (by_change : Change → Change → Ordering) (changes : BTreeSet Change) (p : ℕ) (log : List Entry) (i : ℕ) : Type 0 where
+  pub each : (c : RingId) → ChangesTo log i (Regular c) → IsTrue (sorted.contains by_change changes (record { proc = p; conf = Regular c }))
+
+-- each configuration in the map follows the regular one of its ring in the log of its process
+pub record AreFollowed (by_change : Change → Change → Ordering) (rings : BTreeMap Change RingId) (run : List Log) : Type 0 where
+  pub each : (v : Change) (c : RingId) → tree.get by_change rings v ≡ Some c → Follows (log_of run v.proc) c v.conf
