@@ -108,16 +108,13 @@ only_event Reaches Fact stay k places fact one is = record {
   none_before = record { none = λ i lt rest reached h. let same = one i (event_at Fact stay.proc i rest h) in omega arith };
 }
 
-place_is : (e : Place) (p i : ℕ) → p ≡ e.proc → e.at ≡ i + 1 → e ≡ place p i
-place_is e p i proc at = rw (proc, ← at) refl
-
 pub begins_inside : (Fact : ℕ → ℕ → Type 0) (stays : List Stay) → EachStandsInside stays Fact → EachBeginsWithin stays IsInside (IsOneEvent Fact)
 begins_inside Fact stays stand = record { each = λ places h. go places h }
   where
     go : (places : List Place) → IsOneEvent Fact places → BeginsWithin stays IsInside places
     go (e ∷ []) at =
         let s = stand.each e.proc at.0 at.2 in
-        record { stay = s.stay; among = s.among; index = at.0; reached = s.inside; rest = []; is = ap (λ (f : Place). f ∷ []) (place_is e s.stay.proc at.0 s.proc at.1) }
+        record { stay = s.stay; among = s.among; index = at.0; reached = s.inside; rest = []; is = rw (s.proc, ← at.1) refl }
     go places h = absurd h
 
 least_of_one : (H : List Place → Type 0) (Fact : ℕ → ℕ → Type 0) (places : List Place) → IsOfOne H Fact → IsLeast (IsOneEvent Fact) places → IsLeast H places
