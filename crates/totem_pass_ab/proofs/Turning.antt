@@ -18,7 +18,7 @@ use Rattle.totem_table.specs.Search.{place, NoneFrom, IsLeastFrom, HoldsOfNone}
 use Rattle.totem_evs.specs.Following.{IsNextOrEnd}
 use Rattle.totem_evs.proofs.NextChanges.{no_change, one_next}
 use Rattle.totem_run_rules.specs.Succession.{IsWrongSuccession}
-use Rattle.totem_pass_ab.specs.Turns.{HasNoSuccession, IsOfOtherRing, ComesFromElsewhere, IsOtherOrigin, IsTurnRest, IsTurnFault}
+use Rattle.totem_pass_ab.specs.Turns.{HasNoSuccession, IsOfOtherRing, IsOtherOrigin, IsTurnRest, IsTurnFault}
 use Rattle.totem_evs.proofs.LogOf.{less_or_not}
 use Rattle.totem_pass_ab.proofs.Starting.{Begins, EachBegins, begins_at}
 use Rattle.totem_ids.proofs.Orderings.{place_strict}

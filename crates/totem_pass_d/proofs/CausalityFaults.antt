@@ -1,6 +1,6 @@
 -- The list found for 5 is the least that breaks it: a cause, its effect, and a delivery of the effect without the cause
 -- before it. Only suspects have to be searched as causes: they are found by walks back along the logs.
-use Rattle.std.proofs.Common.{◌≡◌, ℕ, ◌<◌, ◌≤◌, inl, inr, List, [], ◌∷◌, slice_get, Some, Bool, false, IsTrue, ◌↔◌, refl, sym, arith, rules, nat_lt, ◌⊎◌, zero, suc, ◌+◌, length, true, ◌∙◌}
+use Rattle.std.proofs.Common.{◌≡◌, ℕ, ◌<◌, ◌≤◌, inl, inr, List, [], ◌∷◌, slice_get, Some, Bool, false, IsTrue, ◌↔◌, refl, sym, arith, nat_lt, ◌⊎◌, zero, suc, ◌+◌, length, true, ◌∙◌}
 use Rattle.totem_ids.specs.declared.ring.RingId.{RingId}
 use Rattle.totem_ids.specs.declared.conf.ConfId.{ConfId}
 use Rattle.totem_ids.specs.declared.conf.ConfId.TheVariants.{Regular}

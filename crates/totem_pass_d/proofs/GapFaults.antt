@@ -9,7 +9,6 @@ use Rattle.totem_ids.specs.declared.conf.ConfId.{ConfId}
 use Rattle.totem_ids.specs.declared.conf.ConfId.TheVariants.{Regular}
 use Rattle.totem_ids.specs.declared.message.MsgId.{MsgId}
 use Rattle.totem_ids.specs.declared.place.Place.{Place}
-use Rattle.totem_evs.specs.declared.entry.Entry.{Entry}
 use Rattle.totem_evs.specs.declared.entry.Entry.TheVariants.{Deliver}
 use Rattle.totem_evs.specs.declared.log.Log.{Log}
 use Rattle.totem_evs.specs.Events.{log_of, Delivers, WasSentIn}
@@ -17,7 +16,7 @@ use Rattle.totem_evs.specs.Following.{Com, DeliversIn, HasDelivered}
 use Rattle.totem_evs.specs.RingAgreement.{NoGapsIn}
 use Rattle.totem_evs.specs.RingFaults.{BreaksGapIn}
 use Rattle.totem_evs.specs.AgreementFaults.{IsGap}
-use Rattle.totem_evs.specs.Answers.{ComesFirst, IsLeast, MeetsPasses}
+use Rattle.totem_evs.specs.Answers.{ComesFirst, MeetsPasses}
 use Rattle.totem_evs.proofs.LogOf.{less_or_not}
 use Rattle.totem_evs.proofs.Pushing.{Along}
 use Rattle.totem_traffic_rules.proofs.Rowing.{before_or_at}

@@ -1,5 +1,5 @@
 -- What the stays send and deliver, noted entry by entry and stay by stay.
-use Rattle.std.proofs.Common.{◌≡◌, ℕ, ◌+◌, ◌<◌, inl, inr, List, length, slice_get, Some, None, true, refl, sym, ◌∙◌, ap, arith, below_more, Option}
+use Rattle.std.proofs.Common.{◌≡◌, ℕ, ◌+◌, ◌<◌, inl, inr, List, length, slice_get, Some, None, true, refl, sym, ◌∙◌, ap, below_more, Option}
 use Rattle.std.specs.BTreeMap.{BTreeMap}
 use Rattle.std.specs.BTreeMap as tree
 use Rattle.std.proofs.lemmas.Option.{slice_get_within}

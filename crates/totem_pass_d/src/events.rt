@@ -61,8 +61,8 @@ impl<T: EventTest> Relation for OneEvent<'_, T> {
     }
 }
 
-/// Returns the least event that breaks the specification of a test, which such events break and nothing else. None is searched for
-/// where it is known to be met.
+/// Returns the least event that breaks the specification of a test, which only single events may break. None is searched for where it
+/// is known to be met.
 pub fn least_event<T: EventTest>(
     test: &T,
     alloc: Global,
