@@ -20,7 +20,8 @@ use Rattle.totem_pass_d.specs.declared.stay.Stay.{Stay}
 use Rattle.totem_pass_d.specs.Acts.{IsAmong, DeliversNot}
 use Rattle.totem_pass_d.specs.Search.{IsInside, EachBeginsWithin, NoneWithin, IsLeastWithin, BeginsWithin, IsOneEvent}
 use Rattle.totem_pass_d.specs.Searched.{IsSurprise, IsEffect}
-use Rattle.totem_pass_d.proofs.Deciding.{both_or_not, below_or_not, delivery_or_not}
+use Rattle.totem_pass_d.proofs.Deciding.{delivery_or_not}
+use Rattle.totem_run_rules.proofs.Decisions.{both_or_not, below_or_not}
 use Rattle.totem_run_rules.proofs.SentOrNot.{in_or_not}
 use Rattle.totem_pass_d.proofs.Facts.{Facts, delivery_inside}
 use Rattle.totem_pass_d.proofs.Searching.{no_event, only_event, begins_inside, Starts, sends_there, there_sends, index_of, begins_at}

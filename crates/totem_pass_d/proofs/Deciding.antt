@@ -1,6 +1,5 @@
 -- Deciding whether a log has an entry of some kind.
-use Rattle.std.proofs.Common.{◌≡◌, ℕ, ◌<◌, ◌⊎◌, inl, inr, List, slice_get, Some, refl, arith}
-use Rattle.std.proofs.lemmas.Bool.{cases_lt}
+use Rattle.std.proofs.Common.{◌≡◌, ℕ, ◌⊎◌, inl, inr, List, slice_get, Some, refl}
 use Rattle.totem_ids.specs.declared.ring.RingId.{RingId}
 use Rattle.totem_ids.specs.declared.conf.ConfId.{ConfId}
 use Rattle.totem_ids.specs.declared.message.MsgId.{MsgId}
@@ -8,16 +7,8 @@ use Rattle.totem_evs.specs.declared.entry.Entry.{Entry}
 use Rattle.totem_evs.specs.declared.entry.Entry.TheVariants.{Conf, Deliver}
 use Rattle.totem_evs.specs.Events.{ChangesTo, Delivers}
 use Rattle.totem_evs.specs.Following.{Com, HasDelivered}
+use Rattle.totem_run_rules.proofs.Decisions.{both_or_not}
 use Rattle.totem_run_rules.proofs.SentOrNot.{first_or_none, same_message_or_not, change_to_or_not, change_of, in_or_not}
-
--- both hold, or not both
-pub both_or_not : {A B : Type 0} → A ⊎ (A → ⊥) → B ⊎ (B → ⊥) → (A × B) ⊎ (A × B → ⊥)
-both_or_not (inl a) (inl b) = inl (a, b)
-both_or_not (inl a) (inr never) = inr (λ h. never h.1)
-both_or_not (inr never) b = inr (λ h. never h.0)
-
-pub below_or_not : (a b : ℕ) → (a < b) ⊎ (a < b → ⊥)
-below_or_not a b = elim (cases_lt a b) [ inl lt ↦ inl lt | inr le ↦ inr (λ lt. omega arith) ]
 
 -- a change to x
 pub changes_or_not : (log : List Entry) (x : ConfId) → ((i : ℕ) × ChangesTo log i x) ⊎ ((i : ℕ) → ChangesTo log i x → ⊥)

@@ -26,7 +26,8 @@ use Rattle.totem_evs.specs.Answers.{MeetsPasses}
 use Rattle.totem_pass_d.specs.Acts.{HasCome, NeverComes, DeliversNot}
 use Rattle.totem_pass_d.specs.Search.{IsInside, IsBrokenAlone}
 use Rattle.totem_pass_d.specs.Reached.{IsSafeIn, AreMembersAt, HoldsNotOfAll}
-use Rattle.totem_pass_d.proofs.Deciding.{both_or_not, changes_or_not, has_delivered_or_not}
+use Rattle.totem_pass_d.proofs.Deciding.{changes_or_not, has_delivered_or_not}
+use Rattle.totem_run_rules.proofs.Decisions.{both_or_not}
 use Rattle.totem_pass_d.proofs.Facts.{Facts, StayFacts, at_turn_no_name}
 use Rattle.totem_pass_d.proofs.Reaching.{is_among_members, is_member, safe_in}
 
