@@ -1,49 +1,25 @@
 -- Entering a run in a register, log by log and entry by entry.
-use Rattle.std.proofs.Common.{◌≡◌, ℕ, ◌+◌, ◌<◌, ◌≤◌, ◌⊎◌, inl, inr, List, [], length, slice_get, Some, arith}
+use Rattle.std.proofs.Common.{below_more, ◌≡◌, ℕ, ◌+◌, ◌<◌, ◌≤◌, ◌⊎◌, inl, inr, List, [], length, slice_get, Some, arith}
 use Rattle.std.proofs.lemmas.Option.{slice_get_within}
 use Rattle.totem_evs.specs.declared.entry.Entry.{Entry}
 use Rattle.totem_evs.specs.declared.log.Log.{Log}
 use Rattle.totem_evs.specs.Events.{log_of}
 use Rattle.totem_table.specs.Registers.{Keeps, KnowsLog, KnowsRun}
-use Rattle.totem_evs.proofs.LogOf.{log_of_cases, less_or_not}
-
-pub keeps_itself : (P : ℕ → List Entry → ℕ → Type 0) → Keeps P P
-keeps_itself P = record { each = λ p log i h. h }
+use Rattle.totem_evs.proofs.LogOf.{log_of_cases}
 
 pub keeps_on : (P Q R : ℕ → List Entry → ℕ → Type 0) → Keeps P Q → Keeps Q R → Keeps P R
 keeps_on P Q R first second = record { each = λ p log i h. second.each p log i (first.each p log i h) }
-
-pub log_yet : (P : ℕ → List Entry → ℕ → Type 0) (p : ℕ) (log : List Entry) → KnowsLog P p log 0
-log_yet P p log = record { each = λ i lt. absurd (omega arith) }
-
-pub log_more : (P Q : ℕ → List Entry → ℕ → Type 0) (p : ℕ) (log : List Entry) (n : ℕ) → Keeps P Q → Q p log n → KnowsLog P p log n → KnowsLog Q p log (n + 1)
-log_more P Q p log n kept here before = record {
-  each = λ i lt. elim (less_or_not i n) [
-    | inl under ↦ kept.each p log i (before.each i under)
-    | inr more ↦ elim more [ inl over ↦ absurd (omega arith) | inr same ↦ rw same here ]
-  ];
-}
-
-pub log_end : (P : ℕ → List Entry → ℕ → Type 0) (p : ℕ) (log : List Entry) (n : ℕ) → length log ≤ n → KnowsLog P p log n → KnowsLog P p log (length log)
-log_end P p log n end known = record { each = λ i lt. known.each i (omega arith) }
 
 -- the logs before the one at k are known
 pub record KnowsBefore (P : ℕ → List Entry → ℕ → Type 0) (run : List Log) (k : ℕ) : Type 0 where
   pub each : (j : ℕ) (log : Log) → j < k → slice_get run j ≡ Some log → KnowsLog P log.proc log.entries (length log.entries)
 
-pub before_yet : (P : ℕ → List Entry → ℕ → Type 0) (run : List Log) → KnowsBefore P run 0
-before_yet P run = record { each = λ j log lt at. absurd (omega arith) }
-
 pub before_more : (P Q : ℕ → List Entry → ℕ → Type 0) (run : List Log) (k : ℕ) (log : Log) → slice_get run k ≡ Some log → Keeps P Q → KnowsLog Q log.proc log.entries (length log.entries)
     → KnowsBefore P run k → KnowsBefore Q run (k + 1)
 before_more P Q run k log at kept here before = record {
-  each = λ j l lt at_j. elim (less_or_not j k) [
-    | inl under ↦ (let old = before.each j l under at_j in record { each = λ i within. kept.each l.proc l.entries i (old.each i within) })
-    | inr more ↦ elim more [
-      | inl over ↦ absurd (omega arith)
-      | inr same ↦ let same_log : log ≡ l = (let h : slice_get run k ≡ Some l = rw same at at_j in cc) in rw same_log at here
-    ]
-  ];
+  each = λ j l lt at_j. below_more (λ j. (l : Log) → slice_get run j ≡ Some l → KnowsLog Q l.proc l.entries (length l.entries)) k
+      (λ j under l at_j. (let old = before.each j l under at_j in record { each = λ i within. kept.each l.proc l.entries i (old.each i within) }))
+      (λ l at_l. (let same : log ≡ l = cc in rw same at here)) j lt l at_j;
 }
 
 pub before_end : (P : ℕ → List Entry → ℕ → Type 0) (run : List Log) (k : ℕ) → length run ≤ k → KnowsBefore P run k → KnowsRun P run

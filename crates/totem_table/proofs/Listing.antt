@@ -1,13 +1,13 @@
 -- Entering only the changes of a run, and searching only the changes.
-use Rattle.std.proofs.Common.{◌≡◌, ℕ, ◌+◌, ◌<◌, ◌≤◌, inl, inr, List, ◌∷◌, length, slice_get, get_or, Some, refl, arith}
+use Rattle.std.proofs.Common.{below_more, ◌≡◌, ℕ, ◌+◌, ◌<◌, ◌≤◌, inl, inr, List, ◌∷◌, length, slice_get, get_or, Some, refl, arith}
 use Rattle.std.proofs.lemmas.Option.{slice_get_within, slice_get_read}
 use Rattle.totem_ids.specs.declared.place.Place.{Place}
 use Rattle.totem_evs.specs.declared.entry.Entry.{Entry}
 use Rattle.totem_evs.specs.declared.log.Log.{Log}
 use Rattle.totem_evs.specs.Events.{IsChange}
-use Rattle.totem_evs.proofs.LogOf.{less_or_not}
 use Rattle.totem_table.specs.Changes.{ListsChanges, AreChanges}
-use Rattle.totem_table.proofs.Changing.{change_or_not, listed_below, listed_before_end}
+use Rattle.totem_evs.proofs.Originating.{change_or_not}
+use Rattle.totem_table.proofs.Changing.{listed_below, listed_before_end}
 use Rattle.totem_table.specs.Registers.{Keeps, KnowsLog}
 use Rattle.totem_table.specs.Search.{place, NoneFrom, IsLeastFrom, NoneInLog, IsLeastInLog}
 
@@ -15,19 +15,10 @@ use Rattle.totem_table.specs.Search.{place, NoneFrom, IsLeastFrom, NoneInLog, Is
 pub record KnowsListed (P : ℕ → List Entry → ℕ → Type 0) (p : ℕ) (log : List Entry) (list : List ℕ) (n : ℕ) : Type 0 where
   pub each : (k i : ℕ) → k < n → slice_get list k ≡ Some i → P p log i
 
-pub known_yet : (P : ℕ → List Entry → ℕ → Type 0) (p : ℕ) (log : List Entry) (list : List ℕ) → KnowsListed P p log list 0
-known_yet P p log list = record { each = λ k i lt at. absurd (omega arith) }
-
 pub known_more : (P Q : ℕ → List Entry → ℕ → Type 0) (p : ℕ) (log : List Entry) (list : List ℕ) (n b : ℕ) → Keeps P Q → slice_get list n ≡ Some b → Q p log b → KnowsListed P p log list n → KnowsListed Q p log list (n + 1)
 known_more P Q p log list n b kept at here before = record {
-  each = λ k i lt at_k. elim (less_or_not k n) [
-    | inl under ↦ kept.each p log i (before.each k i under at_k)
-    | inr more ↦ elim more [ inl over ↦ absurd (omega arith) | inr same ↦ in_this k i same at_k ]
-  ];
+  each = λ k i lt at_k. below_more (λ k. (i : ℕ) → slice_get list k ≡ Some i → Q p log i) n (λ k under i at_k. kept.each p log i (before.each k i under at_k)) (λ i at_i. (let e : b ≡ i = cc in rw e at here)) k lt i at_k;
 }
-  where
-    in_this : (k i : ℕ) → k ≡ n → slice_get list k ≡ Some i → Q p log i
-    in_this k i same at_k = let e : b ≡ i = (let h : slice_get list n ≡ Some i = rw same at at_k in cc) in rw e at here
 
 -- with the entries that are no change, all entries before the next listed one are known
 pub known_below : (P : ℕ → List Entry → ℕ → Type 0) (p : ℕ) (log : List Entry) (list : List ℕ) (n b : ℕ) → ((q : ℕ) (l : List Entry) (i : ℕ) → (IsChange l i → ⊥) → P q l i) → ListsChanges log (length log) list → slice_get list n ≡ Some b
@@ -55,19 +46,10 @@ known_at_end P p log list n spares lists end before = record {
 pub record NoneListed (H : List Place → Type 0) (p : ℕ) (list : List ℕ) (n : ℕ) : Type 0 where
   pub none : (k i : ℕ) (rest : List Place) → k < n → slice_get list k ≡ Some i → H (place p i ∷ rest) → ⊥
 
-pub none_yet : (H : List Place → Type 0) (p : ℕ) (list : List ℕ) → NoneListed H p list 0
-none_yet H p list = record { none = λ k i rest lt at h. omega arith }
-
 pub none_more : (H : List Place → Type 0) (p : ℕ) (list : List ℕ) (n b : ℕ) → slice_get list n ≡ Some b → NoneFrom H p b → NoneListed H p list n → NoneListed H p list (n + 1)
 none_more H p list n b at here before = record {
-  none = λ k i rest lt at_k h. elim (less_or_not k n) [
-    | inl under ↦ before.none k i rest under at_k h
-    | inr more ↦ elim more [ inl over ↦ omega arith | inr same ↦ in_this k i rest same at_k h ]
-  ];
+  none = λ k i rest lt at_k. below_more (λ k. (i : ℕ) → slice_get list k ≡ Some i → H (place p i ∷ rest) → ⊥) n (λ k under i at_k. before.none k i rest under at_k) (λ i at_i. (let e : b ≡ i = cc in rw e at (here.none rest))) k lt i at_k;
 }
-  where
-    in_this : (k i : ℕ) (rest : List Place) → k ≡ n → slice_get list k ≡ Some i → H (place p i ∷ rest) → ⊥
-    in_this k i rest same at_k h = let e : i ≡ b = (let x : slice_get list n ≡ Some i = rw same at at_k in cc) in here.none rest (rw e at h)
 
 none_below : (H : List Place → Type 0) (p : ℕ) (log : List Entry) (list : List ℕ) (n b : ℕ) → ((i : ℕ) → i < length log → (IsChange log i → ⊥) → NoneFrom H p i) → ListsChanges log (length log) list → slice_get list n ≡ Some b
     → NoneListed H p list n → NoneInLog H p b

@@ -1,6 +1,6 @@
 -- Lists of names in ascending order.
-use Rattle.std.proofs.Common.{◌≡◌, ℕ, zero, suc, ◌+◌, ◌≤◌, inl, inr, List, [], ◌∷◌, ◌++◌, length, get_or, slice_get, Option, Some, Bool, false, Result, Ok, Err, refl, sym, ap, ◌∙◌, arith, MatchResult}
-use Rattle.std.specs.Prelude.{Contains}
+use Rattle.std.proofs.Common.{◌≡◌, ℕ, zero, suc, ◌+◌, ◌≤◌, inl, inr, List, [], ◌∷◌, length, get_or, slice_get, Some, Bool, false, Result, Ok, Err, refl, sym, ap, ◌∙◌, arith, MatchResult}
+use Rattle.std.specs.Prelude.{Contains, flat_map}
 use Rattle.std.specs.declared.cmp.Ordering.{Ordering}
 use Rattle.std.specs.declared.cmp.Ordering.TheVariants.{Less, Equal, Greater}
 use Rattle.std.specs.Cmp.{IsEquivalence, IsTotalOrder, tied_itself}
@@ -19,30 +19,20 @@ use Rattle.totem_ids.specs.declared.conf.ConfId.{ConfId}
 use Rattle.totem_evs.specs.declared.entry.Entry.{Entry}
 use Rattle.totem_evs.specs.declared.log.Log.{Log}
 use Rattle.totem_evs.proofs.LogOf.{less_or_not}
-use Rattle.totem_evs.proofs.Pushing.{Along, along_more}
-use Rattle.totem_table.specs.Tables.{Rises, NamedBy, RowNames, RowsName}
-use Rattle.totem_table.specs.Names.{ListsNames, listed, names_in, all_names}
+use Rattle.totem_evs.proofs.Pushing.{Along}
+use Rattle.totem_table.specs.Tables.{Rises, NamedBy, RowNames}
+use Rattle.totem_table.specs.Names.{ListsNames}
 
--- what the entry at an index names is among what all entries name
-pub named_at : {X : Type 0} (name_of : Entry → Option X) (entries : List Entry) (i : ℕ) (entry : Entry) → slice_get entries i ≡ Some entry → (x : X) → Contains (listed (name_of entry)) x → Contains (names_in name_of entries) x
-named_at name_of [] i entry at x has = absurd cc
-named_at name_of (e ∷ entries) zero entry at x has = Contains-append_left (listed (name_of e)) (names_in name_of entries) x (rw (← (let is : Some e ≡ Some entry = at in let same : e ≡ entry = cc in same)) at has)
-named_at name_of (e ∷ entries) (suc i) entry at x has = Contains-append_right (listed (name_of e)) (names_in name_of entries) x (named_at name_of entries i entry at x has)
-
--- what the log at an index names is among what all logs name
-pub named_in : {X : Type 0} (name_of : Entry → Option X) (logs : List Log) (k : ℕ) (log : Log) → slice_get logs k ≡ Some log → (x : X) → Contains (names_in name_of log.entries) x → Contains (all_names name_of logs) x
-named_in name_of [] k log at x has = absurd cc
-named_in name_of (l ∷ logs) zero log at x has = Contains-append_left (names_in name_of l.entries) (all_names name_of logs) x (rw (← (let is : Some l ≡ Some log = at in let same : l ≡ log = cc in same)) at has)
-named_in name_of (l ∷ logs) (suc k) log at x has = Contains-append_right (names_in name_of l.entries) (all_names name_of logs) x (named_in name_of logs k log at x has)
+-- what f gives for the element at an index is among what it gives for all
+gives_at : {A X : Type 0} (f : A → List X) (xs : List A) (i : ℕ) (a : A) (x : X) → slice_get xs i ≡ Some a → Contains (f a) x → Contains (flat_map f xs) x
+gives_at f [] i a x at has = absurd cc
+gives_at f (y ∷ ys) zero a x at has = Contains-append_left (f y) (flat_map f ys) x (let same : y ≡ a = cc in rw same has)
+gives_at f (y ∷ ys) (suc i) a x at has = Contains-append_right (f y) (flat_map f ys) x (gives_at f ys i a x at has)
 
 module _ {X : Type 0} (cmp : X → X → Ordering) where
-  -- names of all entries list those of the entry at an index
-  pub lists_at : (name_of : Entry → Option X) (entries : List Entry) (names : List X) (i : ℕ) (entry : Entry) → slice_get entries i ≡ Some entry → ListsNames cmp (names_in name_of entries) names → ListsNames cmp (listed (name_of entry)) names
-  lists_at name_of entries names i entry at lists = record { sorted = lists.sorted; few = lists.few; each = λ x has. lists.each x (named_at name_of entries i entry at x has) }
-
-  -- names of all logs list those of the log at an index
-  pub lists_in : (name_of : Entry → Option X) (logs : List Log) (names : List X) (k : ℕ) (log : Log) → slice_get logs k ≡ Some log → ListsNames cmp (all_names name_of logs) names → ListsNames cmp (names_in name_of log.entries) names
-  lists_in name_of logs names k log at lists = record { sorted = lists.sorted; few = lists.few; each = λ x has. lists.each x (named_in name_of logs k log at x has) }
+  -- the names of all list those of the element at an index
+  pub lists_at : {A : Type 0} (f : A → List X) (xs : List A) (names : List X) (i : ℕ) (a : A) → slice_get xs i ≡ Some a → ListsNames cmp (flat_map f xs) names → ListsNames cmp (f a) names
+  lists_at f xs names i a at lists = record { sorted = lists.sorted; few = lists.few; each = λ x has. lists.each x (gives_at f xs i a x at has) }
 
   pub rising : (Below : X → X → Type 0) → ((a b : X) → cmp a b ≡ Less → Below a b) → (names : List X) → IsStrictlySortedBy cmp names → Rises Below names
   rising Below rises names sorted = record {
@@ -83,28 +73,17 @@ module _ {X : Type 0} (cmp : X → X → Ordering) where
         | inr rest ↦ not_itself total x (get_or names k x) Greater is (parts.1 k x (elim rest [ inl over ↦ omega arith | inr same ↦ omega arith ]) lt) (λ e. cc)
       ]
 
+-- what belongs to all elements of a list, as its reader finds it
+pub along_whole : {X Y : Type 0} (P : X → Y → Type 0) (xs : List X) (ys : List Y) (n : ℕ) (d : Y) → n ≡ length xs → Along P xs ys n → (length xs ≡ length ys) × ((i : ℕ) (x : X) → slice_get xs i ≡ Some x → P x (get_or ys i d))
+along_whole P xs ys n d end h = (
+  omega (arith, h.long, end),
+  λ i x at. h.each i x (get_or ys i d) at (slice_get-get_or ys i d (omega (arith, h.long, end, slice_get_within xs i x at))),
+)
+
 -- the entries at the first n indexes have the numbers of what they name
 abbrev pub NumbersTo : List MsgId → List ConfId → List Entry → List ℕ → ℕ → Type 0
 NumbersTo messages confs entries row n = Along (λ (e : Entry) (i : ℕ). NamedBy messages confs e i) entries row n
 
-pub number_more : (ms : List MsgId) (cs : List ConfId) (entries : List Entry) (row : List ℕ) (n : ℕ) (e : Entry) (i : ℕ) → slice_get entries n ≡ Some e → NamedBy ms cs e i → NumbersTo ms cs entries row n → NumbersTo ms cs entries (row ++ (i ∷ [])) (n + 1)
-number_more ms cs entries row n e i at named before = along_more (λ (e : Entry) (i : ℕ). NamedBy ms cs e i) entries row n e i at named before
-
-pub row_whole : (ms : List MsgId) (cs : List ConfId) (entries : List Entry) (row : List ℕ) (n : ℕ) → n ≡ length entries → NumbersTo ms cs entries row n → RowNames ms cs entries row
-row_whole ms cs entries row n end h = record {
-  long = omega (arith, h.long, end);
-  each = λ i e at. h.each i e (get_or row i 0) at (slice_get-get_or row i 0 (omega (arith, h.long, end, slice_get_within entries i e at)));
-}
-
 -- the first n logs have rows with the numbers of what their entries name
 abbrev pub RowsTo : List MsgId → List ConfId → List Log → List (List ℕ) → ℕ → Type 0
 RowsTo messages confs logs rows n = Along (λ (l : Log) (row : List ℕ). RowNames messages confs l.entries row) logs rows n
-
-pub row_more : (ms : List MsgId) (cs : List ConfId) (logs : List Log) (rows : List (List ℕ)) (n : ℕ) (l : Log) (row : List ℕ) → slice_get logs n ≡ Some l → RowNames ms cs l.entries row → RowsTo ms cs logs rows n → RowsTo ms cs logs (rows ++ (row ∷ [])) (n + 1)
-row_more ms cs logs rows n l row at named before = along_more (λ (l : Log) (row : List ℕ). RowNames ms cs l.entries row) logs rows n l row at named before
-
-pub rows_whole : (ms : List MsgId) (cs : List ConfId) (logs : List Log) (rows : List (List ℕ)) (n : ℕ) → n ≡ length logs → RowsTo ms cs logs rows n → RowsName ms cs logs rows
-rows_whole ms cs logs rows n end h = record {
-  long = omega (arith, h.long, end);
-  each = λ k l at. h.each k l (get_or rows k []) at (slice_get-get_or rows k [] (omega (arith, h.long, end, slice_get_within logs k l at)));
-}

@@ -1,53 +1,27 @@
 -- Searching a run, event by event.
-use Rattle.std.proofs.Common.{◌≡◌, ℕ, ◌+◌, ◌<◌, ◌≤◌, ◌⊎◌, inl, inr, List, [], ◌∷◌, length, slice_get, Some, refl, sym, ◌∙◌, ap, arith, Option, None, Result, Ok, Err, IfOk, MatchOption}
+use Rattle.std.proofs.Common.{below_more, ◌≡◌, ℕ, ◌+◌, ◌<◌, ◌≤◌, ◌⊎◌, inl, inr, List, [], ◌∷◌, length, slice_get, Some, refl, sym, ◌∙◌, ap, arith, Option, None, Result, Ok, Err, IfOk, MatchOption}
 use Rattle.std.proofs.lemmas.Option.{slice_get_within}
 use Rattle.totem_ids.specs.declared.place.Place.{Place}
 use Rattle.totem_evs.specs.declared.entry.Entry.{Entry}
 use Rattle.totem_evs.specs.declared.log.Log.{Log}
 use Rattle.totem_evs.specs.Events.{log_of}
 use Rattle.totem_evs.specs.Answers.{ComesFirst}
-use Rattle.totem_table.specs.Search.{place, NoneFrom, IsLeastFrom, NoneInLog, IsLeastInLog, NoneOf, IsLeastOf}
+use Rattle.totem_table.specs.Search.{place, NoneFrom, NoneInLog, IsLeastInLog, NoneOf, IsLeastOf}
 use Rattle.totem_evs.proofs.LogOf.{Rising, log_of_cases, in_order, less_or_not}
 
-pub none_in_log_yet : (H : List Place → Type 0) (p : ℕ) → NoneInLog H p 0
-none_in_log_yet H p = record { none = λ k rest lt h. omega arith }
-
 pub none_in_log_more : (H : List Place → Type 0) (p i : ℕ) → NoneFrom H p i → NoneInLog H p i → NoneInLog H p (i + 1)
-none_in_log_more H p i here before = record {
-  none = λ k rest lt h. elim (less_or_not k i) [
-    | inl under ↦ before.none k rest under h
-    | inr more ↦ elim more [ inl over ↦ omega arith | inr same ↦ here.none rest (rw same at h) ]
-  ];
-}
-
-pub none_in_log_end : (H : List Place → Type 0) (p i n : ℕ) → n ≤ i → NoneInLog H p i → NoneInLog H p n
-none_in_log_end H p i n le before = record { none = λ k rest lt h. before.none k rest (omega arith) h }
-
-pub least_in_log : (H : List Place → Type 0) (p i n : ℕ) (rest places : List Place) → i < n → places ≡ place p i ∷ rest → IsLeastFrom H p i rest → NoneInLog H p i → IsLeastInLog H p n places
-least_in_log H p i n rest places lt is least before = record { at = i; rest = rest; within = lt; is = is; least = least; none_before = before }
+none_in_log_more H p i here before = record { none = λ k rest lt. below_more (λ k. H (place p k ∷ rest) → ⊥) i (λ k under. before.none k rest under) (here.none rest) k lt }
 
 -- it holds for no list that begins in a log before the one at k
 pub record NoneBeforeLog (run : List Log) (H : List Place → Type 0) (k : ℕ) : Type 0 where
   pub none : (j i : ℕ) (log : Log) (rest : List Place) → j < k → slice_get run j ≡ Some log → i < length log.entries → H (place log.proc i ∷ rest) → ⊥
 
-pub none_before_yet : (run : List Log) (H : List Place → Type 0) → NoneBeforeLog run H 0
-none_before_yet run H = record { none = λ j i l rest lt at_j within h. omega arith }
-
 pub none_before_more : (run : List Log) (H : List Place → Type 0) (k : ℕ) (log : Log) → slice_get run k ≡ Some log → NoneInLog H log.proc (length log.entries) → NoneBeforeLog run H k → NoneBeforeLog run H (k + 1)
 none_before_more run H k log at here before = record {
-  none = λ j i l rest lt at_j within h. elim (less_or_not j k) [
-    | inl under ↦ before.none j i l rest under at_j within h
-    | inr more ↦ elim more [
-      | inl over ↦ omega arith
-      | inr same ↦ in_this j i l rest same at_j within h
-    ]
-  ];
+  none = λ j i l rest lt. below_more (λ j. slice_get run j ≡ Some l → i < length l.entries → H (place l.proc i ∷ rest) → ⊥) k
+      (λ j under. before.none j i l rest under)
+      (λ at_l. (let same : log ≡ l = cc in rw same at (here.none i rest))) j lt;
 }
-  where
-    in_this : (j i : ℕ) (l : Log) (rest : List Place) → j ≡ k → slice_get run j ≡ Some l → i < length l.entries → H (place l.proc i ∷ rest) → ⊥
-    in_this j i l rest same at_j within h =
-        let same_log : l ≡ log = (let x : slice_get run k ≡ Some l = rw same at at_j in cc) in
-        here.none i rest (rw same_log at within) (rw same_log at h)
 
 pub none_at_end : (run : List Log) (H : List Place → Type 0) (k : ℕ) → length run ≤ k → NoneBeforeLog run H k → NoneOf run H
 none_at_end run H k end before = record { none = λ p i rest within h. go p i rest (log_of_cases run p) within h }

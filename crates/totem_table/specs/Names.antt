@@ -1,5 +1,5 @@
 -- What entries name.
-use Rattle.std.specs.Prelude.{◌≤◌, List, [], ◌∷◌, ◌++◌, length, Contains, Option, Some, None}
+use Rattle.std.specs.Prelude.{◌≤◌, List, length, flat_map, option_to_list, Contains, Option, Some, None}
 use Rattle.std.specs.declared.cmp.Ordering.{Ordering}
 use Rattle.std.specs.List.Sorted.{IsStrictlySortedBy}
 use Rattle.totem_ids.specs.declared.message.MsgId.{MsgId}
@@ -22,20 +22,13 @@ conf_of (Send m x service) = None
 conf_of (Deliver m x) = None
 conf_of (Fail x) = Some x
 
--- a list of the value, if there is one
-abbrev pub listed : {X : Type 0} → Option X → List X
-listed None = []
-listed (Some x) = x ∷ []
-
 -- what the entries name
 abbrev pub names_in : {X : Type 0} → (Entry → Option X) → List Entry → List X
-names_in name_of [] = []
-names_in name_of (entry ∷ entries) = listed (name_of entry) ++ names_in name_of entries
+names_in name_of = flat_map (λ entry. option_to_list (name_of entry))
 
 -- what the entries of all logs name
 abbrev pub all_names : {X : Type 0} → (Entry → Option X) → List Log → List X
-all_names name_of [] = []
-all_names name_of (log ∷ logs) = names_in name_of log.entries ++ all_names name_of logs
+all_names name_of = flat_map (λ log. names_in name_of log.entries)
 
 -- these names are in ascending order, and the others are among them
 pub record ListsNames {X : Type 0} (cmp : X → X → Ordering) (others names : List X) : Type 0 where

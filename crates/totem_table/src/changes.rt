@@ -1,6 +1,6 @@
 //! Where the logs of a run change to another configuration. Few entries are changes, so a search that needs only the changes need not
 //! walk along all entries.
-ghost use Rattle.std.specs.Prelude.{◌≡◌, ◌≤◌, ◌<◌, IfOk, length, slice_index_or};
+ghost use Rattle.std.specs.Prelude.{◌≤◌, ◌<◌, IfOk, length, slice_index_or};
 ghost use Rattle.totem_evs.specs.Following.{IsNextOrEnd};
 ghost use Rattle.totem_table.specs.Changes.{ListsChanges, AreChanges};
 

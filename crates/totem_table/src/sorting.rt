@@ -1,6 +1,6 @@
 //! Makes a table by sorting what the entries name.
-ghost use Rattle.std.specs.Prelude.{◌≤◌, IfOk, length};
-ghost use Rattle.totem_table.specs.Names.{ListsNames, message_of, conf_of, listed, names_in};
+ghost use Rattle.std.specs.Prelude.{IfOk, option_to_list};
+ghost use Rattle.totem_table.specs.Names.{ListsNames, message_of, conf_of, names_in};
 ghost use Rattle.totem_table.specs.Tables.{NamedBy, RowNames, IsTable};
 
 use crate::names::{index_of, names_of};
@@ -12,8 +12,8 @@ use totem_ids::{ConfId, MsgId};
 
 /// Returns the number of what an entry names.
 fn number_of(messages: &[MsgId], confs: &[ConfId], entry: &Entry) -> u32
-    requires messages { ListsNames ⟦<MsgId as Ord>⟧.cmp (listed (message_of entry.now)) messages.now }
-    requires confs { ListsNames ⟦<ConfId as Ord>⟧.cmp (listed (conf_of entry.now)) confs.now }
+    requires messages { ListsNames ⟦<MsgId as Ord>⟧.cmp (option_to_list (message_of entry.now)) messages.now }
+    requires confs { ListsNames ⟦<ConfId as Ord>⟧.cmp (option_to_list (conf_of entry.now)) confs.now }
     ensures { NamedBy messages.now confs.now entry.now result }
 {
     let index = match entry {

@@ -1,8 +1,5 @@
-use Rattle.totem_table.proofs.Checking.{rises_yet, rises_more, rises_whole}
+use Rattle.totem_table.proofs.Checking.{rises_more, rises_whole}
 use Rattle.totem_table.proofs.checks.names_rise.Goals as goal
-
-pub loop-at-init : goal.loop-at-init
-loop-at-init g c = rises_yet g.N.Name.below c.args.names.now
 
 pub loop-at-preserved : goal.loop-at-preserved
 loop-at-preserved g c = rises_more g.N.Name.below c.args.names.now c.loop-at.at _ _ c.loop-at.auto.at c.index-names-at.is c.index-names-at-in-loop-at.is c.if-not-is_below.ensures c.loop-at.invariant

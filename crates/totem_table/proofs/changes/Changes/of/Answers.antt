@@ -1,7 +1,7 @@
 use Rattle.std.proofs.Common.{refl, ap, ◌∙◌}
 use Rattle.std.proofs.lemmas.Option.{slice_get_read}
 use Rattle.totem_evs.specs.LogRecord.{LogRecord}
-use Rattle.totem_table.proofs.Changing.{one_more_row}
+use Rattle.totem_evs.proofs.Pushing.{along_more}
 use Rattle.totem_table.proofs.changes.Changes.of.Goals as goal
 
 pub loop-log-preserved : goal.loop-log-preserved
@@ -9,4 +9,4 @@ loop-log-preserved c =
     let at = slice_get_read c.as_slice-logs.result.now _ c.loop-log.log-index c.log-item.result refl c.loop-log-test.true c.log-item.is in
     let entries = ap (λ (l : LogRecord). l.entries) c.log.view_is in
     rw c.in_ok-push.ensures.items
-    (one_more_row c.as_slice-logs.result.now c.loop-log.rows.items c.loop-log.log-index c.log-item.result _ at (rw (c.as_slice.ensures.value ∙ entries) at c.in_ok-changes_in.ensures) c.loop-log.invariant)
+    (along_more _ c.as_slice-logs.result.now c.loop-log.rows.items c.loop-log.log-index c.log-item.result _ at (rw (c.as_slice.ensures.value ∙ entries) at c.in_ok-changes_in.ensures) c.loop-log.invariant)
