@@ -34,10 +34,9 @@ module _ {X : Type 0} (cmp : X → X → Ordering) where
   pub lists_at : {A : Type 0} (f : A → List X) (xs : List A) (names : List X) (i : ℕ) (a : A) → slice_get xs i ≡ Some a → ListsNames cmp (flat_map f xs) names → ListsNames cmp (f a) names
   lists_at f xs names i a at lists = record { sorted = lists.sorted; few = lists.few; each = λ x has. lists.each x (gives_at f xs i a x at has) }
 
-  pub rising : (Below : X → X → Type 0) → ((a b : X) → cmp a b ≡ Less → Below a b) → (names : List X) → IsStrictlySortedBy cmp names → Rises Below names
-  rising Below rises names sorted = record {
-    next = λ i a b at_a at_b. rises a b (
-        let less = Less-from_sorted cmp names i (i + 1) a sorted (omega arith) (slice_get_within names (i + 1) b at_b) in
+  pub rising : (names : List X) → IsStrictlySortedBy cmp names → Rises cmp names
+  rising names sorted = record {
+    next = λ i a b at_a at_b. (let less = Less-from_sorted cmp names i (i + 1) a sorted (omega arith) (slice_get_within names (i + 1) b at_b) in
         rw (get_or_from_slice_get names i a a at_a, get_or_from_slice_get names (i + 1) b a at_b) at less);
   }
 

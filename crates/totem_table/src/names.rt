@@ -1,9 +1,8 @@
 //! What entries name, in ascending order.
 ghost use Rattle.std.specs.Prelude.{◌≡◌, ◌≤◌, ◌+◌, ◌++◌, IfOk, OnOk, Option, Some, Contains, length, slice_get};
-ghost use Rattle.std.specs.declared.cmp.Ordering.TheVariants.{Less, Equal};
+ghost use Rattle.std.specs.declared.cmp.Ordering.TheVariants.{Equal};
 ghost use Rattle.std.specs.List.Sorted.{IsStrictlySortedBy};
 ghost use Rattle.totem_evs.specs.declared.entry.Entry.{Entry};
-ghost use Rattle.totem_table.specs.Tables.{Rises};
 ghost use Rattle.totem_table.specs.Names.{ListsNames, names_in, all_names};
 
 use std::alloc::{AllocError, Global};
@@ -12,9 +11,6 @@ use totem_ids::{ConfId, MsgId};
 
 /// What an entry may name: a message or a configuration.
 pub trait Name: Ord + Copy {
-    /// Which names come before which.
-    ghost below: { Self → Self → Type 0 };
-
     /// What an entry names.
     ghost name_of: { Entry → Option Self };
 
@@ -22,24 +18,15 @@ pub trait Name: Ord + Copy {
     fn of(entry: &Entry) -> Option<Self>
         ensures { result ≡ name_of entry.now };
 
-    /// What compares as less is below.
-    ghost rises: { (a b : Self) → Self.cmp a b ≡ Less → below a b };
-
     /// What compares as equal is the same.
     ghost exact: { (a b : Self) → Self.cmp a b ≡ Equal → a ≡ b };
 }
 
 impl Name for MsgId {
-    ghost use Rattle.totem_ids.specs.Orders.{MessageBelow};
     ghost use Rattle.totem_ids.proofs.Exact.{exact_message};
     ghost use Rattle.totem_table.specs.Names.{message_of};
-    ghost use Rattle.totem_table.specs.NameOrders.{message_below};
-
-    ghost below = { MessageBelow };
 
     ghost name_of = { message_of };
-
-    ghost rises = { message_below };
 
     ghost exact = { exact_message };
 
@@ -52,16 +39,10 @@ impl Name for MsgId {
 }
 
 impl Name for ConfId {
-    ghost use Rattle.totem_ids.specs.Orders.{ConfBelow};
     ghost use Rattle.totem_ids.proofs.Exact.{exact_conf};
     ghost use Rattle.totem_table.specs.Names.{conf_of};
-    ghost use Rattle.totem_table.specs.NameOrders.{conf_below};
-
-    ghost below = { ConfBelow };
 
     ghost name_of = { conf_of };
-
-    ghost rises = { conf_below };
 
     ghost exact = { exact_conf };
 
@@ -89,8 +70,7 @@ fn add_names<N: Name>(names: &mut Vec<N>, entries: &[Entry]) -> Result<(), Alloc
 /// Returns the names in ascending order, each once.
 fn in_order<N: Name>(mut names: Vec<N>) -> Result<Vec<N>, AllocError>
     requires { length names.items ≤ 32000000 }
-    ensures lists { IfOk result (λ ordered. ListsNames N.cmp names.items ordered.items) }
-    ensures rises { IfOk result (λ ordered. Rises N.below ordered.items) }
+    ensures { IfOk result (λ ordered. ListsNames N.cmp names.items ordered.items) }
 {
     names.sort()?;
     names.dedup();
@@ -100,8 +80,7 @@ fn in_order<N: Name>(mut names: Vec<N>) -> Result<Vec<N>, AllocError>
 /// Returns all names of one kind in the logs, in ascending order, each once.
 pub fn names_of<N: Name>(alloc: Global, logs: &[Log]) -> Result<Vec<N>, AllocError>
     requires { length logs.now ≤ 32 }
-    ensures lists { IfOk result (λ names. ListsNames N.cmp (all_names N.name_of logs.now) names.items) }
-    ensures rises { IfOk result (λ names. Rises N.below names.items) }
+    ensures { IfOk result (λ names. ListsNames N.cmp (all_names N.name_of logs.now) names.items) }
 {
     let mut names = Vec::new(alloc);
     for log in logs {
