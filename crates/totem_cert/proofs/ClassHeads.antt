@@ -1,56 +1,30 @@
 -- The first entries of logs without a number, by the numbers of their classes.
-use Rattle.std.proofs.Common.{◌≡◌, ℕ, suc, ◌<◌, ◌≤◌, inl, inr, List, length, get_or, slice_get, Some, None, Bool, IsTrue, ◌↔◌, refl, sym, ap, arith}
+use Rattle.std.proofs.Common.{◌≡◌, ℕ, suc, ◌<◌, ◌≤◌, List, length, get_or, slice_get, Some, None, Bool, IsTrue, ◌↔◌, refl, sym, ap, arith}
 use Rattle.std.proofs.lemmas.Option.{slice_get_within, slice_get_read}
 use Rattle.totem_ids.specs.declared.place.Place.{Place}
 use Rattle.totem_evs.specs.declared.entry.Entry.{Entry}
 use Rattle.totem_evs.specs.declared.log.Log.{Log}
-use Rattle.totem_evs.specs.Events.{log_of}
-use Rattle.totem_evs.specs.Classes.{InClass}
+use Rattle.totem_evs.specs.Events.{IsEvent}
 use Rattle.totem_evs.specs.Certificates.{Numbering}
 use Rattle.totem_evs.proofs.LogOf.{Rising}
 use Rattle.totem_table.specs.declared.table.Table.{Table}
 use Rattle.totem_table.specs.Tables.{IsTable, IsEntryAt}
-use Rattle.totem_table.specs.Tables as tables
 use Rattle.totem_cert.specs.declared.heads.Head.{Head}
 use Rattle.totem_cert.specs.declared.heads.Head.TheVariants.{End, Alone, Class}
 use Rattle.totem_cert.specs.Search.{place}
-use Rattle.totem_cert.specs.Counts.{class_at, count_of, given_at, Counts, HasHead, Tells}
+use Rattle.totem_cert.specs.Counts.{class_at, count_of, given_at, Counts, HasHead}
 use Rattle.totem_cert.specs.Heads.{IsHead, IsWithin, IsUnkept}
-use Rattle.totem_cert.specs.Progress.{Fits, IsMate, IsNext, IsNextHead, IsNextIn, IsReady}
+use Rattle.totem_cert.specs.Progress.{Fits, IsNext, IsNextHead, IsNextIn, IsReady}
 use Rattle.totem_cert.proofs.Lists.{at_index}
-use Rattle.totem_cert.proofs.Classmates.{event_of}
-use Rattle.totem_cert.proofs.Classes.{alone_alike, alike_itself, class_within, same_in, in_same}
-use Rattle.totem_cert.proofs.Countable.{ready_counted, alone_counted}
-use Rattle.totem_cert.proofs.LineFacts.{given_of, log_index, event_at, entry_event}
-use Rattle.totem_cert.proofs.LogHeads.{mate_class, class_mate, class_alike}
+use Rattle.totem_cert.proofs.Classes.{class_within}
+use Rattle.totem_cert.proofs.Countable.{ready_counted, alone_ready}
+use Rattle.totem_cert.proofs.LineFacts.{log_index, event_at}
 
 -- two entries at one place are one
 pub one_entry : (run : List Log) (k i : ℕ) (x y : Entry) → IsEntryAt run k i x → IsEntryAt run k i y → x ≡ y
 one_entry run k i x y a b =
     let log : a.log ≡ b.log = (let p = a.is_log in let q = b.is_log in cc) in
     (let p : slice_get b.log.entries i ≡ Some x = rw log at a.is_entry in let q = b.is_entry in cc)
-
-module _ (run : List Log) (table : Table) (rising : Rising run) (is_table : IsTable run table) (k i : ℕ) (x : Entry) (a : IsEntryAt run k i x) where
-  -- an event that is alone in its class
-  pub alone_itself : (e : Place) → class_at table k i x ≡ None → InClass run (place a.log.proc i) e → place a.log.proc i ≡ e
-  alone_itself e alone (inl (_, same)) = same
-  alone_itself e alone (inr same) =
-      let (y, at_y) = event_of run (place a.log.proc i) e (inr same) in
-      absurd (alone_alike (length table.messages.items) (tables.number_at table k i) x y alone (class_alike run (place a.log.proc i) e x y same (entry_event run k i x rising a) at_y))
-
-  module _ (tells : Tells run table) (c : ℕ) (in_c : class_at table k i x ≡ Some c) (l j : ℕ) (y : Entry) (b : IsEntryAt run l j y) where
-    pub in_class : class_at table l j y ≡ Some c → InClass run (place a.log.proc i) (place b.log.proc j)
-    in_class is = mate_class run a.log.proc i b.log.proc j x y (entry_event run k i x rising a) (entry_event run l j y rising b) (inr (in_same run table is_table tells k i l j c x y a b in_c is))
-
-    pub class_in : InClass run (place a.log.proc i) (place b.log.proc j) → class_at table l j y ≡ Some c
-    class_in shares = go (class_mate run a.log.proc i b.log.proc j x y (entry_event run k i x rising a) (entry_event run l j y rising b) shares)
-      where
-        go : IsMate a.log.proc i x b.log.proc j y → class_at table l j y ≡ Some c
-        go (inr same) = same_in run table is_table tells k i l j c x y a b in_c same
-        go (inl (same, also)) =
-            let one : y ≡ x = (let p = entry_event run l j y rising b in let q = entry_event run k i x rising a in
-            let p' : slice_get (log_of run a.log.proc) i ≡ Some y = rw (same, also) p in cc) in
-            same_in run table is_table tells k i l j c x y a b in_c (rw one (alike_itself (length table.messages.items) (tables.number_at table k i) c x in_c))
 
 -- ---- heads
 
@@ -89,38 +63,29 @@ next_in run table lines k c (x, a, in_c) head =
 pub next_at : (run : List Log) (lines : List Numbering) (k : ℕ) (log : Log) → IsNextHead run lines k → slice_get run k ≡ Some log → IsNext run lines (place log.proc (given_at lines k))
 next_at run lines k log head log_at = let one : head.log ≡ log = (let h = head.log_at in cc) in rw one at head.next
 
--- the log of the next head has one
-pub no_end : (run : List Log) (table : Table) (lines : List Numbering) (k : ℕ) → Rising run → IsHead run table lines k End → IsNextHead run lines k → ⊥
-no_end run table lines k rising is head =
-    let event = head.next.ready.event in
-    let (l, j, b, at) = event_at run (place head.log.proc (given_at lines k)) event.0 event.1 in
-    let same : l ≡ k = log_index run l k b.log head.log rising b.is_log head.log_at (sym (ap (λ (e : Place). e.proc) at)) in
+no_event : (run : List Log) (table : Table) (lines : List Numbering) (k : ℕ) (log : Log) → Rising run → IsHead run table lines k End → slice_get run k ≡ Some log → IsEvent run (place log.proc (given_at lines k)) → ⊥
+no_event run table lines k log rising is log_at event =
+    let (l, j, b, at) = event_at run (place log.proc (given_at lines k)) event.0 event.1 in
+    let same : l ≡ k = log_index run l k b.log log rising b.is_log log_at (sym (ap (λ (e : Place). e.proc) at)) in
     let at_j : suc (given_at lines k) ≡ suc j = ap (λ (e : Place). e.at) at in
     let lt = is j event.0 (rw same at b) in
     omega arith
 
-module _ (run : List Log) (table : Table) (rising : Rising run) (is_table : IsTable run table) (tells : Tells run table) (lines : List Numbering) (fits : Fits run lines) (counts : List ℕ) (counted : Counts run table lines counts) (k : ℕ) where
+-- the log of the next head has one
+pub no_end : (run : List Log) (table : Table) (lines : List Numbering) (k : ℕ) → Rising run → IsHead run table lines k End → IsNextHead run lines k → ⊥
+no_end run table lines k rising is head = no_event run table lines k head.log rising is head.log_at head.next.ready.event
+
+module _ (run : List Log) (table : Table) (rising : Rising run) (is_table : IsTable run table) (lines : List Numbering) (fits : Fits run lines) (counts : List ℕ) (counted : Counts run table lines counts) (k : ℕ) where
   pub head_within : (h : Head) → IsHead run table lines k h → IsWithin h (length counts)
   head_within End is = tt
   head_within Alone is = tt
   head_within (Class c) (x, a, in_c) = let lt = class_within run table is_table k (given_at lines k) c x a in_c in let long = counted.long in omega arith
 
   pub head_ready : (h : Head) (log : Log) (r : Bool) → IsHead run table lines k h → slice_get run k ≡ Some log → (IsTrue r ↔ IsUnkept counts h) → IsTrue r ↔ IsReady run lines (place log.proc (given_at lines k))
-  head_ready End log r is log_at decides = (
-    λ t. absurd (decides.0 t),
-    λ ready. absurd (
-        let (l, j, b, at) = event_at run (place log.proc (given_at lines k)) ready.event.0 ready.event.1 in
-        let same : l ≡ k = log_index run l k b.log log rising b.is_log log_at (sym (ap (λ (e : Place). e.proc) at)) in
-        let at_j : suc (given_at lines k) ≡ suc j = ap (λ (e : Place). e.at) at in
-        let lt = is j ready.event.0 (rw same at b) in
-        omega arith),
-  )
+  head_ready End log r is log_at decides = (λ t. absurd (decides.0 t), λ ready. absurd (no_event run table lines k log rising is log_at ready.event))
   head_ready Alone log r (x, a, alone) log_at decides =
       let one : a.log ≡ log = (let h = a.is_log in cc) in
-      let given = given_of run lines k log rising fits log_at in
-      let there = alone_counted run lines log.proc (given_at lines k) (length table.messages.items) (tables.number_at table k (given_at lines k)) x (rw one at (entry_event run k (given_at lines k) x rising a)) (sym given) alone in
-      (λ t. there.0 refl, λ ready. decides.1 tt)
+      (λ _. rw one at (alone_ready run table rising is_table lines fits k (given_at lines k) x a refl alone), λ _. decides.1 tt)
   head_ready (Class c) log r (x, a, in_c) log_at decides =
       let one : a.log ≡ log = (let h = a.is_log in cc) in
-      let given = given_of run lines k log rising fits log_at in
-      ready_counted run table is_table tells lines rising fits log.proc (given_at lines k) k x a (rw one at (entry_event run k (given_at lines k) x rising a)) (sym given) c in_c counts r counted (head_within (Class c) (x, a, in_c)) decides
+      rw one at (ready_counted run table rising is_table lines fits k (given_at lines k) x a c in_c counts r (omega arith) counted (head_within (Class c) (x, a, in_c)) decides)

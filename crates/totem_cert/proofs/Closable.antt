@@ -1,7 +1,7 @@
 -- Lines in which each entry has a number form a certificate.
-use Rattle.std.proofs.Common.{◌≡◌, ℕ, ◌<◌, ◌≤◌, ◌⊎◌, inl, inr, List, length, get_or, slice_get, Some, None, arith}
+use Rattle.std.proofs.Common.{◌≡◌, ℕ, ◌<◌, List, length, get_or, slice_get, Some, arith}
 use Rattle.std.specs.Prelude.{All}
-use Rattle.std.proofs.lemmas.Option.{slice_get_within, slice_get-get_or, slice_get_cases, get_or_from_slice_get}
+use Rattle.std.proofs.lemmas.Option.{slice_get_within, slice_get-get_or, get_or_from_slice_get}
 use Rattle.totem_ids.specs.declared.version.Version.{Version}
 use Rattle.totem_ids.specs.declared.version.Version.TheVariants.{One, Two, Three}
 use Rattle.totem_ids.specs.Processes.{IsProcessIn}
@@ -13,6 +13,7 @@ use Rattle.totem_certificate.specs.Keeping.{IsLineIn, IsCertificateIn, IsOfText,
 use Rattle.totem_cert.specs.Progress.{IsSound, IsFull}
 use Rattle.totem_evs.proofs.LogOf.{in_order}
 use Rattle.totem_cert.proofs.LineFacts.{stands_at}
+use Rattle.totem_cert.proofs.Lists.{at_index}
 
 -- a certificate of that version has a text, and writes the processes of the run
 pub of_text : (version : Version) → IsOfText (certificate_version version)
@@ -27,11 +28,7 @@ process_there Three p is = record { id_fits = is.id_fits; life_fits = is.life_fi
 
 module _ (version : Version) (run : List Log) (lines : List Numbering) (is_run : IsRunIn version run) (sound : IsSound run lines) (full : IsFull run lines) where
   log_at : (k : ℕ) → k < length lines → (log : Log) × (slice_get run k ≡ Some log)
-  log_at k lt = go (slice_get_cases run k).1
-    where
-      go : ((log : Log) × (k < length run) × (slice_get run k ≡ Some log) × (get_or run k log ≡ log)) ⊎ ((length run ≤ k) × (slice_get run k ≡ None)) → (log : Log) × (slice_get run k ≡ Some log)
-      go (inl (log, within, at, same)) = (log, at)
-      go (inr (le, none)) = absurd (let c = sound.fits.count in omega arith)
+  log_at k lt = at_index run k (let c = sound.fits.count in omega arith)
 
   line_is : (k : ℕ) (log : Log) (line : Numbering) → slice_get run k ≡ Some log → slice_get lines k ≡ Some line → IsLineIn (certificate_version version) line
   line_is k log line at_l at_n =

@@ -1,6 +1,6 @@
 -- A run has at most one closed list.
-use Rattle.std.proofs.Common.{◌≡◌, ℕ, zero, suc, ◌+◌, ◌-◌, ◌<◌, ◌⊎◌, inl, inr, List, [], ◌∷◌, length, drop, get_or, slice_get, Some, refl, sym, ◌∙◌, ap, subst, arith}
-use Rattle.std.proofs.lemmas.Option.{slice_get_within, slice_get-get_or}
+use Rattle.std.proofs.Common.{◌≡◌, ℕ, zero, suc, ◌+◌, ◌-◌, ◌<◌, ◌⊎◌, inl, inr, List, [], ◌∷◌, length, drop, slice_get, Some, refl, sym, ◌∙◌, ap, subst, arith}
+use Rattle.std.proofs.lemmas.Option.{slice_get_within}
 use Rattle.totem_ids.specs.declared.place.Place.{Place}
 use Rattle.totem_evs.specs.declared.log.Log.{Log}
 use Rattle.totem_evs.specs.declared.spec.SpecNo.{SpecNo}
@@ -9,7 +9,7 @@ use Rattle.totem_cert.specs.Laws.{ClosedListsAreOne}
 use Rattle.totem_evs.proofs.LogOf.{less_or_not}
 use Rattle.totem_cert.proofs.Classmates.{class_sym, class_trans, one_message}
 use Rattle.totem_cert.proofs.LineFacts.{same_parts}
-use Rattle.totem_cert.proofs.Lists.{previous}
+use Rattle.totem_cert.proofs.Lists.{at_index, previous}
 use Rattle.totem_cert.proofs.Walking.{antisym}
 use Rattle.totem_cert.proofs.Turning.{one_turn, round_distinct}
 
@@ -31,9 +31,6 @@ one_step_of run k v w a b =
     let to : v.to ≡ w.to = antisym v.to w.to (a.least w.from w.to b.shares b.holds) (b.least v.from v.to a.shares a.holds) in
     visit_same v w (one_holder run v.from w.from w.to (rw to at a.holds) b.holds) to
 
-same_head : (xs : List Step) (v w : Step) (i : ℕ) → slice_get xs i ≡ Some v → slice_get xs i ≡ Some w → v ≡ w
-same_head xs v w i a b = cc
-
 -- two walks from one event take the same steps
 module _ (run : List Log) (start : Place) (xs ys : List Step) (a : IsWalk run start xs) (b : IsWalk run start ys) where
   pub same_steps : (i : ℕ) (v w : Step) → slice_get xs i ≡ Some v → slice_get ys i ≡ Some w → v ≡ w
@@ -47,24 +44,16 @@ module _ (run : List Log) (start : Place) (xs ys : List Step) (a : IsWalk run st
 
   -- a walk that has returned is no shorter
   pub not_shorter : (again : ℕ) (last : Step) → ComesBack run start xs again last → length xs < length ys → ⊥
-  not_shorter again last back lt = go (length xs) refl back.at_end
-    where
-      go : (n : ℕ) → length xs ≡ n → slice_get xs (length xs - 1) ≡ Some last → ⊥
-      go zero none at = let h = slice_get_within xs (length xs - 1) last at in omega arith
-      go (suc n) more at =
-          let n_is : length xs - 1 ≡ n = omega arith in
-          let at_n : slice_get xs n ≡ Some last = rw n_is at at in
-          let t : Step = get_or ys n last in
-          let at_t : slice_get ys n ≡ Some t = slice_get-get_or ys n last (omega arith) in
-          let w : Step = get_or ys (n + 1) last in
-          let at_w : slice_get ys (n + 1) ≡ Some w = slice_get-get_or ys (n + 1) last (omega arith) in
-          let one : last ≡ t = same_steps n last t at_n at_t in
-          let step : IsStepOf run last.from w = subst (λ (u : Step). IsStepOf run u.from w) (sym one) (b.next n t w at_t at_w) in
-          let r : Step = get_or ys again last in
-          let within = slice_get_within xs again back.step back.at_again in
-          let at_r : slice_get ys again ≡ Some r = slice_get-get_or ys again last (omega arith) in
-          let two : back.step ≡ r = same_steps again back.step r back.at_again at_r in
-          b.new again (n + 1) r w at_r at_w (omega arith) (rw (← two) (class_trans run back.step.to last.from w.to back.comes_back step.shares))
+  not_shorter again last back lt =
+      let end = slice_get_within xs (length xs - 1) last back.at_end in
+      let within = slice_get_within xs again back.step back.at_again in
+      let t = at_index ys (length xs - 1) (omega arith) in
+      let w = at_index ys (length xs - 1 + 1) (omega arith) in
+      let r = at_index ys again (omega arith) in
+      let one : last ≡ t.0 = same_steps (length xs - 1) last t.0 back.at_end t.1 in
+      let two : back.step ≡ r.0 = same_steps again back.step r.0 back.at_again r.1 in
+      let step : IsStepOf run last.from w.0 = subst (λ (u : Step). IsStepOf run u.from w.0) (sym one) (b.next (length xs - 1) t.0 w.0 t.1 w.1) in
+      b.new again (length xs - 1 + 1) r.0 w.0 r.1 w.1 (omega arith) (rw (← two) (class_trans run back.step.to last.from w.0.to back.comes_back step.shares))
 
 same_list : (xs ys : List Step) → length xs ≡ length ys → ((i : ℕ) (v w : Step) → slice_get xs i ≡ Some v → slice_get ys i ≡ Some w → v ≡ w) → xs ≡ ys
 same_list [] [] e h = refl
@@ -88,7 +77,7 @@ one_walk run start xs ys i j v w a b = elim (less_or_not (length xs) (length ys)
 -- and they return to the same class, at the same step
 pub one_return : (run : List Log) (start : Place) (xs : List Step) (i j : ℕ) (v w : Step) → ComesBack run start xs i v → ComesBack run start xs j w → (i ≡ j) × (v ≡ w)
 one_return run start xs i j v w a b =
-    let last : v ≡ w = same_head xs v w (length xs - 1) a.at_end b.at_end in
+    let last : v ≡ w = (let p = a.at_end in let q = b.at_end in cc) in
     (go last (less_or_not i j), last)
   where
     go : v ≡ w → (i < j) ⊎ ((j < i) ⊎ (i ≡ j)) → i ≡ j

@@ -1,6 +1,8 @@
 -- The closed list breaks the specification that it names.
 use Rattle.std.proofs.Common.{◌≡◌, ◌≢◌, ℕ, zero, suc, ◌+◌, ◌-◌, ◌⊎◌, inl, inr, List, [], ◌∷◌, ◌++◌, length, drop, slice_get, Some, Bool, true, false, refl, sym, ◌∙◌, ap, arith, length-drop}
+use Rattle.std.proofs.Math.Seq.{drop-cons}
 use Rattle.std.proofs.lemmas.List.{append-nil}
+use Rattle.std.proofs.lemmas.Option.{slice_get_within, get_or_from_slice_get}
 use Rattle.totem_ids.specs.declared.place.Place.{Place}
 use Rattle.totem_evs.specs.declared.log.Log.{Log}
 use Rattle.totem_evs.specs.declared.spec.SpecNo.{SpecNo}
@@ -125,6 +127,9 @@ get_drop [] (suc k) i = refl
 get_drop (x ∷ xs) zero i = let h : 0 + i ≡ i = omega arith in rw h refl
 get_drop (x ∷ xs) (suc k) i = let h : suc k + i ≡ suc (k + i) = omega arith in rw h (get_drop xs k i)
 
+pub drop_here : (xs : List Step) (i : ℕ) (v : Step) → slice_get xs i ≡ Some v → drop i xs ≡ v ∷ drop (suc i) xs
+drop_here xs i v at = drop-cons xs i v (slice_get_within xs i v at) ∙ ap (λ (u : Step). u ∷ drop (suc i) xs) (get_or_from_slice_get xs i v v at)
+
 linked_of : (run : List Log) (vs : List Step) (p : Place) → ((v : Step) → slice_get vs 0 ≡ Some v → InClass run v.to p) → ((i : ℕ) (v w : Step) → slice_get vs i ≡ Some v → slice_get vs (suc i) ≡ Some w → InClass run w.to v.from)
     → ((i : ℕ) (v : Step) → slice_get vs i ≡ Some v → Strict run v.from v.to) → Linked run p vs
 linked_of run [] p first next strict = tt
@@ -148,7 +153,7 @@ broken run k (e ∷ es) closed (inr (is, never)) = let h : Breaks run spec.Cycle
 
 pub closed_breaks : (run : List Log) (k : SpecNo) (places : List Place) → IsClosedList run k places → Breaks run k places
 closed_breaks run k places h =
-    let whole : IsClosed run (IsOrderStep run) (forward h.last.from (drop h.again h.steps)) = closed (drop h.again h.steps) refl in
+    let whole : IsClosed run (IsOrderStep run) (forward h.last.from (drop h.again h.steps)) = rw here (round_closed run h.back.step (drop (suc h.again) h.steps) h.last end (rw here at linked)) in
     let w : IsClosed run (IsOrderStep run) (h.written.front ++ h.written.back) = rw h.written.was at whole in
     let t : IsClosed run (IsOrderStep run) places = rw h.written.is (turn run (IsOrderStep run) h.written.front h.written.back w) in
     broken run k places t h.broken
@@ -162,13 +167,12 @@ closed_breaks run k places h =
         (λ i v w g g'. (let e : h.again + suc i ≡ h.again + i + 1 = omega arith in class_sym run v.from w.to (h.back.walk.next (h.again + i) v w (at i v g) (rw e at (at (suc i) w g'))).shares))
         (λ i v g. (let s = step_in run h.start h.steps (h.again + i) v h.back.walk (at i v g) in holds_strict run v.from v.to (event_of run s.0 v.to s.1.shares) s.1.holds))
 
-    end : (v : Step) (vs : List Step) → drop h.again h.steps ≡ v ∷ vs → slice_get (v ∷ vs) (length vs) ≡ Some h.last
-    end v vs is =
-        let len : length h.steps - h.again ≡ suc (length vs) = sym (length-drop h.again h.steps) ∙ ap length is in
-        let e : h.again + length vs ≡ length h.steps - 1 = omega arith in
-        let g : slice_get (drop h.again h.steps) (length vs) ≡ Some h.last = get_drop h.steps h.again (length vs) ∙ (rw e h.back.at_end) in
-        rw is at g
+    here : drop h.again h.steps ≡ h.back.step ∷ drop (suc h.again) h.steps
+    here = drop_here h.steps h.again h.back.step h.back.at_again
 
-    closed : (vs : List Step) → drop h.again h.steps ≡ vs → IsClosed run (IsOrderStep run) (forward h.last.from vs)
-    closed [] is = absurd (let e : h.again + 0 ≡ h.again = omega arith in let g : slice_get (drop h.again h.steps) 0 ≡ Some h.back.step = get_drop h.steps h.again 0 ∙ (rw e h.back.at_again) in let g' : slice_get {X = Step} [] 0 ≡ Some h.back.step = rw is at g in cc)
-    closed (v ∷ vs) is = round_closed run v vs h.last (end v vs is) (rw is at linked)
+    end : slice_get (h.back.step ∷ drop (suc h.again) h.steps) (length (drop (suc h.again) h.steps)) ≡ Some h.last
+    end =
+        let within = slice_get_within h.steps h.again h.back.step h.back.at_again in
+        let e : h.again + length (drop (suc h.again) h.steps) ≡ length h.steps - 1 = omega (arith, length-drop (suc h.again) h.steps) in
+        let g : slice_get (drop h.again h.steps) (length (drop (suc h.again) h.steps)) ≡ Some h.last = get_drop h.steps h.again (length (drop (suc h.again) h.steps)) ∙ (rw e h.back.at_end) in
+        rw here at g

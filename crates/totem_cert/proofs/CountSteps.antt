@@ -5,7 +5,6 @@ use Rattle.std.proofs.Math.ListN.{set, drop_of_length-le}
 use Rattle.std.proofs.lemmas.Option.{slice_get_within, slice_get_read, get_or_from_slice_get}
 use Rattle.std.proofs.lemmas.List.{get_or_past}
 use Rattle.totem_evs.specs.declared.entry.Entry.{Entry}
-use Rattle.totem_evs.specs.declared.entry.Entry.TheVariants.{Conf, Send, Deliver, Fail}
 use Rattle.totem_evs.specs.declared.log.Log.{Log}
 use Rattle.totem_evs.specs.Certificates.{Numbering}
 use Rattle.totem_evs.specs.Runs.{IsRun, IsLog}
@@ -13,9 +12,9 @@ use Rattle.totem_table.specs.Tables.{IsTable}
 use Rattle.totem_table.specs.declared.table.Table.{Table}
 use Rattle.totem_evs.proofs.LogOf.{less_or_not}
 use Rattle.totem_cert.specs.Progress.{empty_line}
-use Rattle.totem_cert.specs.Counts.{count_of, given_at, sum_to, class_in, class_fed, class_named, one, kept_behind, kept_in, kept_at, kept_by, Counts, CountsTo, fed_by, shared_by, passed, Adds, Takes, AtMost, Pushes}
+use Rattle.totem_cert.specs.Counts.{count_of, given_at, sum_to, class_in, class_fed, one, kept_behind, kept_in, kept_at, kept_by, Counts, CountsTo, fed_by, shared_by, passed, Adds, Takes, AtMost, Pushes}
 use Rattle.totem_cert.proofs.Lists.{set_here, set_other}
-use Rattle.totem_cert.proofs.Sums.{sum_same, sum_change, sum_millions}
+use Rattle.totem_cert.proofs.Sums.{sum_change, sum_millions}
 
 one_most : (o : Option ℕ) (c : ℕ) → one o c ≤ 1
 one_most None c = omega arith
@@ -25,20 +24,13 @@ one_most (Some n) c = go (n == c) refl
     go true e = rw e (omega arith)
     go false e = rw e (omega arith)
 
--- an entry keeps a class as a send, or as an entry of the class
-named_parts : (messages : ℕ) (x : Entry) (n c : ℕ) → one (class_named messages x n) c ≡ one (class_fed x n) c + one (class_in messages x n) c
-named_parts messages (Conf x ms) n c = omega arith
-named_parts messages (Send m x s) n c = omega arith
-named_parts messages (Deliver m x) n c = omega arith
-named_parts messages (Fail x) n c = omega arith
-
 -- a log whose head gets its number
 kept_step : (messages head : ℕ) (entries : List Entry) (row : List ℕ) (c : ℕ) → head < length entries → length entries ≡ length row → kept_in messages head entries row c ≡ kept_in messages (suc head) entries row c + passed messages entries row head c
 kept_step messages head [] row c lt long = absurd (omega arith)
 kept_step messages head (x ∷ xs) [] c lt long = absurd (omega arith)
 kept_step messages zero (x ∷ []) (n ∷ ns) c lt long = omega arith
 kept_step messages zero (x ∷ y ∷ ys) (n ∷ []) c lt long = absurd (omega arith)
-kept_step messages zero (x ∷ y ∷ ys) (n ∷ m ∷ ms) c lt long = let parts = named_parts messages y m c in omega arith
+kept_step messages zero (x ∷ y ∷ ys) (n ∷ m ∷ ms) c lt long = omega arith
 kept_step messages (suc head) (x ∷ xs) (n ∷ ns) c lt long = kept_step messages head xs ns c (omega arith) (omega arith)
 
 -- the counts after the two classes that the entry at `head` kept
@@ -92,18 +84,18 @@ pub record CountsBehind (messages : ℕ) (entries : List Entry) (row old new : L
   pub each : (c : ℕ) → c < length new → get_or new c 0 + kept_behind messages (drop i entries) (drop i row) c ≡ get_or old c 0 + kept_behind messages entries row c
 
 behind_step : (messages i : ℕ) (entries : List Entry) (row : List ℕ) (x : Entry) (c : ℕ) → slice_get entries i ≡ Some x → length entries ≡ length row
-    → kept_behind messages (drop i entries) (drop i row) c ≡ one (class_named messages x (get_or row i 0)) c + kept_behind messages (drop (suc i) entries) (drop (suc i) row) c
+    → kept_behind messages (drop i entries) (drop i row) c ≡ one (class_fed x (get_or row i 0)) c + one (class_in messages x (get_or row i 0)) c + kept_behind messages (drop (suc i) entries) (drop (suc i) row) c
 behind_step messages i [] row x c at long = absurd cc
 behind_step messages i (y ∷ ys) [] x c at long = absurd (omega arith)
 behind_step messages zero (y ∷ ys) (n ∷ ns) x c at long = let same : y ≡ x = cc in rw same refl
 behind_step messages (suc i) (y ∷ ys) (n ∷ ns) x c at long = behind_step messages i ys ns x c at (omega arith)
 
-behind_most : (messages : ℕ) (entries : List Entry) (row : List ℕ) (c : ℕ) → kept_behind messages entries row c ≤ length entries
+behind_most : (messages : ℕ) (entries : List Entry) (row : List ℕ) (c : ℕ) → kept_behind messages entries row c ≤ 2 * length entries
 behind_most messages [] row c = omega arith
 behind_most messages (x ∷ xs) [] c = omega arith
-behind_most messages (x ∷ xs) (n ∷ ns) c = let rest = behind_most messages xs ns c in let here = one_most (class_named messages x n) c in omega arith
+behind_most messages (x ∷ xs) (n ∷ ns) c = let rest = behind_most messages xs ns c in let fed = one_most (class_fed x n) c in let shared = one_most (class_in messages x n) c in omega arith
 
-kept_most : (messages given : ℕ) (entries : List Entry) (row : List ℕ) (c : ℕ) → kept_in messages given entries row c ≤ length entries
+kept_most : (messages given : ℕ) (entries : List Entry) (row : List ℕ) (c : ℕ) → kept_in messages given entries row c ≤ 2 * length entries
 kept_most messages given [] row c = omega arith
 kept_most messages given (x ∷ xs) [] c = omega arith
 kept_most messages zero (x ∷ xs) (n ∷ ns) c = let rest = behind_most messages xs ns c in let here = one_most (class_fed x n) c in omega arith
@@ -115,23 +107,35 @@ behind_none messages (x ∷ xs) [] counts = record { long = refl; each = λ c lt
 behind_none messages (x ∷ xs) (n ∷ ns) counts = record { long = refl; each = λ c lt. refl }
 
 -- one more entry is counted
-pub behind_more : (messages : ℕ) (entries : List Entry) (row old mid new : List ℕ) (i : ℕ) (x : Entry) (class : Option ℕ) → slice_get entries i ≡ Some x → length entries ≡ length row → class ≡ class_named messages x (get_or row i 0)
-    → CountsBehind messages entries row old mid i → Adds mid new (one class) → CountsBehind messages entries row old new (i + 1)
-behind_more messages entries row old mid new i x class at long is so_far adds = record {
-  long = adds.long ∙ so_far.long;
+pub behind_more : (messages : ℕ) (entries : List Entry) (row old mid half new : List ℕ) (i : ℕ) (x : Entry) (fed shared : Option ℕ) → slice_get entries i ≡ Some x → length entries ≡ length row → fed ≡ class_fed x (get_or row i 0) → shared ≡ class_in messages x (get_or row i 0)
+    → CountsBehind messages entries row old mid i → Adds mid half (one fed) → Adds half new (one shared) → CountsBehind messages entries row old new (i + 1)
+behind_more messages entries row old mid half new i x fed shared at long fed_is shared_is so_far first second = record {
+  long = second.long ∙ first.long ∙ so_far.long;
   each = λ c lt.
       let s : i + 1 ≡ suc i = omega arith in
-      rw s (add_up _ _ _ _ _ _ (adds.each c lt) (so_far.each c (rw adds.long at lt)) (rw is (behind_step messages i entries row x c at long)));
+      let lt' : c < length half = rw second.long at lt in
+      rw s (add_up _ _ _ _ _ _ _ _ (second.each c lt) (first.each c lt') (so_far.each c (rw first.long at lt')) (rw (fed_is, shared_is) (behind_step messages i entries row x c at long)));
 }
   where
-    add_up : (p q f r s t : ℕ) → p ≡ q + f → q + r ≡ s → r ≡ f + t → p + t ≡ s
-    add_up p q f r s t a b c = omega arith
+    add_up : (p h q f g r s t : ℕ) → p ≡ h + g → h ≡ q + f → q + r ≡ s → r ≡ f + g + t → p + t ≡ s
+    add_up p h q f g r s t a b c d = omega arith
 
--- no count is greater than the number of entries before
-pub behind_few : (messages : ℕ) (entries : List Entry) (row old new : List ℕ) (i : ℕ) → AtMost old 31000000 → length entries ≤ 1000000 → CountsBehind messages entries row old new i → AtMost new 100000000
+pub at_most_more : (counts : List ℕ) (a b : ℕ) → AtMost counts a → a ≤ b → AtMost counts b
+at_most_more counts a b few le = record { each = λ c. (let h = few.each c in omega arith) }
+
+pub adds_few : (old new : List ℕ) (class : Option ℕ) → AtMost old 90000000 → Adds old new (one class) → AtMost new 100000000
+adds_few old new class few adds = record {
+  each = λ c. elim (less_or_not c (length new)) [
+    | inl within ↦ (let a = adds.each c within in let b = few.each c in let m = one_most class c in omega arith)
+    | inr past ↦ (let p : get_or new c 0 ≡ 0 = get_or_past new c 0 (grind arith) in omega arith)
+  ];
+}
+
+-- no count is greater than twice the number of entries before
+pub behind_few : (messages : ℕ) (entries : List Entry) (row old new : List ℕ) (i : ℕ) → AtMost old 62000000 → length entries ≤ 1000000 → CountsBehind messages entries row old new i → AtMost new 90000000
 behind_few messages entries row old new i few short so_far = record { each = λ c. each c (less_or_not c (length new)) }
   where
-    each : (c : ℕ) → (c < length new) ⊎ ((length new < c) ⊎ (c ≡ length new)) → get_or new c 0 ≤ 100000000
+    each : (c : ℕ) → (c < length new) ⊎ ((length new < c) ⊎ (c ≡ length new)) → get_or new c 0 ≤ 90000000
     each c (inl within) = let a = so_far.each c within in let b = few.each c in let m = behind_most messages entries row c in omega arith
     each c (inr past) = (let p : get_or new c 0 ≡ 0 = get_or_past new c 0 (grind arith) in omega arith)
 
@@ -152,31 +156,37 @@ behind_all messages entries row old mid new i end long so_far takes = record {
     head : (c : ℕ) (es : List Entry) (ns : List ℕ) → length es ≡ length ns → kept_behind messages es ns c ≡ kept_in messages 0 es ns c + one (shared_by messages (slice_get es 0) (get_or ns 0 0)) c
     head c [] ns long = refl
     head c (x ∷ xs) [] long = absurd (omega arith)
-    head c (x ∷ xs) (n ∷ ns) long = let parts = named_parts messages x n c in omega arith
+    head c (x ∷ xs) (n ∷ ns) long = omega arith
 
 -- ---- all logs
 
 -- the counts so far are small enough
-pub counts_few : (run : List Log) (table : Table) (counts : List ℕ) (k : ℕ) → ((j : ℕ) (log : Log) → slice_get run j ≡ Some log → length log.entries ≤ 1000000) → k ≤ 31 → CountsTo run table counts k → AtMost counts 31000000
-counts_few run table counts k short le to = record { each = λ c. each c (less_or_not c (length counts)) }
+pub counts_few : (run : List Log) (table : Table) (lines : List Numbering) (counts : List ℕ) (k : ℕ) → ((j : ℕ) (log : Log) → slice_get run j ≡ Some log → length log.entries ≤ 1000000) → k ≤ 31 → CountsTo run table lines counts k → AtMost counts 62000000
+counts_few run table lines counts k short le to = record { each = λ c. each c (less_or_not c (length counts)) }
   where
-    at_most : (c j : ℕ) → kept_at run table 0 c j ≤ 1000000
+    at_most : (c j : ℕ) → kept_at run table (given_at lines j) c j ≤ 2000000
     at_most c j = go (slice_get run j) refl
       where
-        go : (o : Option Log) → slice_get run j ≡ o → kept_at run table 0 c j ≤ 1000000
+        go : (o : Option Log) → slice_get run j ≡ o → kept_at run table (given_at lines j) c j ≤ 2000000
         go None is = rw is (omega arith)
-        go (Some log) is = let s = short j log is in let m = kept_most (length table.messages.items) 0 log.entries (get_or table.rows.items j []) c in rw is (let m' = m in let s' = s in omega arith)
+        go (Some log) is = let s = short j log is in let m = kept_most (length table.messages.items) (given_at lines j) log.entries (get_or table.rows.items j []) c in rw is (let m' = m in let s' = s in omega arith)
 
-    each : (c : ℕ) → (c < length counts) ⊎ ((length counts < c) ⊎ (c ≡ length counts)) → get_or counts c 0 ≤ 31000000
+    each : (c : ℕ) → (c < length counts) ⊎ ((length counts < c) ⊎ (c ≡ length counts)) → get_or counts c 0 ≤ 62000000
     each c (inl within) =
-        let a : get_or counts c 0 ≡ sum_to k (kept_at run table 0 c) = to.each c within in
-        let m : sum_to k (kept_at run table 0 c) ≤ k * 1000000 = sum_millions k (kept_at run table 0 c) (at_most c) in
+        let a : get_or counts c 0 ≡ sum_to k (λ j. kept_at run table (given_at lines j) c j) = to.each c within in
+        let m : sum_to k (λ j. kept_at run table (given_at lines j) c j) ≤ k * 2000000 = sum_millions k (λ j. kept_at run table (given_at lines j) c j) (at_most c) in
         omega arith
     each c (inr past) = (let p : get_or counts c 0 ≡ 0 = get_or_past counts c 0 (grind arith) in omega arith)
 
+empty_given : (run : List Log) (k : ℕ) → given_at (map empty_line run) k ≡ 0
+empty_given [] zero = refl
+empty_given [] (suc k) = refl
+empty_given (log ∷ logs) zero = refl
+empty_given (log ∷ logs) (suc k) = empty_given logs k
+
 -- one more log is counted
-pub counts_more : (run : List Log) (table : Table) (old new : List ℕ) (k messages : ℕ) (log : Log) (entries : List Entry) (row : List ℕ) → CountsTo run table old k → slice_get run k ≡ Some log
-    → messages ≡ length table.messages.items → entries ≡ log.entries → row ≡ get_or table.rows.items k [] → Adds old new (kept_in messages 0 entries row) → CountsTo run table new (k + 1)
+pub counts_more : (run : List Log) (table : Table) (old new : List ℕ) (k messages : ℕ) (log : Log) (entries : List Entry) (row : List ℕ) → CountsTo run table (map empty_line run) old k → slice_get run k ≡ Some log
+    → messages ≡ length table.messages.items → entries ≡ log.entries → row ≡ get_or table.rows.items k [] → Adds old new (kept_in messages 0 entries row) → CountsTo run table (map empty_line run) new (k + 1)
 counts_more run table old new k messages log entries row to log_at messages_is entries_is row_is adds = record {
   long = adds.long ∙ to.long;
   each = λ c within. each c within;
@@ -185,30 +195,13 @@ counts_more run table old new k messages log entries row to log_at messages_is e
     total : (p q r t u : ℕ) → p ≡ q + t → q ≡ r → u ≡ t → p ≡ r + u
     total p q r t u a b h = omega arith
 
-    each : (c : ℕ) → c < length new → get_or new c 0 ≡ sum_to (k + 1) (kept_at run table 0 c)
+    each : (c : ℕ) → c < length new → get_or new c 0 ≡ sum_to (k + 1) (λ j. kept_at run table (given_at (map empty_line run) j) c j)
     each c within =
         let a : get_or new c 0 ≡ get_or old c 0 + kept_in messages 0 entries row c = adds.each c within in
-        let b : get_or old c 0 ≡ sum_to k (kept_at run table 0 c) = to.each c (rw adds.long at within) in
-        let h : kept_at run table 0 c k ≡ kept_in messages 0 entries row c = rw (log_at, messages_is, entries_is, row_is) refl in
+        let b : get_or old c 0 ≡ sum_to k (λ j. kept_at run table (given_at (map empty_line run) j) c j) = to.each c (rw adds.long at within) in
+        let h : kept_at run table (given_at (map empty_line run) k) c k ≡ kept_in messages 0 entries row c = rw (empty_given run k, log_at, messages_is, entries_is, row_is) refl in
         let s : k + 1 ≡ suc k = omega arith in
         rw s (total _ _ _ _ _ a b h)
-
-empty_given : (run : List Log) (k : ℕ) → given_at (map empty_line run) k ≡ 0
-empty_given [] zero = refl
-empty_given [] (suc k) = refl
-empty_given (log ∷ logs) zero = refl
-empty_given (log ∷ logs) (suc k) = empty_given logs k
-
--- all logs are counted
-pub counts_whole : (run : List Log) (table : Table) (counts : List ℕ) (k : ℕ) → k ≡ length run → CountsTo run table counts k → Counts run table (map empty_line run) counts
-counts_whole run table counts k is to = record {
-  long = to.long;
-  each = λ c within. to.each c within ∙ (rw is (sum_same (length run) (kept_at run table 0 c) (λ j. kept_at run table (given_at (map empty_line run) j) c j)
-      (λ j lt. ap (λ (g : ℕ). kept_at run table g c j) (sym (empty_given run j)))));
-}
-
-pub counts_none : (run : List Log) (table : Table) (counts : List ℕ) → length counts ≡ length table.messages.items + length table.confs.items → ((c : ℕ) → get_or counts c 0 ≡ 0) → CountsTo run table counts 0
-counts_none run table counts long zeros = record { long = long; each = λ c within. zeros c }
 
 -- a line with one more number
 pub pushes_of : (old new : List Numbering) (k n : ℕ) (read now : Numbering) → k < length old → read ≡ get_or old k read → new ≡ set old k now → now ≡ record read { numbers = read.numbers ++ n ∷ [] } → Pushes old new k n
@@ -219,6 +212,9 @@ takes_as old new m n xs ys row other h g a b c d takes = rw (a, b, c, d) at take
 
 pub class_as : (o : Option ℕ) (m n : ℕ) (x : Entry) (row other : List ℕ) (h g : ℕ) → m ≡ n → row ≡ other → h ≡ g → o ≡ class_in m x (get_or row h 0) → o ≡ class_in n x (get_or other g 0)
 class_as o m n x row other h g a b c is = rw (a, b, c) at is
+
+pub next_as : (o : Option ℕ) (m n : ℕ) (xs ys : List Entry) (row other : List ℕ) (h : ℕ) → m ≡ n → xs ≡ ys → row ≡ other → o ≡ shared_by m (slice_get xs h) (get_or row h 0) → o ≡ shared_by n (slice_get ys h) (get_or other h 0)
+next_as o m n xs ys row other h a b c is = rw (a, b, c) at is
 
 -- the row of a log, as the code reads it
 pub table_row : (run : List Log) (table : Table) (k : ℕ) (log : Log) (entries : List Entry) (row read : List ℕ) → IsTable run table → slice_get run k ≡ Some log → entries ≡ log.entries → read ≡ get_or table.rows.items k read → row ≡ read

@@ -4,7 +4,7 @@ use Rattle.std.specs.Prelude.{◌==◌}
 use Rattle.std.proofs.Math.ListN.{set, length-set}
 use Rattle.std.proofs.lemmas.List.{get_or-set_same, get_or-set_other}
 use Rattle.totem_cert.specs.Counts.{one, Adds, Takes}
-use Rattle.totem_cert.proofs.Lists.{same_or_not}
+use Rattle.std.proofs.lemmas.Bool.{cases_eq}
 
 one_here : (n c : ℕ) → c ≡ n → one (Some n) c ≡ 1
 one_here n c same = let test : (n == c) ≡ true = rw same (search rules) in rw test refl
@@ -21,7 +21,7 @@ at_class old class n c within same = rw same (get_or-set_same old class n 0 with
 
 -- what a write at the class leaves of each count
 set_count : (old : List ℕ) (class n c : ℕ) → class < length old → ((get_or (set old class n) c 0 ≡ n) × (get_or old c 0 ≡ get_or old class 0) × (one (Some class) c ≡ 1)) ⊎ ((get_or (set old class n) c 0 ≡ get_or old c 0) × (one (Some class) c ≡ 0))
-set_count old class n c within = elim (same_or_not c class) [
+set_count old class n c within = elim (cases_eq c class) [
   | inl same ↦ inl (at_class old class n c within same, ap (λ (i : ℕ). get_or old i 0) same, one_here class c same)
   | inr other ↦ inr (get_or-set_other old class c n 0 other, one_other class c other)
 ]

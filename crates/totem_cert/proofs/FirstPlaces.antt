@@ -1,10 +1,10 @@
 -- The first wanted entries, noted entry by entry.
-use Rattle.std.proofs.Common.{◌≡◌, ◌≢◌, ℕ, ◌+◌, ◌<◌, ◌≤◌, ◌⊎◌, inl, inr, List, [], ◌∷◌, ◌++◌, length, set, replicate, get_or, slice_get, Option, Some, None, Bool, true, false, cond, refl, sym, ◌∙◌, ap, arith}
+use Rattle.std.proofs.Common.{◌≡◌, ◌≢◌, ℕ, ◌+◌, ◌<◌, ◌≤◌, ◌⊎◌, inl, inr, List, length, set, get_or, slice_get, Option, Some, None, Bool, true, false, cond, refl, sym, ◌∙◌, ap, arith}
 use Rattle.std.specs.Prelude.{if◌then◌else◌, nat_le, nat_lt}
 use Rattle.std.proofs.Math.Dec.{leb, ltb}
 use Rattle.std.proofs.lemmas.Bool.{leb-true, ltb-true}
 use Rattle.std.proofs.lemmas.Option.{slice_get_within, slice_get-get_or, get_or_from_slice_get}
-use Rattle.std.proofs.lemmas.List.{length-set, get_or-replicate, replicate-append-replicate}
+use Rattle.std.proofs.lemmas.List.{length-set}
 use Rattle.totem_ids.specs.declared.place.Place.{Place}
 use Rattle.totem_evs.specs.declared.entry.Entry.{Entry}
 use Rattle.totem_evs.specs.declared.log.Log.{Log}
@@ -15,12 +15,13 @@ use Rattle.totem_cert.specs.declared.firsts.Wanted.{Wanted}
 use Rattle.totem_cert.specs.Search.{place}
 use Rattle.totem_cert.specs.Counts.{given_at}
 use Rattle.totem_cert.specs.Firsts.{class_wanted, IsWanted, IsPast, AreFirsts, AreFirstsTo, Notes}
-use Rattle.totem_cert.proofs.Lists.{set_here, set_other, same_or_not}
+use Rattle.std.proofs.lemmas.Bool.{cases_eq}
+use Rattle.totem_cert.proofs.Lists.{set_here, set_other}
 
 pub notes_first : (old : List (Option Place)) (class : ℕ) (e : Place) → class < length old → get_or old class None ≡ None → Notes old (set old class (Some e)) (Some class) e
 notes_first old class e within none = record {
   long = length-set old class (Some e);
-  each = λ c. elim (same_or_not c class) [
+  each = λ c. elim (cases_eq c class) [
     | inl same ↦ inr (ap Some (sym same), rw same (slice_get-get_or old class None within ∙ ap Some none), rw same (set_here old class (Some e) within))
     | inr other ↦ inl (set_other old class c (Some e) other, λ h. absurd (other (let g = h in cc)))
   ];
@@ -104,7 +105,7 @@ module _ (run : List Log) (table : Table) (lines : List Numbering) (wanted : Wan
   }
     where
       earlier : (c l j : ℕ) → IsPast (k + 1) 0 l j → IsWanted run table lines wanted c l j → IsPast k i l j
-      earlier c l j past w = elim (same_or_not l k) [
+      earlier c l j past w = elim (cases_eq l k) [
         | inl same ↦
             let one : w.at.log ≡ log = (let a : slice_get run k ≡ Some w.at.log = rw same at w.at.is_log in cc) in
             let lt : j < length log.entries = rw one at (slice_get_within w.at.log.entries j w.entry w.at.is_entry) in
@@ -118,20 +119,6 @@ module _ (run : List Log) (table : Table) (lines : List Numbering) (wanted : Wan
 
   pub unwanted : (firsts : List (Option Place)) (c l j : ℕ) → AreFirsts run table lines wanted firsts → slice_get firsts c ≡ Some None → IsWanted run table lines wanted c l j → ⊥
   unwanted firsts c l j are at w = are.none c l j at (inl (slice_get_within run l w.at.log w.at.is_log)) w
-
-  pub no_firsts : (firsts : List (Option Place)) → length firsts ≡ length table.messages.items + length table.confs.items → firsts ≡ replicate (length firsts) None → AreFirstsTo run table lines wanted firsts 0 0
-  no_firsts firsts long is = record {
-    long = long;
-    none = λ c l j at_c past w. elim past [ inl lt ↦ omega arith | inr both ↦ omega (arith, both.1) ];
-    found = λ c e at_c. absurd (
-        let lt = slice_get_within firsts c (Some e) at_c in
-        let a : get_or firsts c None ≡ Some e = get_or_from_slice_get firsts c (Some e) None at_c in
-        let b : get_or firsts c None ≡ None = rw is (get_or-replicate {A = Option Place} (length firsts) c None None lt) in
-        cc);
-  }
-
-pub none_more : (n : ℕ) (firsts : List (Option Place)) → firsts ≡ replicate n None → firsts ++ None ∷ [] ≡ replicate (n + 1) None
-none_more n firsts is = rw is (replicate-append-replicate n 1 None)
 
 pub wanted_as : (o : Option ℕ) (wanted : Wanted) (m n g h i : ℕ) (x : Entry) (row read : List ℕ) → m ≡ n → g ≡ h → row ≡ read → o ≡ class_wanted wanted m g i x (get_or row i 0) → o ≡ class_wanted wanted n h i x (get_or read i 0)
 wanted_as o wanted m n g h i x row read a b c is = rw (a, b, c) at is

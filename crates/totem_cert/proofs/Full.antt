@@ -1,7 +1,7 @@
 -- If each entry has a number, the lines are the run's certificate.
-use Rattle.std.proofs.Common.{◌≡◌, ℕ, suc, ◌<◌, ◌≤◌, ◌⊎◌, inl, inr, List, [], ◌∷◌, length, get_or, slice_get, Some, None, refl, sym, ◌∙◌, arith}
+use Rattle.std.proofs.Common.{◌≡◌, suc, ◌<◌, inl, inr, List, [], ◌∷◌, length, get_or, Some, refl, sym, ◌∙◌, arith}
 use Rattle.std.specs.Prelude.{All}
-use Rattle.std.proofs.lemmas.Option.{slice_get_within, slice_get-get_or, slice_get_cases}
+use Rattle.std.proofs.lemmas.Option.{slice_get_within, slice_get-get_or}
 use Rattle.totem_ids.specs.declared.place.Place.{Place}
 use Rattle.totem_evs.specs.declared.entry.Entry.TheVariants.{Deliver}
 use Rattle.totem_evs.specs.declared.log.Log.{Log}
@@ -14,6 +14,7 @@ use Rattle.totem_evs.specs.Classes.{WaitsFor}
 use Rattle.totem_evs.specs.Positions.{IsPositions}
 use Rattle.totem_cert.specs.Progress.{Fits, IsSound, IsFull, IsNumbered}
 use Rattle.totem_cert.proofs.LineFacts.{stands_at, stands_in, event_at, within_numbered, fits_tail}
+use Rattle.totem_cert.proofs.Lists.{at_index}
 
 full_tail : (log : Log) (logs : List Log) (line : Numbering) (lines : List Numbering) → IsFull (log ∷ logs) (line ∷ lines) → IsFull logs lines
 full_tail log logs line lines full = record { full = λ j l n at_l at_n. full.full (suc j) l n at_l at_n }
@@ -46,15 +47,11 @@ module _ (run : List Log) (lines : List Numbering) (rising : Rising run) (sound 
       (b.number, n.number, b.given, n.given, b.below)
 
   positive : All (λ line. All (λ n. 0 < n) line.numbers) lines
-  positive = λ k d lt i e lt'. in_line k (get_or lines k d) (slice_get-get_or lines k d lt) i e lt' (slice_get_cases run k).1
-    where
-      in_line : (k : ℕ) (line : Numbering) → slice_get lines k ≡ Some line → (i e : ℕ) → i < length line.numbers
-          → ((log : Log) × (k < length run) × (slice_get run k ≡ Some log) × (get_or run k log ≡ log)) ⊎ ((length run ≤ k) × (slice_get run k ≡ None)) → 0 < get_or line.numbers i e
-      in_line k line at i e lt (inl (log, within, at_l, _)) =
-          let s = stands_at run lines k log line rising sound.fits at_l at in
-          let given : number_at lines (place log.proc i) ≡ Some (get_or line.numbers i e) = rw s.line_is (slice_get-get_or line.numbers i e lt) in
-          sound.sound.positive (place log.proc i) (get_or line.numbers i e) given
-      in_line k line at i e lt (inr (le, _)) = absurd (let c = sound.fits.count in let w = slice_get_within lines k line at in omega arith)
+  positive = λ k d lt i e within.
+      let (log, log_at) = at_index run k (let c = sound.fits.count in omega arith) in
+      let s = stands_at run lines k log (get_or lines k d) rising sound.fits log_at (slice_get-get_or lines k d lt) in
+      let given : number_at lines (place log.proc i) ≡ Some (get_or (get_or lines k d).numbers i e) = rw s.line_is (slice_get-get_or (get_or lines k d).numbers i e within) in
+      sound.sound.positive (place log.proc i) (get_or (get_or lines k d).numbers i e) given
 
   pub full_positions : IsPositions run lines
   full_positions = record {

@@ -14,12 +14,15 @@ use Rattle.totem_table.specs.Tables.{IsTable, IsEntryAt}
 use Rattle.totem_cert.specs.declared.heads.Head.{Head}
 use Rattle.totem_cert.specs.declared.heads.Head.TheVariants.{Class}
 use Rattle.totem_cert.specs.Search.{place}
-use Rattle.totem_cert.specs.Counts.{class_at, count_of, given_at, Pushes, Tells}
+use Rattle.totem_cert.specs.Counts.{class_at, count_of, given_at, Pushes}
 use Rattle.totem_cert.specs.Heads.{IsHead}
 use Rattle.totem_cert.specs.Progress.{Fits, IsGiven, IsNext, IsNextIn, IsSound, entries_left}
-use Rattle.totem_cert.proofs.Lists.{same_or_not, set_here, set_other, push_here, push_other}
+use Rattle.totem_evs.proofs.Pushing.{stands_last}
+use Rattle.totem_cert.proofs.Lists.{set_here, set_other, push_other}
 use Rattle.totem_cert.proofs.Classmates.{class_self}
-use Rattle.totem_cert.proofs.ClassHeads.{alone_itself, in_class, class_in, head_is}
+use Rattle.std.proofs.lemmas.Bool.{cases_eq}
+use Rattle.totem_cert.proofs.Classes.{alone_itself, in_class, class_from}
+use Rattle.totem_cert.proofs.ClassHeads.{head_is}
 use Rattle.totem_cert.proofs.LineFacts.{same_parts, stands_at}
 use Rattle.totem_cert.proofs.LogHeads.{ready_same}
 use Rattle.totem_cert.proofs.Next.{ready_at}
@@ -71,13 +74,13 @@ module _ (run : List Log) (rising : Rising run) (old new : List Numbering) (fits
   pub push_fits : Fits run new
   push_fits = record {
     count = rw pushes.is (length-set old k (longer_by n pushes.line)) ∙ fits.count;
-    proc = λ j l m at_l at_m. elim (same_or_not j k) [
+    proc = λ j l m at_l at_m. elim (cases_eq j k) [
       | inl same ↦ (let one : l ≡ log = (let h : slice_get run k ≡ Some l = rw same at at_l in cc) in
           let two : m ≡ longer_by n pushes.line = (let h : slice_get new k ≡ Some m = rw same at at_m in let g = now_at in cc) in
           rw (one, two) (fits.proc k log pushes.line log_at pushes.line_at))
       | inr other ↦ fits.proc j l m at_l (sym (stays j other) ∙ at_m)
     ];
-    short = λ j l m at_l at_m. elim (same_or_not j k) [
+    short = λ j l m at_l at_m. elim (cases_eq j k) [
       | inl same ↦ (let one : l ≡ log = (let h : slice_get run k ≡ Some l = rw same at at_l in cc) in
           let two : m ≡ longer_by n pushes.line = (let h : slice_get new k ≡ Some m = rw same at at_m in let g = now_at in cc) in
           let short : length (pushes.line.numbers ++ n ∷ []) ≤ length log.entries = omega (arith, longer, given_is, lt) in
@@ -96,11 +99,11 @@ module _ (run : List Log) (rising : Rising run) (old new : List Numbering) (fits
   numbers_are = ((stands_at run old k log pushes.line rising fits log_at pushes.line_at).line_is, (stands_at run new k log (longer_by n pushes.line) rising push_fits log_at now_at).line_is)
 
   pub push_fresh : number_at new (place log.proc (given_at old k)) ≡ Some n
-  push_fresh = rw (given_is, numbers_are.1) (push_here pushes.line.numbers n)
+  push_fresh = rw (given_is, numbers_are.1) (stands_last pushes.line.numbers n)
 
   -- no other number changed
   pub push_changes : (e : Place) → (e ≡ place log.proc (given_at old k)) ⊎ (number_at new e ≡ number_at old e)
-  push_changes e = elim (same_or_not e.proc log.proc) [
+  push_changes e = elim (cases_eq e.proc log.proc) [
     | inl same ↦ go e.at refl same
     | inr other ↦ inr (ap (λ (ns : List ℕ). number_in ns e.at) (rw pushes.is (numbers_stay old k pushes.line (longer_by n pushes.line) e.proc pushes.line_at refl
         (λ same. other (sym same ∙ fits.proc k log pushes.line log_at pushes.line_at)))))
@@ -108,7 +111,7 @@ module _ (run : List Log) (rising : Rising run) (old new : List Numbering) (fits
     where
       go : (a : ℕ) → e.at ≡ a → e.proc ≡ log.proc → (e ≡ place log.proc (given_at old k)) ⊎ (number_at new e ≡ number_at old e)
       go zero at proc = inr (rw at refl)
-      go (suc i) at proc = elim (same_or_not i (length pushes.line.numbers)) [
+      go (suc i) at proc = elim (cases_eq i (length pushes.line.numbers)) [
         | inl here ↦ inl (same_parts e log.proc (suc (given_at old k)) proc (omega (arith, given_is)))
         | inr other ↦ inr (rw (proc, at, numbers_are.0, numbers_are.1) (push_other pushes.line.numbers n i other))
       ]
@@ -124,7 +127,7 @@ pub record GivenTo (run : List Log) (table : Table) (old new : List Numbering) (
   pub after : (j : ℕ) → i ≤ j → given_at new j ≡ given_at old j
   pub left : (entries_left run new < entries_left run old) ⊎ (new ≡ old)
 
-module _ (run : List Log) (table : Table) (rising : Rising run) (is_table : IsTable run table) (tells : Tells run table) (old : List Numbering) (sound : IsSound run old) (c n : ℕ) where
+module _ (run : List Log) (table : Table) (rising : Rising run) (is_table : IsTable run table) (old : List Numbering) (sound : IsSound run old) (c n : ℕ) where
   pub given_yet : IsNextIn run table old c → GivenTo run table old old c n 0
   given_yet next = record { next = next; fits = sound.fits; each = λ x. inr refl; done = λ j lt y a is. absurd (omega arith); after = λ j le. refl; left = inr refl }
 
@@ -159,7 +162,7 @@ module _ (run : List Log) (table : Table) (rising : Rising run) (is_table : IsTa
         fits = push_fits run rising new next_lines up.fits k n log log_at within pushes;
         each = λ x. elim (push_changes run rising new next_lines up.fits k n log log_at within pushes x) [
           | inl here ↦ inl (
-            rw (here, ← one) (in_class run table rising is_table up.next.k (given_at old up.next.k) up.next.entry up.next.at tells c up.next.class k (given_at new k) at_k.0 at_k.1 at_k.2),
+            rw (here, ← one) (in_class run table rising is_table up.next.k (given_at old up.next.k) up.next.entry up.next.at c up.next.class k (given_at new k) at_k.0 at_k.1 at_k.2),
             rw here (push_fresh run rising new next_lines up.fits k n log log_at within pushes),
           )
           | inr same ↦ elim (up.each x) [ inl (shares, given) ↦ inl (shares, same ∙ given) | inr was ↦ inr (same ∙ was) ]
@@ -195,7 +198,7 @@ module _ (run : List Log) (table : Table) (rising : Rising run) (is_table : IsTa
       fresh x shares =
           let ready = ready_same run old sound.number (place up.next.at.log.proc (given_at old up.next.k)) x sound.sound shares up.next.next.ready in
           let (j, y, a, is) = ready_at run old x rising sound.fits ready in
-          let in_c = class_in run table rising is_table up.next.k (given_at old up.next.k) up.next.entry up.next.at tells c up.next.class j (given_at old j) y a (rw is at shares) in
+          let in_c = class_from run table rising is_table up.next.k (given_at old up.next.k) up.next.entry up.next.at c up.next.class j (given_at old j) y a (rw is at shares) in
           rw is (up.done j (let lt = slice_get_within run j a.log a.is_log in omega arith) y a in_c)
 
 -- ---- an entry that is alone in its class

@@ -15,7 +15,7 @@ use Rattle.totem_cert.specs.Search.{place}
 use Rattle.totem_cert.specs.Progress.{IsSound, NoneReady, IsFirstLeft, IsRound, IsForwardFrom}
 use Rattle.totem_cert.proofs.LineFacts.{stands_at, stands_in, event_at, entry_event, at_most, unnumbered_past, past_unnumbered, read_both}
 use Rattle.totem_cert.proofs.Lists.{at_index}
-use Rattle.totem_cert.proofs.Written.{drop_here}
+use Rattle.totem_cert.proofs.Closing.{drop_here}
 use Rattle.totem_cert.proofs.Stepping.{left_unnumbered, unnumbered_left}
 
 pub first_left_least : (run : List Log) (lines : List Numbering) (k : ℕ) (log : Log) (line : Numbering) → Rising run → IsSound run lines → NoneReady run lines → IsFirstLeft run lines k

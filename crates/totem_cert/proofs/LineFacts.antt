@@ -10,9 +10,10 @@ use Rattle.totem_evs.specs.Certificates.{Numbering, numbers_of, number_at}
 use Rattle.totem_evs.specs.Classes.{IsAtMost}
 use Rattle.totem_evs.proofs.LogOf.{Rising, Rising-tail, in_order, less_or_not, log_of_cases, log_of_at}
 use Rattle.totem_table.specs.declared.table.Table.{Table}
+use Rattle.totem_table.specs.Tables as tables
 use Rattle.totem_table.specs.Tables.{IsEntryAt}
 use Rattle.totem_cert.specs.Search.{place}
-use Rattle.totem_cert.specs.Counts.{class_at, count_of, given_at}
+use Rattle.totem_cert.specs.Counts.{count_of, given_at, shared_by}
 use Rattle.totem_cert.specs.Progress.{Fits, IsClassOf, IsLogOf, IsNumbered}
 use Rattle.totem_cert.proofs.Lists.{at_index}
 
@@ -99,18 +100,15 @@ read_both run items lines k log line fits same lt log_is line_is = (
   slice_get_read lines _ k line refl (let h : k < length run = rw same at lt in let c = fits.count in omega arith) line_is,
 )
 
--- the numbers of a log, by its index in the run
-pub given_is : (run : List Log) (lines : List Numbering) (k q : ℕ) (log : Log) (line : Numbering) → Stands run lines q k log line → given_at lines k ≡ length (numbers_of lines q)
-given_is run lines k q log line s = ap count_of s.line_at ∙ ap length (sym s.line_is)
-
 -- each log has its line
 pub stands_in : (run : List Log) (lines : List Numbering) (k : ℕ) (log : Log) → Rising run → Fits run lines → slice_get run k ≡ Some log → (line : Numbering) × Stands run lines log.proc k log line
 stands_in run lines k log rising fits log_at =
     let line = at_index lines k (let lt = slice_get_within run k log log_at in let c = fits.count in omega arith) in
     (line.0, stands_at run lines k log line.0 rising fits log_at line.1)
 
+-- the numbers of a log, by its index in the run
 pub given_of : (run : List Log) (lines : List Numbering) (k : ℕ) (log : Log) → Rising run → Fits run lines → slice_get run k ≡ Some log → given_at lines k ≡ length (numbers_of lines log.proc)
-given_of run lines k log rising fits log_at = let s = stands_in run lines k log rising fits log_at in given_is run lines k log.proc log s.0 s.1
+given_of run lines k log rising fits log_at = let s = stands_in run lines k log rising fits log_at in ap count_of s.1.line_at ∙ ap length (sym s.1.line_is)
 
 -- a process has one log
 pub log_index : (run : List Log) (k l : ℕ) (a b : Log) → Rising run → slice_get run k ≡ Some a → slice_get run l ≡ Some b → a.proc ≡ b.proc → k ≡ l
@@ -164,23 +162,14 @@ read_log run items p k log (found, at, proc) same is =
     let one : found ≡ log = cc in
     (h, rw one at proc)
 
-pub class_past : (run : List Log) (table : Table) (e : Place) (k at : ℕ) (log : Log) → Rising run → slice_get run k ≡ Some log → log.proc ≡ e.proc → e.at ≡ suc at → length log.entries ≤ at → IsClassOf run table e None
-class_past run table e k at log rising log_at proc at_e past = record {
-  each = λ l i x a is. absurd (
-      let same = log_index run l k a.log log rising a.is_log log_at (sym (ap (λ (f : Place). f.proc) is) ∙ sym proc) in
-      let one : a.log ≡ log = (let h : slice_get run k ≡ Some a.log = rw same at a.is_log in cc) in
-      let lt : i < length log.entries = rw one at (slice_get_within a.log.entries i x a.is_entry) in
-      let i_is : e.at ≡ suc i = ap (λ (f : Place). f.at) is in
-      omega arith);
-}
-
-pub class_here : (run : List Log) (table : Table) (e : Place) (k at : ℕ) (log : Log) (x : Entry) (class : Option ℕ) → Rising run → slice_get run k ≡ Some log → log.proc ≡ e.proc → e.at ≡ suc at → slice_get log.entries at ≡ Some x
-    → class ≡ class_at table k at x → IsClassOf run table e class
-class_here run table e k at log x class rising log_at proc at_e entry_at class_is = record {
+-- the class of the event at an index of its log
+pub class_read : (run : List Log) (table : Table) (e : Place) (k at : ℕ) (log : Log) (class : Option ℕ) → Rising run → slice_get run k ≡ Some log → log.proc ≡ e.proc → e.at ≡ suc at
+    → class ≡ shared_by (length table.messages.items) (slice_get log.entries at) (tables.number_at table k at) → IsClassOf run table e class
+class_read run table e k at log class rising log_at proc at_e class_is = record {
   each = λ l i y a is. (
       let same = log_index run l k a.log log rising a.is_log log_at (sym (ap (λ (f : Place). f.proc) is) ∙ sym proc) in
       let one : a.log ≡ log = (let h : slice_get run k ≡ Some a.log = rw same at a.is_log in cc) in
       let i_is : i ≡ at = (let h : e.at ≡ suc i = ap (λ (f : Place). f.at) is in omega arith) in
-      let entry : y ≡ x = (let h : slice_get log.entries at ≡ Some y = rw (one, i_is) at a.is_entry in cc) in
-      rw (same, i_is, entry) class_is);
+      let entry : slice_get log.entries at ≡ Some y = rw (one, i_is) at a.is_entry in
+      rw (same, i_is) (class_is ∙ ap (λ (o : Option Entry). shared_by (length table.messages.items) o (tables.number_at table k at)) entry));
 }

@@ -1,26 +1,28 @@
 -- The first log with a ready head has the next class.
-use Rattle.std.proofs.Common.{◌≡◌, ℕ, suc, ◌+◌, ◌<◌, ◌≤◌, ◌⊎◌, below_more, inl, inr, List, length, slice_get, Some, sym, ◌∙◌, ap, arith}
+use Rattle.std.proofs.Common.{◌≡◌, ℕ, ◌+◌, ◌<◌, ◌≤◌, ◌⊎◌, below_more, inl, inr, List, length, slice_get, Some, sym, arith}
 use Rattle.std.proofs.lemmas.Option.{slice_get_within}
 use Rattle.totem_ids.specs.declared.place.Place.{Place}
 use Rattle.totem_evs.specs.declared.entry.Entry.{Entry}
 use Rattle.totem_evs.specs.declared.log.Log.{Log}
 use Rattle.totem_evs.specs.Classes.{IsAtMost}
-use Rattle.totem_evs.specs.Certificates.{Numbering, numbers_of}
+use Rattle.totem_evs.specs.Certificates.{Numbering}
 use Rattle.totem_evs.proofs.LogOf.{Rising, less_or_not, log_of_at}
 use Rattle.totem_table.specs.Tables.{IsEntryAt}
 use Rattle.totem_cert.specs.Search.{place}
 use Rattle.totem_cert.specs.Counts.{given_at}
 use Rattle.totem_cert.specs.Progress.{IsReady, IsSound, Fits, IsNextHead, NoneReady, NoneReadyBefore}
 use Rattle.totem_cert.proofs.Classmates.{class_self}
-use Rattle.totem_cert.proofs.LineFacts.{given_of, event_at, at_most}
-use Rattle.totem_cert.proofs.LogHeads.{ready_head, ready_same}
+use Rattle.totem_cert.proofs.LineFacts.{given_of, event_at, at_most, unnumbered_past}
+use Rattle.totem_cert.proofs.LogHeads.{ready_free, ready_same}
 
 -- a ready event is the head of a log
 pub ready_at : (run : List Log) (lines : List Numbering) (e : Place) → Rising run → Fits run lines → IsReady run lines e → (k : ℕ) × (x : Entry) × (a : IsEntryAt run k (given_at lines k) x) × (e ≡ place a.log.proc (given_at lines k))
 ready_at run lines e rising fits ready =
     let (k, i, a, is) = event_at run e ready.event.0 ready.event.1 in
-    let head : suc i ≡ suc (length (numbers_of lines e.proc)) = ap (λ (f : Place). f.at) (sym is ∙ (ready_head run lines e ready).0) in
-    let given : given_at lines k ≡ length (numbers_of lines e.proc) = given_of run lines k a.log rising fits a.is_log ∙ ap (λ (f : Place). length (numbers_of lines f.proc)) (sym is) in
+    let here : IsReady run lines (place a.log.proc i) = rw is at ready in
+    let le = (ready_free run lines rising fits k i ready.event.0 a here).mates k i ready.event.0 a (class_self run (place a.log.proc i) here.event) in
+    let ge = unnumbered_past lines a.log.proc i here.unnumbered in
+    let given = given_of run lines k a.log rising fits a.is_log in
     let same : i ≡ given_at lines k = omega arith in
     (k, ready.event.0, record { log = a.log; is_log = a.is_log; is_entry = rw same at a.is_entry }, rw same at is)
 

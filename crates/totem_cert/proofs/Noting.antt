@@ -10,10 +10,11 @@ use Rattle.totem_ids.specs.contracts.life.ProcOrd.TheImpl as processes
 use Rattle.totem_ids.proofs.Exact.{both_equal, equal_at, apart_or_at}
 use Rattle.totem_evs.specs.ClosedLists.{Step}
 use Rattle.totem_evs.proofs.ProcOrder.{exact_proc}
+use Rattle.totem_evs.proofs.Pushing.{before_push, stands_last}
 use Rattle.totem_cert.specs.Progress.{IsVisitedAt, IsNotVisited}
 use Rattle.totem_cert.specs.Visited.{place_order, IsNoted}
 use Rattle.totem_cert.proofs.LineFacts.{same_parts}
-use Rattle.totem_cert.proofs.Lists.{push_here, push_other, push_cases}
+use Rattle.totem_cert.proofs.Lists.{push_other}
 
 same_number : (a b : ℕ) → nat_cmp a b ≡ Equal → a ≡ b
 same_number a b e = rw e at (ranked a b (nat_cmp a b) refl)
@@ -23,7 +24,7 @@ same_place e f h =
     let parts = both_equal (processes.cmp-value.it e.proc f.proc) (nat_cmp e.at f.at) h in
     same_parts e f.proc f.at (exact_proc e.proc f.proc parts.0) (same_number e.at f.at parts.1)
 
--- the two places are equal, or the order tells them apart
+-- the two places are equal, or the order them apart
 apart_or_same : (e f : Place) → (e ≡ f) ⊎ (is_eq (place_order e f) ≡ false)
 apart_or_same e f = elim (apart_or_at place_order e f) [ inl h ↦ inl (same_place e f (equal_at (place_order e f) h)) | inr h ↦ inr h ]
 
@@ -38,8 +39,8 @@ not_visited seen steps e noted none = record { none = λ j v lt at same. (let h 
 
 pub noted_more : (seen new : BTreeMap Place ℕ) (steps : List Step) (next : Step) → IsNoted seen steps → IsNotVisited steps next.to (length steps) → Updates place_order seen new next.to (Some (length steps)) → IsNoted new (steps ++ next ∷ [])
 noted_more seen new steps next noted fresh updates = record {
-  each = λ i v at. elim (push_cases steps next v i at) [
-    | inl (lt, h) ↦ kept i v lt h (apart_or_same next.to v.to)
+  each = λ i v at. elim (before_push steps next i v at) [
+    | inl h ↦ kept i v (slice_get_within steps i v h) h (apart_or_same next.to v.to)
     | inr (e, same) ↦ rw (e, ← same) updates.1
   ];
   only = λ e i at. found e i at (apart_or_same next.to e);
@@ -53,7 +54,7 @@ noted_more seen new steps next noted fresh updates = record {
     found e i at (inl same) =
         let there : get place_order new e ≡ Some (length steps) = rw same at updates.1 in
         let is : i ≡ length steps = cc in
-        record { step = next; at = rw is (push_here steps next); same = same }
+        record { step = next; at = rw is (stands_last steps next); same = same }
     found e i at (inr apart) =
         let h = noted.only e i (sym (updates.2 e apart) ∙ at) in
         record { step = h.step; at = push_other steps next i (λ e. (let lt = slice_get_within steps i h.step h.at in omega (arith, e))) ∙ h.at; same = h.same }

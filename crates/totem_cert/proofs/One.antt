@@ -1,5 +1,5 @@
 -- A run has at most one certificate.
-use Rattle.std.proofs.Common.{◌≡◌, ℕ, zero, suc, ◌<◌, inl, inr, List, [], ◌∷◌, Some, Bool, true, false, refl, sym, ◌∙◌, ap, arith}
+use Rattle.std.proofs.Common.{below_more, ◌≡◌, ℕ, zero, suc, ◌<◌, inl, inr, List, [], ◌∷◌, Some, Bool, true, false, refl, sym, ◌∙◌, ap, arith}
 use Rattle.std.specs.Prelude.{All, ◌==◌}
 use Rattle.std.proofs.lemmas.Option.{slice_get_within, slice_get_cases, get_or_from_slice_get}
 use Rattle.std.proofs.lemmas.List.Elements.{All-nil, All-head, All-tail}
@@ -45,16 +45,16 @@ positive lines e k all at = go e.at at
         let p = all_of lines e.proc all i 0 (slice_get_within (numbers_of lines e.proc) i k h) in
         rw (get_or_from_slice_get (numbers_of lines e.proc) i k 0 h) at p
 
+in_number : (run : List Log) (lines : List Numbering) (e f : Place) → Certified run lines → InClass run e f → number_at lines e ≡ number_at lines f
+in_number run lines e f cert (inl (_, same)) = ap (λ (x : Place). number_at lines x) same
+in_number run lines e f cert (inr same) = cert.shared e f same
+
 -- what a class waits for has smaller numbers
-waits_below : (run : List Log) (lines : List Numbering) (f g : Place) (k : ℕ) → Certified run lines → number_at lines f ≡ Some k → WaitsFor run f g → IsNumberedBelow lines g k
+pub waits_below : (run : List Log) (lines : List Numbering) (f g : Place) (k : ℕ) → Certified run lines → number_at lines f ≡ Some k → WaitsFor run f g → IsNumberedBelow lines g k
 waits_below run lines f g k cert at waits = go waits.step
   where
-    member : InClass run f waits.member → number_at lines waits.member ≡ Some k
-    member (inl (_, same)) = rw same at at
-    member (inr same) = sym (cert.shared f waits.member same) ∙ at
-
     below : IsBelow lines g waits.member → IsNumberedBelow lines g k
-    below (i, j, at_g, at_m, lt) = record { number = i; given = at_g; below = (let h = member waits.shares in let same : j ≡ k = cc in omega arith) }
+    below (i, j, at_g, at_m, lt) = record { number = i; given = at_g; below = (let h = in_number run lines f waits.member cert waits.shares in let same : j ≡ k = cc in omega arith) }
 
     go : Strict run g waits.member → IsNumberedBelow lines g k
     go (inl (is_g, is_m, before)) = below (cert.rises g waits.member is_g is_m before)
@@ -75,10 +75,6 @@ same_class : (run : List Log) (e f : Place) → ClassAtMost run e f → ClassAtM
 same_class run e f x y =
     let one : x.least ≡ y.least = antisym x.least y.least (x.below y.least y.shares) (y.below x.least x.shares) in
     class_trans run e x.least f x.shares (rw one (class_sym run f y.least y.shares))
-
-in_number : (run : List Log) (lines : List Numbering) (e f : Place) → Certified run lines → InClass run e f → number_at lines e ≡ number_at lines f
-in_number run lines e f cert (inl (_, same)) = ap (λ (x : Place). number_at lines x) same
-in_number run lines e f cert (inr same) = cert.shared e f same
 
 next_agrees : (run : List Log) (a b : List Numbering) (k : ℕ) → IsPositions run a → IsPositions run b → Agree a b k → (e : Place) → number_at a e ≡ Some k → number_at b e ≡ Some k
 next_agrees run a b k pa pb agree e at_e = go (has_number run b e pb.certified.matches event)
@@ -122,14 +118,8 @@ agree_all run a b pa pb (suc k) = more (agree_all run a b pa pb k)
   where
     more : Agree a b k → Agree a b (suc k)
     more h = record {
-      to = λ x j lt at. elim (less_or_not j k) [
-        | inl under ↦ h.to x j under at
-        | inr rest ↦ elim rest [ inl over ↦ absurd (omega arith) | inr same ↦ rw same (next_agrees run a b k pa pb h x (rw same at at)) ]
-      ];
-      from = λ x j lt at. elim (less_or_not j k) [
-        | inl under ↦ h.from x j under at
-        | inr rest ↦ elim rest [ inl over ↦ absurd (omega arith) | inr same ↦ rw same (next_agrees run b a k pb pa (agree_sym a b k h) x (rw same at at)) ]
-      ];
+      to = λ x j lt. below_more (λ j. number_at a x ≡ Some j → number_at b x ≡ Some j) k (λ j under. h.to x j under) (next_agrees run a b k pa pb h x) j (omega arith);
+      from = λ x j lt. below_more (λ j. number_at b x ≡ Some j → number_at a x ≡ Some j) k (λ j under. h.from x j under) (next_agrees run b a k pb pa (agree_sym a b k h) x) j (omega arith);
     }
 
 pub one : PositionsAreOne

@@ -1,5 +1,7 @@
 -- The lines before any entry has a number.
-use Rattle.std.proofs.Common.{◌≡◌, ℕ, zero, suc, ◌*◌, ◌≤◌, List, [], ◌∷◌, length, map, slice_get, Some, None, refl, sym, ap, arith, Bool, true, false}
+use Rattle.std.proofs.Common.{◌≡◌, ℕ, zero, suc, ◌*◌, ◌≤◌, List, [], ◌∷◌, length, map, option_map, slice_get, Some, None, refl, ◌∙◌, ap, arith, Bool, true, false}
+use Rattle.std.proofs.Math.ListN.{length-map}
+use Rattle.std.proofs.lemmas.Option.{slice_get-map}
 use Rattle.std.specs.Prelude.{◌==◌}
 use Rattle.totem_ids.specs.declared.place.Place.{Place}
 use Rattle.totem_evs.specs.declared.log.Log.{Log}
@@ -8,14 +10,8 @@ use Rattle.totem_evs.specs.Certificates.{Numbering, numbers_of, number_in, numbe
 use Rattle.totem_cert.specs.Progress.{IsNumberedSoFar, entries_left, empty_line}
 use Rattle.totem_cert.proofs.CountSteps.{logs_short}
 
-same_length : (run : List Log) → length (map empty_line run) ≡ length run
-same_length [] = refl
-same_length (log ∷ logs) = let rest = same_length logs in omega arith
-
 line_is : (run : List Log) (k : ℕ) (log : Log) (line : Numbering) → slice_get run k ≡ Some log → slice_get (map empty_line run) k ≡ Some line → line ≡ empty_line log
-line_is [] k log line at_l at_n = absurd cc
-line_is (x ∷ xs) zero log line at_l at_n = (let a : x ≡ log = cc in let b : empty_line x ≡ line = cc in rw (← a) (sym b))
-line_is (x ∷ xs) (suc k) log line at_l at_n = line_is xs k log line at_l at_n
+line_is run k log line at_l at_n = let h : slice_get (map empty_line run) k ≡ Some (empty_line log) = slice_get-map empty_line run k ∙ ap (option_map empty_line) at_l in cc
 
 none_for : (run : List Log) (p : ℕ) → numbers_of (map empty_line run) p ≡ []
 none_for [] p = refl
@@ -43,7 +39,7 @@ few (log ∷ logs) (line ∷ lines) each =
 pub started : (run : List Log) (lines : List Numbering) → IsRun run → lines ≡ map empty_line run → IsNumberedSoFar run lines 0
 started run lines is_run is = rw is (record {
   fits = record {
-    count = same_length run;
+    count = length-map run empty_line;
     proc = λ k log line at_l at_n. ap (λ (l : Numbering). l.proc) (line_is run k log line at_l at_n);
     short = λ k log line at_l at_n. (let h : line.numbers ≡ [] = ap (λ (l : Numbering). l.numbers) (line_is run k log line at_l at_n) in rw h (omega arith));
   };

@@ -8,7 +8,7 @@ use Rattle.totem_ids.specs.declared.place.Place.{Place}
 use Rattle.totem_evs.specs.declared.entry.Entry.{Entry}
 use Rattle.totem_evs.specs.declared.entry.Entry.TheVariants.{Send}
 use Rattle.totem_evs.specs.declared.log.Log.{Log}
-use Rattle.totem_evs.specs.Events.{log_of, IsEvent}
+use Rattle.totem_evs.specs.Events.{IsEvent}
 use Rattle.totem_evs.specs.Steps.{Strict, DeliversAt}
 use Rattle.totem_evs.specs.Certificates.{Numbering, numbers_of, number_at}
 use Rattle.totem_evs.specs.Classes.{InClass, AreSendAndDelivery}
@@ -21,17 +21,16 @@ use Rattle.totem_cert.specs.declared.firsts.Firsts.{Firsts}
 use Rattle.totem_cert.specs.declared.firsts.Wanted.{Wanted}
 use Rattle.totem_cert.specs.declared.firsts.Wanted.TheVariants.{Sends, Members, Followers}
 use Rattle.totem_cert.specs.Search.{place}
-use Rattle.totem_cert.specs.Counts.{class_at, class_fed, given_at, Tells}
+use Rattle.totem_cert.specs.Counts.{class_at, class_fed, given_at}
 use Rattle.totem_cert.specs.Firsts.{IsWanted, AreFirsts, AreFirstsOf}
-use Rattle.totem_cert.specs.Progress.{IsNumbered, IsSound, NoneReady, IsMate, IsClassOf, IsHeldBy}
-use Rattle.totem_cert.proofs.Lists.{previous}
+use Rattle.totem_cert.specs.Progress.{IsNumbered, IsSound, NoneReady, IsClassOf, IsHeldBy}
+use Rattle.totem_cert.proofs.Lists.{previous, up_to_or_past}
 use Rattle.totem_cert.proofs.Classmates.{class_sym, event_of}
-use Rattle.totem_cert.proofs.ClassHeads.{alone_itself, in_class, class_in}
-use Rattle.totem_cert.proofs.Classes.{class_within, feeds_in, in_feeds}
-use Rattle.totem_cert.proofs.Countable.{alone_counted}
+use Rattle.totem_cert.proofs.Classes.{alone_itself, in_class, class_from, class_within, feeds_in, in_feeds}
+use Rattle.totem_cert.proofs.Countable.{alone_ready}
 use Rattle.totem_cert.proofs.FirstPlaces.{le_parts, lt_parts, unwanted}
 use Rattle.totem_cert.proofs.LineFacts.{same_parts, unnumbered_past, past_unnumbered, given_of, log_index, event_at, entry_event, at_most}
-use Rattle.totem_cert.proofs.LogHeads.{mate_class, feeds_send, send_feeds, class_delivers, nothing_keeps, option_cases}
+use Rattle.totem_cert.proofs.LogHeads.{feeds_send, send_feeds, class_delivers, free_ready, option_cases}
 
 strict_event : (run : List Log) (e f : Place) → Strict run e f → IsEvent run e
 strict_event run e f (inl (is_e, is_f, before)) = is_e
@@ -57,12 +56,11 @@ module _ (run : List Log) (lines : List Numbering) (sound : IsSound run lines) (
   left_past : (q i : ℕ) → IsLeft run (place q i) → length (numbers_of lines q) ≤ i
   left_past q i left = unnumbered_past lines q i (left_unnumbered (place q i) left)
 
-  past_left : (q i : ℕ) (y : Entry) → slice_get (log_of run q) i ≡ Some y → length (numbers_of lines q) ≤ i → IsLeft run (place q i)
-  past_left q i y at le = unnumbered_left (place q i) (y, at) (past_unnumbered lines q i le)
-
-module _ (run : List Log) (table : Table) (lines : List Numbering) (rising : Rising run) (is_table : IsTable run table) (tells : Tells run table) (sound : IsSound run lines) (none : NoneReady run lines) where
+module _ (run : List Log) (table : Table) (lines : List Numbering) (rising : Rising run) (is_table : IsTable run table) (sound : IsSound run lines) (none : NoneReady run lines) where
   given_left : (k i : ℕ) (x : Entry) (a : IsEntryAt run k i x) → given_at lines k ≤ i → IsLeft run (place a.log.proc i)
-  given_left k i x a le = past_left run lines sound none a.log.proc i x (entry_event run k i x rising a) (let g = given_of run lines k a.log rising sound.fits a.is_log in omega arith)
+  given_left k i x a le =
+      let given = given_of run lines k a.log rising sound.fits a.is_log in
+      unnumbered_left run lines sound none (place a.log.proc i) (x, entry_event run k i x rising a) (past_unnumbered lines a.log.proc i (omega arith))
 
   left_given : (k i : ℕ) (x : Entry) (a : IsEntryAt run k i x) → IsLeft run (place a.log.proc i) → given_at lines k ≤ i
   left_given k i x a left = let g = given_of run lines k a.log rising sound.fits a.is_log in let past = left_past run lines sound none a.log.proc i left in omega arith
@@ -110,7 +108,7 @@ module _ (run : List Log) (table : Table) (lines : List Numbering) (rising : Ris
             entry = mate.event.0;
             at = b;
             is = is;
-            class = class_in run table rising is_table k i x a tells c in_c l j mate.event.0 b (rw is at shares);
+            class = class_from run table rising is_table k i x a c in_c l j mate.event.0 b (rw is at shares);
             past = left_given l j mate.event.0 b (rw is at mate);
           },
         )
@@ -123,7 +121,7 @@ module _ (run : List Log) (table : Table) (lines : List Numbering) (rising : Ris
 
     -- the sends that the class waits for
     send_wanted : (l j : ℕ) (y : Entry) → IsEntryAt run l j y → AreSendAndDelivery y x → given_at lines l ≤ j → IsWanted run table lines Sends c l j
-    send_wanted l j y b feeds le = record { entry = y; at = b; class = rw (le-leb (given_at lines l) j le) (feeds_in run table is_table tells k i l j c y x a b in_c feeds) }
+    send_wanted l j y b feeds le = record { entry = y; at = b; class = rw (le-leb (given_at lines l) j le) (feeds_in run table is_table k i l j c y x a b in_c feeds) }
 
     left_send : (g : Place) (m : MsgId) → IsLeftSend run g m → DeliversAt run (place a.log.proc i) m → (l j : ℕ) × (w : IsWanted run table lines Sends c l j) × (g ≡ place w.at.log.proc j)
     left_send g m h delivers =
@@ -131,12 +129,12 @@ module _ (run : List Log) (table : Table) (lines : List Numbering) (rising : Ris
         let (l, j, b, is) = event_at run g y h.sends.1 in
         let feeds = send_feeds y x run g (place a.log.proc i) m h.conf h.sends delivers h.sends.1 (entry_event run k i x rising a) in
         let le = left_given l j y b (rw is at h.left) in
-        (l, j, record { entry = y; at = b; class = rw (le-leb (given_at lines l) j le) (feeds_in run table is_table tells k i l j c y x a b in_c feeds) }, is)
+        (l, j, record { entry = y; at = b; class = rw (le-leb (given_at lines l) j le) (feeds_in run table is_table k i l j c y x a b in_c feeds) }, is)
 
     wanted_send : (l j : ℕ) (w : IsWanted run table lines Sends c l j) → (m : MsgId) × IsLeftSend run (place w.at.log.proc j) m × DeliversAt run (place a.log.proc i) m
     wanted_send l j w =
         let parts = le_parts (given_at lines l) j c (class_fed w.entry (tables.number_at table l j)) w.class in
-        let feeds = in_feeds run table is_table tells k i l j c x w.entry a w.at in_c parts.1 in
+        let feeds = in_feeds run table is_table k i l j c x w.entry a w.at in_c parts.1 in
         let (m, conf, sends, delivers) = feeds_send w.entry x run (place w.at.log.proc j) (place a.log.proc i) feeds (entry_event run l j w.entry rising w.at) (entry_event run k i x rising a) in
         (m, record { conf = conf; sends = sends; left = given_left l j w.entry w.at parts.0 }, delivers)
 
@@ -158,24 +156,16 @@ module _ (run : List Log) (table : Table) (lines : List Numbering) (rising : Ris
         where
           go : (o : Option Place) → send ≡ o → cond (is_some o) member follower ≡ None → ⊥
           go (Some s) some no_member = unwanted run table lines Members members c k i are_members (at_member ∙ ap Some no_member) (member_wanted k i x a in_c (left_given k i x a left))
-          go None no_send no_follower = none.none (place a.log.proc i) (nothing_keeps run lines a.log.proc i x (entry_event run k i x rising a) (left_past run lines sound none a.log.proc i left) (record {
-            none = λ q t within (y, at_y, keeps). keeps_not q t y at_y keeps;
+          go None no_send no_follower = none.none (place a.log.proc i) (free_ready run lines rising sound.fits k i x a (left_given k i x a left) (record {
+            mates = λ l j y b shares. elim (up_to_or_past j (given_at lines l)) [
+              | inl le ↦ le
+              | inr lt ↦ absurd (unwanted run table lines Followers followers c l j are_followers (at_follower ∙ ap Some no_follower) (follower_wanted l j y b (class_from run table rising is_table k i x a c in_c l j y b shares) lt))
+            ];
+            sends = λ l j y b feeds. elim (up_to_or_past (given_at lines l) j) [
+              | inl le ↦ absurd (unwanted run table lines Sends sends c l j are_sends (at_send ∙ ap Some no_send) (send_wanted l j y b feeds le))
+              | inr lt ↦ lt
+            ];
           }))
-            where
-              keeps_not : (q t : ℕ) (y : Entry) → slice_get (log_of run q) t ≡ Some y → (IsMate a.log.proc i x q t y × (length (numbers_of lines q) < t)) ⊎ (AreSendAndDelivery y x × (length (numbers_of lines q) ≤ t)) → ⊥
-              keeps_not q t y at_y keeps =
-                  let (l, j, b, is) = event_at run (place q t) y at_y in
-                  let proc : q ≡ b.log.proc = ap (λ (e : Place). e.proc) is in
-                  let at : t ≡ j = (let h : suc t ≡ suc j = ap (λ (e : Place). e.at) is in omega arith) in
-                  let given : given_at lines l ≡ length (numbers_of lines q) = given_of run lines l b.log rising sound.fits b.is_log ∙ ap (λ (p : ℕ). length (numbers_of lines p)) (sym proc) in
-                  elim keeps [
-                    | inl (mate, lt) ↦ (let shares = mate_class run a.log.proc i q t x y (entry_event run k i x rising a) at_y mate in
-                        let (m, n, other) = mate_at (place q t) shares in
-                        let same : m ≡ l = log_index run m l other.at.log b.log rising other.at.is_log b.is_log (sym (ap (λ (e : Place). e.proc) other.is) ∙ proc) in
-                        let at' : suc t ≡ suc n = ap (λ (e : Place). e.at) other.is in
-                        unwanted run table lines Followers followers c m n are_followers (at_follower ∙ ap Some no_follower) (follower_wanted m n other.entry other.at other.class (rw same (omega arith))))
-                    | inr (feeds, le) ↦ unwanted run table lines Sends sends c l j are_sends (at_send ∙ ap Some no_send) (send_wanted l j y b feeds (omega arith))
-                  ]
 
       -- the step to the first entry that is held up
       pub held_step : (v : Step) (to : Place) → cond (is_some send) member follower ≡ Some to → v.to ≡ to → IsHeldBy lines send to v.from → IsStepOf run (place a.log.proc i) v
@@ -184,7 +174,7 @@ module _ (run : List Log) (table : Table) (lines : List Numbering) (rising : Ris
           step : (l j : ℕ) (y : Entry) (b : IsEntryAt run l j y) → class_at table l j y ≡ Some c → given_at lines l ≤ j → to ≡ place b.log.proc j → (send ≡ None → given_at lines l < j)
               → ((m n : ℕ) (e : Place) → IsMateAt e m n → (send ≡ None → given_at lines m < n) → (l < m) ⊎ ((l ≡ m) × (j ≤ n))) → IsStepOf run (place a.log.proc i) v
           step l j y b class past at follows least = rw same_step (record {
-            shares = in_class run table rising is_table k i x a tells c in_c l j y b class;
+            shares = in_class run table rising is_table k i x a c in_c l j y b class;
             holds = holds (rw at at by);
             least = λ f e shares h. (let (m, n, mate, others) = held_at f e shares h in rw mate.is (at_most run l j m n y mate.entry rising b mate.at (least m n e mate others)));
           })
@@ -210,7 +200,7 @@ module _ (run : List Log) (table : Table) (lines : List Numbering) (rising : Ris
                       let from_is : v.from ≡ place first.is_wanted.at.log.proc first.i = from ∙ ap (λ (o : Option Place). unwrap_or o (place b.log.proc j)) some ∙ first.is in
                       rw from_is (record {
                         message = m;
-                        delivers = class_delivers run (place b.log.proc j) (place a.log.proc i) m (class_sym run (place a.log.proc i) (place b.log.proc j) (in_class run table rising is_table k i x a tells c in_c l j y b class)) delivers;
+                        delivers = class_delivers run (place b.log.proc j) (place a.log.proc i) m (class_sym run (place a.log.proc i) (place b.log.proc j) (in_class run table rising is_table k i x a c in_c l j y b class)) delivers;
                         send = sends_m;
                         least = λ g is_send. (let (p, q, w, g_is) = left_send g m is_send delivers in
                             rw g_is (at_most run first.k first.i p q first.is_wanted.entry w.entry rising first.is_wanted.at w.at (first.first p q w)));
@@ -245,14 +235,14 @@ module _ (run : List Log) (table : Table) (lines : List Numbering) (rising : Ris
       same_step : v ≡ record { from = v.from; to = place a.log.proc i }
       same_step = ap (λ (t : Place). let u : Step = record { from = v.from; to = t } in u) to_is
 
-      not_head : length (numbers_of lines a.log.proc) ≡ i → ⊥
-      not_head head = none.none (place a.log.proc i) ((alone_counted run lines a.log.proc i (length table.messages.items) (tables.number_at table k i) x (entry_event run k i x rising a) head alone).0 refl)
+      not_head : given_at lines k ≡ i → ⊥
+      not_head head = none.none (place a.log.proc i) (alone_ready run table rising is_table lines sound.fits k i x a head alone)
 
       holds : IsHeldBy lines None (place a.log.proc i) v.from → IsPrevious run v.from (place a.log.proc i)
       holds (inl (lt, proc, before)) =
           let from : v.from ≡ record { proc = a.log.proc; at = i } = same_parts v.from a.log.proc i proc (omega arith) in
           rw from (previous_left k i x a (omega (arith, given)))
-      holds (inr (le, _)) = absurd (not_head (let past = left_past run lines sound none a.log.proc i left in omega arith))
+      holds (inr (le, _)) = absurd (not_head (let past = left_past run lines sound none a.log.proc i left in omega (arith, given)))
 
   -- ---- what the code reads
 

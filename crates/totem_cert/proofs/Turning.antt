@@ -1,9 +1,9 @@
 -- A closed list has each of its places once, so there is one way to start it at its least place.
-use Rattle.std.proofs.Common.{◌≡◌, ℕ, zero, suc, ◌+◌, ◌-◌, ◌<◌, ◌≤◌, ◌⊎◌, inl, inr, List, [], ◌∷◌, ◌++◌, length, drop, slice_get, Some, Bool, true, false, refl, sym, ◌∙◌, ap, subst, arith, length-drop}
+use Rattle.std.proofs.Common.{◌≡◌, ℕ, zero, suc, ◌+◌, ◌-◌, ◌<◌, ◌≤◌, ◌⊎◌, inl, inr, List, [], ◌∷◌, ◌++◌, length, drop, slice_get, Some, Bool, true, false, refl, sym, ◌∙◌, ap, subst, arith, append_assoc, length-drop}
 use Rattle.std.specs.Prelude.{Contains}
 use Rattle.std.proofs.lemmas.Option.{slice_get_within, slice_get-get_or}
 use Rattle.std.proofs.lemmas.List.{append-nil}
-use Rattle.std.proofs.lemmas.List.Elements.{Contains-append_right, Contains-append_cases}
+use Rattle.std.proofs.lemmas.List.Elements.{Contains-append_left, Contains-append_right, Contains-append_cases}
 use Rattle.totem_ids.specs.declared.place.Place.{Place}
 use Rattle.totem_evs.specs.declared.log.Log.{Log}
 use Rattle.totem_evs.specs.Classes.{IsAtMost, InClass}
@@ -11,8 +11,7 @@ use Rattle.totem_evs.specs.ClosedLists.{Step, ComesBack, same_place, unless, for
 use Rattle.totem_evs.proofs.LogOf.{less_or_not}
 use Rattle.totem_cert.proofs.Classmates.{class_self, class_sym, class_trans, event_of}
 use Rattle.totem_cert.proofs.Walking.{antisym, step_in}
-use Rattle.totem_cert.proofs.Closing.{same_is, not_same}
-use Rattle.totem_cert.proofs.Written.{drop_here}
+use Rattle.totem_cert.proofs.Closing.{drop_here, same_is, not_same}
 
 -- e is not in the list
 abbrev Fresh : Place → List Place → Type 0
@@ -34,10 +33,6 @@ in_cases e f es (suc k, lt, is) = inr (k, omega arith, is)
 
 in_none : (f : Place) → Contains [] f → ⊥
 in_none f (k, lt, is) = omega arith
-
-in_left : (xs ys : List Place) (f : Place) → Contains xs f → Contains (xs ++ ys) f
-in_left [] ys f h = absurd (in_none f h)
-in_left (x ∷ xs) ys f h = elim (in_cases x f xs h) [ inl same ↦ (0, omega arith, same) | inr there ↦ tail_in x f (xs ++ ys) (in_left xs ys f there) ]
 
 distinct_append : (xs ys : List Place) → IsDistinct xs → IsDistinct ys → ((f : Place) → Contains xs f → Contains ys f → ⊥) → IsDistinct (xs ++ ys)
 distinct_append [] ys a b apart = b
@@ -90,7 +85,7 @@ first_least whole turned t least f h =
       | inl in_front ↦ at_most_all t.first (t.back ++ t.front) f l (Contains-append_right t.back t.front f in_front)
       | inr rest ↦ elim (in_cases t.first f t.back rest) [
         | inl same ↦ inr (ap (λ (e : Place). e.proc) same, (let e : t.first.at ≡ f.at = ap (λ (e : Place). e.at) same in omega arith))
-        | inr in_back ↦ at_most_all t.first (t.back ++ t.front) f l (in_left t.back t.front f in_back)
+        | inr in_back ↦ at_most_all t.first (t.back ++ t.front) f l (Contains-append_left t.back t.front f in_back)
       ]
     ]
 
@@ -116,12 +111,10 @@ split (y ∷ ys) zero v vs h = (let e : v ≡ y = cc in ap Some (sym e), cc)
 split (y ∷ ys) (suc t) v vs h = split ys t v vs h
 
 append_move : (xs ys : List Place) (x : Place) → xs ++ (x ∷ ys) ≡ (xs ++ x ∷ []) ++ ys
-append_move [] ys x = refl
-append_move (y ∷ xs) ys x = ap (λ zs. y ∷ zs) (append_move xs ys x)
+append_move xs ys x = simp append_assoc
 
 regroup : (xs ys : List Place) (x y : Place) → (xs ++ (x ∷ ys)) ++ y ∷ [] ≡ (xs ++ x ∷ []) ++ (ys ++ y ∷ [])
-regroup [] ys x y = refl
-regroup (z ∷ xs) ys x y = ap (λ zs. z ∷ zs) (regroup xs ys x y)
+regroup xs ys x y = simp append_assoc
 
 -- an event, left out if the other one equals it
 unless_cases : (e p : Place) → ((e ≡ p) × (unless e p ≡ [])) ⊎ ((e ≡ p → ⊥) × (unless e p ≡ e ∷ []))
@@ -163,12 +156,6 @@ module _ (run : List Log) (start : Place) (xs : List Step) (again : ℕ) (last :
         ap (λ (u : Step). u.from) same);
   }
 
-  follows_again : Follows again last.from
-  follows_again = record {
-    shares = λ w at. (let same : back.step ≡ w = (let h = back.at_again in cc) in rw same at back.comes_back);
-    end = λ le. refl;
-  }
-
   -- an event that a step from t on writes
   abbrev Written : ℕ → Place → Type 0
   Written t e = ((i : ℕ) × (t ≤ i) × (w : Step) × (slice_get xs i ≡ Some w) × InClass run w.to e) ⊎ (e ≡ last.from)
@@ -182,6 +169,13 @@ module _ (run : List Log) (start : Place) (xs : List Step) (again : ℕ) (last :
   to_itself : (t : ℕ) (v : Step) → slice_get xs t ≡ Some v → InClass run v.to v.to
   to_itself t v at = let s = step_in run start xs t v back.walk at in class_self run v.to (event_of run s.0 v.to s.1.shares)
 
+  -- a place that the step at t writes is in its class
+  written_here : (t : ℕ) (v : Step) (p e : Place) → slice_get xs t ≡ Some v → Follows t p → Contains (unless v.to p ++ p ∷ []) e → InClass run v.to e
+  written_here t v p e at follows h = elim (Contains-append_cases (unless v.to p) (p ∷ []) e h) [
+    | inl led ↦ (let same = (in_unless v.to p e led).0 in rw (← same) (to_itself t v at))
+    | inr more ↦ elim (in_cases p e [] more) [ inl same ↦ rw (← same) (follows.shares v at) | inr none ↦ absurd (in_none e none) ]
+  ]
+
   written : (t : ℕ) (vs : List Step) (p e : Place) → vs ≡ drop t xs → Follows t p → Contains (forward p vs ++ p ∷ []) e → Written t e
   written t [] p e is follows h = elim (in_cases p e [] h) [
     | inl same ↦ inr (sym same ∙ follows.end (let l : 0 ≡ length xs - t = ap length is ∙ length-drop t xs in omega arith))
@@ -191,16 +185,7 @@ module _ (run : List Log) (start : Place) (xs : List Step) (again : ℕ) (last :
       let s = split xs t v vs is in
       elim (Contains-append_cases (forward v.from vs ++ v.from ∷ []) (unless v.to p ++ p ∷ []) e (rw (regroup (forward v.from vs) (unless v.to p) v.from p) at h)) [
         | inl there ↦ elim (written (suc t) vs v.from e s.1 (follows_step t v s.0) there) [ inl (i, le, w, at_w, in_w) ↦ inl (i, omega arith, w, at_w, in_w) | inr same ↦ inr same ]
-        | inr here ↦ inl (
-          t,
-          omega arith,
-          v,
-          s.0,
-          elim (Contains-append_cases (unless v.to p) (p ∷ []) e here) [
-            | inl led ↦ (let same = (in_unless v.to p e led).0 in rw (← same) (to_itself t v s.0))
-            | inr more ↦ elim (in_cases p e [] more) [ inl same ↦ rw (← same) (follows.shares v s.0) | inr none ↦ absurd (in_none e none) ]
-          ],
-        )
+        | inr here ↦ inl (t, omega arith, v, s.0, written_here t v p e s.0 follows here)
       ]
 
   distinct : (t : ℕ) (vs : List Step) (p : Place) → vs ≡ drop t xs → again < t → Follows t p → IsDistinct (forward p vs ++ p ∷ [])
@@ -213,10 +198,7 @@ module _ (run : List Log) (start : Place) (xs : List Step) (again : ℕ) (last :
         | inl same ↦ (let u = in_unless v.to p f led in u.1 (u.0 ∙ sym same))
         | inr none ↦ in_none f none
       ]))
-      (λ f there here. clash t v f s.0 (elim (Contains-append_cases (unless v.to p) (p ∷ []) f here) [
-        | inl led ↦ (let same = (in_unless v.to p f led).0 in rw (← same) (to_itself t v s.0))
-        | inr more ↦ elim (in_cases p f [] more) [ inl same ↦ rw (← same) (follows.shares v s.0) | inr none ↦ absurd (in_none f none) ]
-      ]) (λ same at. omega arith) (written (suc t) vs v.from f s.1 (follows_step t v s.0) there)))
+      (λ f there here. clash t v f s.0 (written_here t v p f s.0 follows here) (λ same at. omega arith) (written (suc t) vs v.from f s.1 (follows_step t v s.0) there)))
 
   -- the steps of the round are written with each place once
   pub round_distinct : IsDistinct (forward last.from (drop again xs))

@@ -74,11 +74,14 @@ found_message run e (Deliver m y) i r is at at_e =
     let there : DeliversAt run e m = rw (same_parts e e.proc (suc i) refl at_e) here in
     rw is there
 
-pub twins_decided : (run : List Log) (e f : Place) (m n : Option MsgId) (same one r : Bool) → IfSome m (λ k. DeliversAt run e k) → IfNone m (NeverDelivers run e) → IfSome n (λ k. DeliversAt run f k) → IfNone n (NeverDelivers run f)
-    → (IsTrue same ↔ BothAre m n) → (IsTrue one ↔ (e ≡ f)) → (IsTrue r ↔ (IsTrue same × (IsTrue one → ⊥))) → IsTrue r ↔ AreTwinDeliveries run e f
-twins_decided run e f (Some m) (Some n) same one r a b c d both is decides = (
-  λ h. (let k = decides.0 h in let s : m ≡ n = both.0 k.0 in (m, a, rw s c, λ eq. k.1 (is.1 eq))),
-  λ (k, x, y, other). decides.1 (both.1 (one_message run e m k a x ∙ one_message run f k n y c), λ h. other (is.0 h)),
+pub twins_same : (run : List Log) (e f : Place) → (IsTrue true ↔ (e ≡ f)) → IsTrue false ↔ AreTwinDeliveries run e f
+twins_same run e f same = (λ h. absurd cc, λ (m, x, y, other). absurd (other (same.0 refl)))
+
+pub twins_decided : (run : List Log) (e f : Place) (m n : Option MsgId) (r : Bool) → IfSome m (λ k. DeliversAt run e k) → IfNone m (NeverDelivers run e) → IfSome n (λ k. DeliversAt run f k) → IfNone n (NeverDelivers run f)
+    → (IsTrue false ↔ (e ≡ f)) → (IsTrue r ↔ BothAre m n) → IsTrue r ↔ AreTwinDeliveries run e f
+twins_decided run e f (Some m) (Some n) r a b c d same both = (
+  λ h. (let s : m ≡ n = both.0 h in (m, a, rw s c, λ eq. (let t = same.1 eq in cc))),
+  λ (k, x, y, other). both.1 (one_message run e m k a x ∙ one_message run f k n y c),
 )
-twins_decided run e f (Some m) None same one r a b c d both is decides = (λ h. absurd (both.0 (decides.0 h).0), λ (k, x, y, other). absurd (d.never k y))
-twins_decided run e f None n same one r a b c d both is decides = (λ h. absurd (both.0 (decides.0 h).0), λ (k, x, y, other). absurd (b.never k x))
+twins_decided run e f (Some m) None r a b c d same both = (λ h. absurd (both.0 h), λ (k, x, y, other). absurd (d.never k y))
+twins_decided run e f None n r a b c d same both = (λ h. absurd (both.0 h), λ (k, x, y, other). absurd (b.never k x))

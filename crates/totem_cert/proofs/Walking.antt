@@ -1,5 +1,8 @@
 -- Walks from class to class.
-use Rattle.std.proofs.Common.{◌≡◌, ℕ, zero, suc, ◌+◌, ◌-◌, ◌<◌, ◌⊎◌, inl, inr, List, [], ◌∷◌, ◌++◌, length, slice_get, Some, refl, sym, arith, length-append}
+use Rattle.std.proofs.Common.{◌≡◌, ℕ, zero, suc, ◌+◌, ◌-◌, ◌<◌, ◌⊎◌, inl, inr, List, [], ◌∷◌, ◌++◌, length, slice_get, Some, refl, sym, arith}
+use Rattle.std.proofs.lemmas.List.{length_push}
+use Rattle.std.proofs.lemmas.Option.{slice_get_within}
+use Rattle.totem_evs.proofs.Pushing.{before_push}
 use Rattle.totem_ids.specs.declared.place.Place.{Place}
 use Rattle.totem_evs.specs.declared.log.Log.{Log}
 use Rattle.totem_evs.specs.Classes.{IsAtMost, InClass}
@@ -7,7 +10,7 @@ use Rattle.totem_evs.specs.ClosedLists.{Step, IsLeft, HoldsUp, IsStepOf, IsWalk}
 use Rattle.totem_cert.specs.Progress.{IsVisitedAt, IsNotVisited, IsWalking, IsRound}
 use Rattle.totem_cert.proofs.Classmates.{class_sym, class_trans}
 use Rattle.totem_cert.proofs.LineFacts.{same_parts}
-use Rattle.totem_cert.proofs.Lists.{previous, last_at, push_cases}
+use Rattle.totem_cert.proofs.Lists.{previous, last_at}
 
 pub antisym : (e f : Place) → IsAtMost e f → IsAtMost f e → e ≡ f
 antisym e f (inl a) (inl b) = absurd (omega arith)
@@ -54,36 +57,35 @@ walking_yet run start steps next is step = rw is (record {
 module _ (run : List Log) (start : Place) (steps : List Step) (next : Step) (walking : IsWalking run start steps next) (new : IsNotVisited steps next.to (length steps)) where
   pub walk_more : IsWalk run start (steps ++ next ∷ [])
   walk_more = record {
-    first = λ v at. elim (push_cases steps next v 0 at) [
-      | inl (lt, h) ↦ walking.walk.first v h
+    first = λ v at. elim (before_push steps next 0 v at) [
+      | inl h ↦ walking.walk.first v h
       | inr (e, same) ↦ rw (← same) (walking.first (sym e))
     ];
-    next = λ i v w at_v at_w. after i v w (push_cases steps next v i at_v) (push_cases steps next w (i + 1) at_w);
-    new = λ i j v w at_v at_w lt. fresh i j v w lt (push_cases steps next v i at_v) (push_cases steps next w j at_w);
+    next = λ i v w at_v at_w. after i v w (before_push steps next i v at_v) (before_push steps next (i + 1) w at_w);
+    new = λ i j v w at_v at_w lt. fresh i j v w lt (before_push steps next i v at_v) (before_push steps next j w at_w);
   }
     where
-      after : (i : ℕ) (v w : Step) → ((i < length steps) × (slice_get steps i ≡ Some v)) ⊎ ((i ≡ length steps) × (next ≡ v)) → ((i + 1 < length steps) × (slice_get steps (i + 1) ≡ Some w)) ⊎ ((i + 1 ≡ length steps) × (next ≡ w)) → IsStepOf run v.from w
-      after i v w (inl (lt, at_v)) (inl (lt', at_w)) = walking.walk.next i v w at_v at_w
-      after i v w (inl (lt, at_v)) (inr (e, same)) = rw (← same) (walking.later i v at_v (sym e))
-      after i v w (inr (e, same)) (inl (lt, at_w)) = absurd (omega arith)
+      after : (i : ℕ) (v w : Step) → (slice_get steps i ≡ Some v) ⊎ ((i ≡ length steps) × (next ≡ v)) → (slice_get steps (i + 1) ≡ Some w) ⊎ ((i + 1 ≡ length steps) × (next ≡ w)) → IsStepOf run v.from w
+      after i v w (inl at_v) (inl at_w) = walking.walk.next i v w at_v at_w
+      after i v w (inl at_v) (inr (e, same)) = rw (← same) (walking.later i v at_v (sym e))
+      after i v w (inr (e, same)) (inl at_w) = absurd (let lt = slice_get_within steps (i + 1) w at_w in omega arith)
       after i v w (inr (e, same)) (inr (e', same')) = absurd (omega arith)
 
-      fresh : (i j : ℕ) (v w : Step) → i < j → ((i < length steps) × (slice_get steps i ≡ Some v)) ⊎ ((i ≡ length steps) × (next ≡ v)) → ((j < length steps) × (slice_get steps j ≡ Some w)) ⊎ ((j ≡ length steps) × (next ≡ w)) → InClass run v.to w.to → ⊥
-      fresh i j v w lt (inl (a, at_v)) (inl (b, at_w)) shares = walking.walk.new i j v w at_v at_w lt shares
-      fresh i j v w lt (inl (a, at_v)) (inr (e, same)) shares =
+      fresh : (i j : ℕ) (v w : Step) → i < j → (slice_get steps i ≡ Some v) ⊎ ((i ≡ length steps) × (next ≡ v)) → (slice_get steps j ≡ Some w) ⊎ ((j ≡ length steps) × (next ≡ w)) → InClass run v.to w.to → ⊥
+      fresh i j v w lt (inl at_v) (inl at_w) shares = walking.walk.new i j v w at_v at_w lt shares
+      fresh i j v w lt (inl at_v) (inr (e, same)) shares =
           let s = step_in run start steps i v walking.walk at_v in
           let t = next_step run start steps next walking in
-          let one = one_step run s.0 t.0 v next s.1 t.1 (rw (← same) at shares) in
-          new.none i v a at_v one
-      fresh i j v w lt (inr (e, same)) (inl (b, at_w)) shares = omega arith
+          new.none i v (slice_get_within steps i v at_v) at_v (one_step run s.0 t.0 v next s.1 t.1 (rw (← same) at shares))
+      fresh i j v w lt (inr (e, same)) (inl at_w) shares = let within = slice_get_within steps j w at_w in omega arith
       fresh i j v w lt (inr (e, same)) (inr (e', same')) shares = omega arith
 
   pub walking_more : (then : Step) → IsStepOf run next.from then → IsWalking run start (steps ++ next ∷ []) then
   walking_more then step = record {
     walk = walk_more;
-    first = λ h. absurd (let l : length (steps ++ next ∷ []) ≡ length steps + 1 = simp length-append (omega arith) in omega arith);
-    later = λ i v at len. elim (push_cases steps next v i at) [
-      | inl (lt, h) ↦ absurd (let l : length (steps ++ next ∷ []) ≡ length steps + 1 = simp length-append (omega arith) in omega arith)
+    first = λ h. absurd (omega (arith, length_push steps next, h));
+    later = λ i v at len. elim (before_push steps next i v at) [
+      | inl h ↦ absurd (omega (arith, length_push steps next, slice_get_within steps i v h, len))
       | inr (e, same) ↦ rw (← same) step
     ];
   }

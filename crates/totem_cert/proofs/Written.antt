@@ -6,12 +6,7 @@ use Rattle.totem_ids.specs.declared.place.Place.{Place}
 use Rattle.totem_evs.specs.Classes.{IsAtMost}
 use Rattle.totem_evs.specs.ClosedLists.{Step, unless, forward, BeginsLeast}
 use Rattle.totem_cert.specs.Progress.{StandsBefore, IsForwardFrom, IsLeastUpTo}
-use Rattle.totem_cert.proofs.Closing.{get_drop}
-
-pub drop_here : (xs : List Step) (i : ℕ) (v : Step) → slice_get xs i ≡ Some v → drop i xs ≡ v ∷ drop (suc i) xs
-drop_here [] i v at = absurd cc
-drop_here (x ∷ xs) zero v at = let same : x ≡ v = cc in ap (λ (u : Step). u ∷ xs) same
-drop_here (x ∷ xs) (suc i) v at = drop_here xs i v at
+use Rattle.totem_cert.proofs.Closing.{drop_here, get_drop}
 
 pub one_before : (steps : List Step) (again i : ℕ) (p q : Place) → StandsBefore steps again i p → StandsBefore steps again i q → p ≡ q
 one_before steps again i p q (inl (lt, v, at, is)) (inl (lt', w, at', is')) = let same : v ≡ w = cc in is ∙ ap (λ (u : Step). u.from) same ∙ sym is'

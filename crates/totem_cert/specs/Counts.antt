@@ -1,13 +1,11 @@
 -- How many entries keep each class from being ready. The classes are numbered by a table.
-use Rattle.std.specs.Prelude.{◌≡◌, ◌↔◌, ℕ, zero, suc, ◌+◌, ◌-◌, ◌<◌, ◌≤◌, ◌==◌, if◌then◌else◌, List, [], ◌∷◌, ◌++◌, length, slice_get, slice_set, slice_index_or, Option, Some, None}
-use Rattle.totem_ids.specs.declared.message.MsgId.{MsgId}
-use Rattle.totem_ids.specs.declared.conf.ConfId.{ConfId}
+use Rattle.std.specs.Prelude.{◌≡◌, ℕ, zero, suc, ◌+◌, ◌-◌, ◌<◌, ◌≤◌, ◌==◌, if◌then◌else◌, List, [], ◌∷◌, ◌++◌, length, slice_get, slice_set, slice_index_or, Option, Some, None}
 use Rattle.totem_evs.specs.declared.entry.Entry.{Entry}
 use Rattle.totem_evs.specs.declared.entry.Entry.TheVariants.{Conf, Send, Deliver, Fail}
 use Rattle.totem_evs.specs.declared.log.Log.{Log}
 use Rattle.totem_evs.specs.Certificates.{Numbering}
 use Rattle.totem_table.specs.declared.table.Table.{Table}
-use Rattle.totem_table.specs.Tables.{IsEntryAt, NamesMessage, NamesConf, number_at}
+use Rattle.totem_table.specs.Tables.{number_at}
 
 -- how many numbers the line has, if there is one
 abbrev pub count_of : Option Numbering → ℕ
@@ -41,23 +39,16 @@ class_fed (Send m x s) n = Some n
 class_fed (Deliver m x) n = None
 class_fed (Fail x) n = None
 
--- the class that an entry keeps from being ready if it is not the head of its log: its own, or for a send the one that it feeds
-abbrev pub class_named : ℕ → Entry → ℕ → Option ℕ
-class_named messages (Conf x ms) n = Some (messages + n)
-class_named messages (Send m x s) n = Some n
-class_named messages (Deliver m x) n = Some n
-class_named messages (Fail x) n = None
-
 -- 1 for the given class, 0 for any other
 abbrev pub one : Option ℕ → ℕ → ℕ
 one None c = 0
 one (Some n) c = if n == c then 1 else 0
 
--- how many of these entries keep class c, if none of them is the head of its log
+-- how many of these entries keep class c as sends, or as entries of the class if none of them is the head of its log
 abbrev pub kept_behind : ℕ → List Entry → List ℕ → ℕ → ℕ
 kept_behind messages [] row c = 0
 kept_behind messages (entry ∷ entries) [] c = 0
-kept_behind messages (entry ∷ entries) (n ∷ row) c = one (class_named messages entry n) c + kept_behind messages entries row c
+kept_behind messages (entry ∷ entries) (n ∷ row) c = one (class_fed entry n) c + one (class_in messages entry n) c + kept_behind messages entries row c
 
 -- how many entries of a log keep class c if `given` of them have numbers
 abbrev pub kept_in : ℕ → ℕ → List Entry → List ℕ → ℕ → ℕ
@@ -78,10 +69,14 @@ kept_at run table given c k = kept_in (length table.messages.items) given (entri
 abbrev pub kept_by : List Log → Table → List Numbering → ℕ → ℕ
 kept_by run table lines c = sum_to (length run) (λ k. kept_at run table (given_at lines k) c k)
 
--- the counts have the number of entries that keep each class
-pub record Counts (run : List Log) (table : Table) (lines : List Numbering) (counts : List ℕ) : Type 0 where
+-- the counts have the number of entries of the first k logs that keep each class
+pub record CountsTo (run : List Log) (table : Table) (lines : List Numbering) (counts : List ℕ) (k : ℕ) : Type 0 where
   pub long : length counts ≡ length table.messages.items + length table.confs.items
-  pub each : (c : ℕ) → c < length counts → slice_index_or counts c 0 ≡ kept_by run table lines c
+  pub each : (c : ℕ) → c < length counts → slice_index_or counts c 0 ≡ sum_to k (λ j. kept_at run table (given_at lines j) c j)
+
+-- the counts have the number of entries that keep each class
+abbrev pub Counts : List Log → Table → List Numbering → List ℕ → Type 0
+Counts run table lines counts = CountsTo run table lines counts (length run)
 
 abbrev pub fed_by : Option Entry → ℕ → Option ℕ
 fed_by None n = None
@@ -108,13 +103,6 @@ pub record Takes (old new : List ℕ) (f : ℕ → ℕ) : Type 0 where
 pub record AtMost (counts : List ℕ) (most : ℕ) : Type 0 where
   pub each : (c : ℕ) → slice_index_or counts c 0 ≤ most
 
--- the numbers of a table are equal exactly for equal messages, and for equal configurations
-pub record Tells (run : List Log) (table : Table) : Type 0 where
-  pub messages : (k i l j : ℕ) (e f : Entry) (m n : MsgId) → IsEntryAt run k i e → IsEntryAt run l j f → NamesMessage e m → NamesMessage f n
-      → (number_at table k i ≡ number_at table l j) ↔ (m ≡ n)
-  pub confs : (k i l j : ℕ) (e f : Entry) (x y : ConfId) → IsEntryAt run k i e → IsEntryAt run l j f → NamesConf e x → NamesConf f y
-      → (number_at table k i ≡ number_at table l j) ↔ (x ≡ y)
-
 -- only the line at k has changed: its next entry got number n
 pub record Pushes (old new : List Numbering) (k n : ℕ) : Type 0 where
   pub line : Numbering
@@ -126,8 +114,3 @@ pub record HasHead (log : Log) (lines : List Numbering) (k : ℕ) : Type 0 where
   pub line : Numbering
   pub line_at : slice_get lines k ≡ Some line
   pub more : length line.numbers < length log.entries
-
--- the counts cover the first k logs, of which no entry has a number
-pub record CountsTo (run : List Log) (table : Table) (counts : List ℕ) (k : ℕ) : Type 0 where
-  pub long : length counts ≡ length table.messages.items + length table.confs.items
-  pub each : (c : ℕ) → c < length counts → slice_index_or counts c 0 ≡ sum_to k (kept_at run table 0 c)

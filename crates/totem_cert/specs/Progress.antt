@@ -4,7 +4,7 @@ use Rattle.totem_ids.specs.declared.place.Place.{Place}
 use Rattle.totem_evs.specs.declared.entry.Entry.{Entry}
 use Rattle.totem_evs.specs.declared.entry.Entry.TheVariants.{Conf, Send, Deliver, Fail}
 use Rattle.totem_evs.specs.declared.log.Log.{Log}
-use Rattle.totem_evs.specs.Events.{IsEvent, log_of}
+use Rattle.totem_evs.specs.Events.{IsEvent}
 use Rattle.totem_ids.specs.declared.message.MsgId.{MsgId}
 use Rattle.totem_evs.specs.Steps.{DeliversAt}
 use Rattle.totem_evs.specs.Certificates.{Numbering, number_at, numbers_of}
@@ -12,7 +12,7 @@ use Rattle.totem_cert.specs.Search.{place}
 use Rattle.totem_table.specs.declared.table.Table.{Table}
 use Rattle.totem_table.specs.Tables.{IsEntryAt}
 use Rattle.totem_cert.specs.Counts.{class_at, given_at}
-use Rattle.totem_evs.specs.Classes.{IsAtMost, InClass, WaitsFor, ClassAtMost, AreOfOneClass, AreSendAndDelivery}
+use Rattle.totem_evs.specs.Classes.{IsAtMost, InClass, WaitsFor, ClassAtMost, AreSendAndDelivery}
 use Rattle.totem_evs.specs.Positions.{IsReadyAt}
 use Rattle.totem_evs.specs.ClosedLists.{Placed, Step, IsStepOf, IsWalk, ComesBack, forward, AreTwinDeliveries}
 
@@ -70,14 +70,11 @@ pub record IsGiven (run : List Log) (old new : List Numbering) (n : ℕ) : Type 
   pub fits : Fits run new
   pub left : entries_left run new < entries_left run old
 
--- the event at i of q's log is in the class of the entry at j of p's
-abbrev pub IsMate : ℕ → ℕ → Entry → ℕ → ℕ → Entry → Type 0
-IsMate p j x q i y = ((p ≡ q) × (j ≡ i)) ⊎ AreOfOneClass x y
-
--- the event at i of q's log keeps the class of the entry x at j of p's log from being ready
-abbrev pub KeepsBack : List Log → List Numbering → ℕ → ℕ → Entry → ℕ → ℕ → Type 0
-KeepsBack run lines p j x q i = (y : Entry) × (slice_get (log_of run q) i ≡ Some y)
-    × ((IsMate p j x q i y × (length (numbers_of lines q) < i)) ⊎ (AreSendAndDelivery y x × (length (numbers_of lines q) ≤ i)))
+-- no entry keeps the class of e, where x stands, from being ready: each entry of the class has only numbers before it, and each send of
+-- its message has a number
+pub record IsFree (run : List Log) (lines : List Numbering) (e : Place) (x : Entry) : Type 0 where
+  pub mates : (k i : ℕ) (y : Entry) (a : IsEntryAt run k i y) → InClass run e (place a.log.proc i) → i ≤ given_at lines k
+  pub sends : (k i : ℕ) (y : Entry) → IsEntryAt run k i y → AreSendAndDelivery y x → i < given_at lines k
 
 -- the head of the k-th log is the next event to be numbered
 pub record IsNextHead (run : List Log) (lines : List Numbering) (k : ℕ) : Type 0 where

@@ -2,7 +2,6 @@ ghost use Rattle.std.specs.Prelude.{IfOk};
 ghost use Rattle.totem_evs.specs.ClosedLists.{IsLeastLeft, IsBrokenBy};
 ghost use Rattle.totem_evs.specs.ClosedLists.{IsCycle};
 ghost use Rattle.totem_table.specs.Tables.{IsTable};
-ghost use Rattle.totem_cert.specs.Counts.{Tells};
 ghost use Rattle.totem_cert.specs.Progress.{IsSound, NoneReady, IsFirstLeft};
 
 use crate::closed::{forward, turned};
@@ -49,7 +48,6 @@ pub fn closed_list(
     k: usize,
 ) -> Result<Fault, AllocError>
     requires table { IsTable run.now.logs table.now }
-    requires tells { Tells run.now.logs table.now }
     requires sound { IsSound run.now.logs lines.now }
     requires none { NoneReady run.now.logs lines.now }
     requires left { IsFirstLeft run.now.logs lines.now k }

@@ -1,7 +1,7 @@
 //! Numbers the classes of a run over its table, by counting the entries that keep each class from being ready.
 ghost use Rattle.std.specs.Prelude.{IfOk, IfSome, IfNone, OnOk};
 ghost use Rattle.totem_table.specs.Tables.{IsTable};
-ghost use Rattle.totem_cert.specs.Counts.{Counts, Tells};
+ghost use Rattle.totem_cert.specs.Counts.{Counts};
 ghost use Rattle.totem_cert.specs.Progress.{IsGiven, IsNextHead, IsNextIn, IsSound, NoneReady};
 
 use crate::counts::{count_all, number_head};
@@ -15,7 +15,6 @@ use totem_table::Table;
 /// Returns the index of the first log whose head is ready.
 fn first_counted(run: &Run, table: &Table, lines: &[OpenLine], counts: &[u32]) -> Option<usize>
     requires table { IsTable run.now.logs table.now }
-    requires tells { Tells run.now.logs table.now }
     requires sound { IsSound run.now.logs lines.now }
     requires counts { Counts run.now.logs table.now lines.now counts.now }
     ensures found { IfSome result (λ k. IsNextHead run.now.logs lines.now k) }
@@ -40,7 +39,6 @@ fn give_heads(
     number: u32,
 ) -> Result<(), AllocError>
     requires table { IsTable run.now.logs table.now }
-    requires tells { Tells run.now.logs table.now }
     requires counts { Counts run.now.logs table.now lines.old.items counts.old }
     requires sound { IsSound run.now.logs lines.old.items }
     requires next { IsNextIn run.now.logs table.now lines.old.items class }
@@ -66,7 +64,6 @@ fn give_class(
     number: u32,
 ) -> Result<(), AllocError>
     requires table { IsTable run.now.logs table.now }
-    requires tells { Tells run.now.logs table.now }
     requires counts { Counts run.now.logs table.now lines.old.items counts.old }
     requires sound { IsSound run.now.logs lines.old.items }
     requires next { IsNextHead run.now.logs lines.old.items k }
@@ -88,7 +85,6 @@ pub fn number_by_counts(
     table: &Table,
 ) -> Result<Vec<OpenLine>, AllocError>
     requires table { IsTable run.now.logs table.now }
-    requires tells { Tells run.now.logs table.now }
     ensures sound { IfOk result (λ lines. IsSound run.now.logs lines.items) }
     ensures none { IfOk result (λ lines. NoneReady run.now.logs lines.items) }
 {

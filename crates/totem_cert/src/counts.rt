@@ -3,7 +3,7 @@
 ghost use Rattle.std.specs.Prelude.{◌≡◌, ◌+◌, ◌<◌, ◌≤◌, ◌^◌, IfOk, OnOk, Some, length, map, slice_get, slice_index_or};
 ghost use Rattle.totem_table.specs.Tables.{IsTable};
 ghost use Rattle.totem_cert.specs.Progress.{empty_line};
-ghost use Rattle.totem_cert.specs.Counts.{Adds, AtMost, Counts, CountsTo, HasHead, Pushes, Takes, class_fed, class_in, class_named, kept_in, one, passed, shared_by};
+ghost use Rattle.totem_cert.specs.Counts.{Adds, AtMost, Counts, CountsTo, HasHead, Pushes, Takes, class_fed, class_in, kept_in, one, passed, shared_by};
 
 use std::alloc::{AllocError, Global};
 use totem_certificate::OpenLine;
@@ -29,18 +29,6 @@ pub fn class_in(messages: usize, entry: &Entry, number: u32) -> Option<usize>
         Entry::Conf(_, _) => Some(messages + number as usize),
         Entry::Deliver(_, _) => Some(number as usize),
         _ => None,
-    }
-}
-
-/// Returns the class that an entry keeps from being ready if it is not the head of its log.
-fn class_named(messages: usize, entry: &Entry, number: u32) -> Option<usize>
-    requires { messages < 2 ^ 63 }
-    ensures { result ≡ class_named messages entry.now number }
-{
-    match entry {
-        Entry::Conf(_, _) => Some(messages + number as usize),
-        Entry::Send(_, _, _) | Entry::Deliver(_, _) => Some(number as usize),
-        Entry::Fail(_) => None,
     }
 }
 
@@ -72,7 +60,7 @@ fn take(counts: &mut [u32], class: Option<usize>)
 }
 
 /// Returns the class of the entry at an index, or `None` if there is no entry or it is alone in its class.
-fn class_next(messages: usize, entries: &[Entry], row: &[u32], next: usize) -> Option<usize>
+pub fn class_next(messages: usize, entries: &[Entry], row: &[u32], next: usize) -> Option<usize>
     requires messages { messages < 2 ^ 63 }
     requires long { length entries.now ≡ length row.now }
     ensures { result ≡ shared_by messages (slice_get entries.now next) (slice_index_or row.now next 0) }
@@ -87,13 +75,14 @@ fn class_next(messages: usize, entries: &[Entry], row: &[u32], next: usize) -> O
 /// Counts the classes that the entries of a log keep from being ready. None of the entries has a number.
 fn count_log(counts: &mut [u32], messages: usize, entries: &[Entry], row: &[u32])
     requires messages { messages < 2 ^ 63 }
-    requires few { AtMost counts.old 31000000 }
+    requires few { AtMost counts.old 62000000 }
     requires short { length entries.now ≤ 1000000 }
     requires long { length entries.now ≡ length row.now }
     ensures { Adds counts.old counts.new (kept_in messages 0 entries.now row.now) }
 {
     for (at, entry) in entries.iter().enumerate() {
-        add(counts, class_named(messages, entry, row[at]));
+        add(counts, class_fed(entry, row[at]));
+        add(counts, class_in(messages, entry, row[at]));
     }
     take(counts, class_next(messages, entries, row, 0));
 }
@@ -101,7 +90,7 @@ fn count_log(counts: &mut [u32], messages: usize, entries: &[Entry], row: &[u32]
 /// Counts the classes that the entries of each log keep from being ready. None of the entries has a number.
 fn count_logs(counts: &mut [u32], run: &Run, table: &Table)
     requires table { IsTable run.now.logs table.now }
-    requires none { CountsTo run.now.logs table.now counts.old 0 }
+    requires none { CountsTo run.now.logs table.now (map empty_line run.now.logs) counts.old 0 }
     ensures { Counts run.now.logs table.now (map empty_line run.now.logs) counts.new }
 {
     let messages = table.messages.len();

@@ -1,5 +1,5 @@
 //! Finds the first entries and sends of each class that have no number, in one pass over the run.
-ghost use Rattle.std.specs.Prelude.{◌≡◌, ◌+◌, ◌<◌, ◌^◌, IfOk, None, Some, replicate, slice_get};
+ghost use Rattle.std.specs.Prelude.{◌≡◌, ◌+◌, ◌<◌, ◌^◌, IfOk, Some, slice_get};
 ghost use Rattle.totem_table.specs.Tables.{IsTable};
 ghost use Rattle.totem_cert.specs.Counts.{given_at};
 ghost use Rattle.totem_cert.specs.Firsts.{AreFirsts, AreFirstsOf, AreFirstsTo, Notes, class_wanted};
@@ -107,18 +107,6 @@ fn note_log(
     }
 }
 
-/// Returns a list in which no class has a place.
-#[tactic(auto, using(crate::proofs::FirstPlaces::none_more))]
-fn none_noted(alloc: Global, classes: usize) -> Result<Vec<Option<Place>>, AllocError>
-    ensures { IfOk result (λ firsts. firsts.items ≡ replicate classes None) }
-{
-    let mut firsts = Vec::with_capacity(alloc, classes)?;
-    for _ in 0..classes {
-        firsts.push(None)?;
-    }
-    Ok(firsts)
-}
-
 /// Returns for each class the place of its first wanted entry.
 fn first_places(
     alloc: Global,
@@ -131,7 +119,7 @@ fn first_places(
     ensures { IfOk result (λ firsts. AreFirsts run.now.logs table.now lines.now wanted firsts.items) }
 {
     let classes = table.messages.len() + table.confs.len();
-    let mut firsts = none_noted(alloc, classes)?;
+    let mut firsts = vec![in alloc; None; classes]?;
     for (k, log) in run.logs.as_slice().iter().enumerate() {
         note_log(&mut firsts, run, table, lines, wanted, k, log);
     }

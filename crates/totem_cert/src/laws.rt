@@ -2,6 +2,7 @@
 ghost use Rattle.totem_cert.specs.Laws.{PositionsAreOne, ClosedListsAreOne, ClosedListsExcludeCertificates};
 
 /// A run has at most one certificate of its positions.
+#[tactic(auto, using(crate::proofs::One::one))]
 pub fn positions_are_one()
     ensures { PositionsAreOne }
 {}

@@ -10,7 +10,7 @@ use std::alloc::{AllocError, Global};
 use totem_certificate::{Certificate, Line, Lines, OpenLine};
 use totem_evs::{Fault, Run};
 use totem_ids::Version;
-use totem_table::{Table, numbers_tell_confs, numbers_tell_messages};
+use totem_table::Table;
 
 /// The positions of a run's events, or the closed list that shows that they have none.
 #[derive(Debug, Drop)]
@@ -64,8 +64,6 @@ pub fn positions(alloc: Global, run: &Run) -> Result<Order, AllocError>
     ensures { IfOk result (λ order. IsOrder run.now order) }
 {
     let table = Table::build(alloc, run)?;
-    numbers_tell_messages(run, &table);
-    numbers_tell_confs(run, &table);
     let lines = number_by_counts(alloc, run, &table)?;
     match first_left(run, &lines) {
         None => Ok(Order::Positions(certificate(alloc, run, lines)?)),

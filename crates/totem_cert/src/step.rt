@@ -6,11 +6,10 @@ ghost use Rattle.totem_evs.specs.Certificates.{numbers_of};
 ghost use Rattle.totem_evs.specs.Runs.{IsRun};
 ghost use Rattle.totem_evs.specs.ClosedLists.{IsLeft, IsStepOf};
 ghost use Rattle.totem_table.specs.Tables.{IsTable};
-ghost use Rattle.totem_cert.specs.Counts.{Tells};
 ghost use Rattle.totem_cert.specs.Firsts.{AreFirstsOf};
 ghost use Rattle.totem_cert.specs.Progress.{Fits, IsClassOf, IsHeldBy, IsLogOf, IsSound, NoneReady};
 
-use crate::counts::class_in;
+use crate::counts::class_next;
 use crate::firsts::{Firsts, given_at};
 use std::alloc::{AllocError, Global};
 use std::marker::Model;
@@ -77,11 +76,8 @@ fn class_of(run: &Run, table: &Table, e: &Place) -> Option<usize>
     };
     let log = &run.logs.as_slice()[k];
     let entries = log.entries.as_slice();
-    if entries.len() <= at {
-        return None;
-    }
     let row = table.rows[k].as_slice();
-    class_in(table.messages.len(), &entries[at], row[at])
+    class_next(table.messages.len(), entries, row, at)
 }
 
 /// Returns how many entries of a process's log have a number.
@@ -128,7 +124,6 @@ fn first_held(waits: bool, member: Option<Place>, follower: Option<Place>) -> Op
 /// Returns the step to the class of an event that has no number.
 pub fn step_of(run: &Run, table: &Table, lines: &[OpenLine], firsts: &Firsts, left: &Place) -> Step
     requires table { IsTable run.now.logs table.now }
-    requires tells { Tells run.now.logs table.now }
     requires firsts { AreFirstsOf run.now.logs table.now lines.now firsts.now }
     requires sound { IsSound run.now.logs lines.now }
     requires none { NoneReady run.now.logs lines.now }

@@ -37,12 +37,6 @@ fn both_are(m: Option<MsgId>, n: Option<MsgId>) -> bool
     }
 }
 
-fn and_not(a: bool, b: bool) -> bool
-    ensures { IsTrue result ↔ (IsTrue a × (IsTrue b → ⊥)) }
-{
-    a && !b
-}
-
 fn is_same(e: &Place, f: &Place) -> bool
     ensures { IsTrue result ↔ (e.now ≡ f.now) }
 {
@@ -53,11 +47,12 @@ fn is_same(e: &Place, f: &Place) -> bool
 fn are_twins(run: &Run, e: &Place, f: &Place) -> bool
     ensures { IsTrue result ↔ AreTwinDeliveries run.now.logs e.now f.now }
 {
+    if is_same(e, f) {
+        return false;
+    }
     let m = delivered(run, e);
     let n = delivered(run, f);
-    let same = both_are(m, n);
-    let one = is_same(e, f);
-    and_not(same, one)
+    both_are(m, n)
 }
 
 /// Returns the place that follows the i-th in a closed list. The first follows the last.

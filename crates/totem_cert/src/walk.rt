@@ -1,8 +1,7 @@
-ghost use Rattle.std.specs.Prelude.{◌≡◌, IfOk, OnOk};
-ghost use Rattle.std.specs.BTreeMap.{get, Updates};
+ghost use Rattle.std.specs.Prelude.{◌≡◌, IfOk};
+ghost use Rattle.std.specs.BTreeMap.{get};
 ghost use Rattle.totem_evs.specs.ClosedLists.{IsLeft};
 ghost use Rattle.totem_table.specs.Tables.{IsTable};
-ghost use Rattle.totem_cert.specs.Counts.{Tells};
 ghost use Rattle.totem_cert.specs.Firsts.{AreFirstsOf};
 ghost use Rattle.totem_cert.specs.Progress.{IsSound, NoneReady, IsRound};
 ghost use Rattle.totem_cert.specs.Visited.{place_order};
@@ -30,13 +29,6 @@ fn visited(seen: &BTreeMap<Place, usize>, to: &Place) -> Option<usize>
     seen.get(to).copied()
 }
 
-fn note(seen: &mut BTreeMap<Place, usize>, to: Place, step: usize) -> Result<(), AllocError>
-    ensures { OnOk result (Updates place_order seen.old seen.new to (Some step)) }
-{
-    seen.insert(to, step)?;
-    Ok(())
-}
-
 /// Walks from class to class, starting at the class of an event without a number, until a class is reached a second time.
 pub fn walk_round(
     alloc: Global,
@@ -47,7 +39,6 @@ pub fn walk_round(
     start: &Place,
 ) -> Result<Round, AllocError>
     requires table { IsTable run.now.logs table.now }
-    requires tells { Tells run.now.logs table.now }
     requires firsts { AreFirstsOf run.now.logs table.now lines.now firsts.now }
     requires sound { IsSound run.now.logs lines.now }
     requires none { NoneReady run.now.logs lines.now }
@@ -61,7 +52,7 @@ pub fn walk_round(
         if let Some(again) = visited(&seen, &next.to) {
             return Ok(Round { steps, again });
         }
-        note(&mut seen, next.to, steps.len())?;
+        seen.insert(next.to, steps.len())?;
         steps.push(next)?;
         next = step_of(run, table, lines, firsts, &next.from);
     }

@@ -1,8 +1,8 @@
-use Rattle.std.proofs.Common.{◌<◌, ◌≤◌, length, refl, ap, ◌∙◌, arith}
+use Rattle.std.proofs.Common.{◌≡◌, ◌<◌, ◌≤◌, length, refl, ap, ◌∙◌, arith}
 use Rattle.std.proofs.lemmas.Option.{slice_get_read}
 use Rattle.totem_evs.specs.LogRecord.{LogRecord}
 use Rattle.totem_evs.specs.RunRecord.{RunRecord}
-use Rattle.totem_cert.proofs.CountSteps.{counts_few, counts_more, counts_whole, table_row, logs_short}
+use Rattle.totem_cert.proofs.CountSteps.{counts_few, counts_more, table_row, logs_short}
 use Rattle.totem_cert.proofs.counts.count_logs.Goals as goal
 
 pub count_log-requires-clause-few : goal.count_log-requires-clause-few
@@ -10,7 +10,7 @@ count_log-requires-clause-few c =
     let runs = ap (λ (r : RunRecord). r.logs) c.run.view_is in
     let run = (rw runs at c.as_slice-log-items.ensures.run) in
     let t : c.loop-k.k < length c.args.run.now.logs = rw (c.as_slice-log-items.ensures.value ∙ runs) at c.loop-k-test.true in
-    counts_few c.args.run.now.logs c.args.table.now c.loop-k.counts c.loop-k.k (logs_short c.args.run.now.logs run) (let f = run.few in omega arith) c.loop-k.invariant.counts
+    counts_few c.args.run.now.logs c.args.table.now _ c.loop-k.counts c.loop-k.k (logs_short c.args.run.now.logs run) (let f = run.few in omega arith) c.loop-k.invariant.counts
 
 pub count_log-requires-clause-long : goal.count_log-requires-clause-long
 count_log-requires-clause-long c =
@@ -36,4 +36,5 @@ pub returns : goal.returns
 returns c =
     let runs = ap (λ (r : RunRecord). r.logs) c.run.view_is in
     let ge : length c.args.run.now.logs ≤ c.loop-k.k = rw (c.as_slice-log-items.ensures.value ∙ runs) at c.loop-k-test.false in
-    counts_whole c.args.run.now.logs c.args.table.now c.loop-k.counts c.loop-k.k (let le = c.loop-k.invariant.within in omega arith) c.loop-k.invariant.counts
+    let whole : c.loop-k.k ≡ length c.args.run.now.logs = (let le = c.loop-k.invariant.within in omega arith) in
+    rw whole at c.loop-k.invariant.counts

@@ -1,19 +1,11 @@
-use Rattle.std.proofs.Common.{◌≡◌, suc, ◌-◌, vec_len, length, ◌<◌, refl, ◌∙◌, ap, arith}
-use Rattle.std.proofs.lemmas.Option.{slice_get_read, slice_get_within}
+use Rattle.std.proofs.Common.{◌≡◌, suc, ◌-◌, vec_len, length, ◌<◌, ◌∙◌, ap, arith}
+use Rattle.std.proofs.lemmas.Option.{slice_get_within}
 use Rattle.totem_ids.specs.declared.place.Place.{Place}
 use Rattle.totem_evs.specs.LogRecord.{LogRecord}
 use Rattle.totem_evs.specs.RunRecord.{RunRecord}
-use Rattle.totem_cert.proofs.LineFacts.{read_log, class_past, class_here}
-use Rattle.totem_cert.proofs.CountSteps.{table_row, class_as}
+use Rattle.totem_cert.proofs.LineFacts.{read_log, class_read}
+use Rattle.totem_cert.proofs.CountSteps.{table_row, next_as}
 use Rattle.totem_cert.proofs.step.class_of.Goals as goal
-
-pub returns-then-entries-at-clause-class : goal.returns-then-entries-at-clause-class
-returns-then-entries-at-clause-class c =
-    let runs = ap (λ (r : RunRecord). r.logs) c.run.view_is in
-    let log = read_log _ _ _ _ c.index-as_slice-k.result c.in-Some.ensures.log (c.as_slice.ensures.value ∙ runs) c.index-as_slice-k.is in
-    let entries = c.as_slice-entries.ensures.value ∙ ap (λ (l : LogRecord). l.entries) c.log.view_is in
-    let at : c.args.e.now.at ≡ suc (c.e.inside.at - 1) = (let h = c.e.invariant in let ats = ap (λ (e : Place). e.at) c.e.view_is in omega arith) in
-    class_past _ _ _ _ _ _ c.in-Some.ensures.run.rising log.0 (log.1 ∙ ap (λ (e : Place). e.proc) c.e.view_is) at (rw entries at c.if-entries-at.true)
 
 pub index-requires : goal.index-requires
 index-requires c =
@@ -22,13 +14,12 @@ index-requires c =
     let long : length c.args.run.now.logs ≡ length c.args.table.now.rows.items = c.requires.rows.long in
     omega arith
 
-pub bounds-row-at : goal.bounds-row-at
-bounds-row-at c =
+pub class_next-requires-clause-long : goal.class_next-requires-clause-long
+class_next-requires-clause-long c =
     let runs = ap (λ (r : RunRecord). r.logs) c.run.view_is in
     let log = read_log _ _ _ _ c.index-as_slice-k.result c.in-Some.ensures.log (c.as_slice.ensures.value ∙ runs) c.index-as_slice-k.is in
     let entries = c.as_slice-entries.ensures.value ∙ ap (λ (l : LogRecord). l.entries) c.log.view_is in
-    let row = table_row c.args.run.now.logs c.args.table.now _ _ c.as_slice-entries.result.now c.as_slice-row.result.now c.index.result.now c.requires log.0 entries c.index.ensures c.as_slice-row.ensures in
-    omega (arith, row.1, c.if-entries-at.false)
+    (table_row c.args.run.now.logs c.args.table.now _ _ c.as_slice-entries.result.now c.as_slice-row.result.now c.index.result.now c.requires log.0 entries c.index.ensures c.as_slice-row.ensures).1
 
 pub returns-clause-class : goal.returns-clause-class
 returns-clause-class c =
@@ -37,6 +28,5 @@ returns-clause-class c =
     let entries = c.as_slice-entries.ensures.value ∙ ap (λ (l : LogRecord). l.entries) c.log.view_is in
     let row = table_row c.args.run.now.logs c.args.table.now _ _ c.as_slice-entries.result.now c.as_slice-row.result.now c.index.result.now c.requires log.0 entries c.index.ensures c.as_slice-row.ensures in
     let at : c.args.e.now.at ≡ suc (c.e.inside.at - 1) = (let h = c.e.invariant in let ats = ap (λ (e : Place). e.at) c.e.view_is in omega arith) in
-    let entry = rw entries at (slice_get_read c.as_slice-entries.result.now _ _ c.index-entries-at.result refl (let h = c.if-entries-at.false in omega arith) c.index-entries-at.is) in
-    class_here _ _ _ _ _ _ _ _ c.in-Some.ensures.run.rising log.0 (log.1 ∙ ap (λ (e : Place). e.proc) c.e.view_is) at entry
-    (class_as _ _ _ _ _ _ _ _ (c.len.ensures ∙ c.args.table.now.messages.ok.0) row.0 refl c.class_in.ensures)
+    class_read _ _ _ _ _ _ _ c.in-Some.ensures.run.rising log.0 (log.1 ∙ ap (λ (e : Place). e.proc) c.e.view_is) at
+    (next_as _ _ _ _ _ _ _ _ (c.len.ensures ∙ c.args.table.now.messages.ok.0) entries row.0 c.class_next.ensures)

@@ -29,5 +29,5 @@ steps-preserved c =
     let fresh = not_visited _ _ _ c.steps.invariant.noted (rw to at c.in_default.ensures) in
     rw c.in_ok-push.ensures.items (record {
       walking = walking_more _ _ _ _ c.steps.invariant.walking fresh _ (rw from at c.step_of-next-in-steps.ensures);
-      noted = noted_more _ _ _ _ c.steps.invariant.noted fresh (rw (to, c.len.ensures ∙ c.steps.steps.ok.0) at c.in_ok-note.ensures);
+      noted = noted_more _ _ _ _ c.steps.invariant.noted fresh (rw (to, c.len.ensures ∙ c.steps.steps.ok.0) at c.in_ok-insert.ensures.updates);
     })
