@@ -12,7 +12,7 @@ use Rattle.totem_cert.specs.Search.{place}
 use Rattle.totem_certificate.specs.Keeping.{IsLineIn, IsCertificateIn, IsOfText, certificate_version}
 use Rattle.totem_cert.specs.Progress.{IsSound, IsFull}
 use Rattle.totem_evs.proofs.LogOf.{in_order}
-use Rattle.totem_cert.proofs.LineFacts.{stands_at}
+use Rattle.totem_cert.proofs.LineFacts.{line_of_at}
 use Rattle.totem_cert.proofs.Lists.{at_index}
 
 -- a certificate of that version has a text, and writes the processes of the run
@@ -39,14 +39,14 @@ module _ (version : Version) (run : List Log) (lines : List Numbering) (is_run :
       let long = full.full k log line at_l at_n in
       let some = l.entries.some in
       let few = l.entries.few in
-      let s = stands_at run lines k log line is_run.rising sound.fits at_l at_n in
+      let s = line_of_at run lines k log line is_run.rising sound.fits at_l at_n in
       record {
         process = rw proc (process_there version log.proc l.process);
         numbers = record {
           some = omega arith;
           few = omega arith;
           each = λ i d lt. (
-              let given : number_at lines (place log.proc i) ≡ Some (get_or line.numbers i d) = rw s.line_is (slice_get-get_or line.numbers i d lt) in
+              let given : number_at lines (place log.proc i) ≡ Some (get_or line.numbers i d) = rw s (slice_get-get_or line.numbers i d lt) in
               let most = sound.sound.few (place log.proc i) (get_or line.numbers i d) given in
               let small = sound.small in
               record { positive = sound.sound.positive (place log.proc i) (get_or line.numbers i d) given; small = omega arith }

@@ -1,6 +1,5 @@
 -- Which classes are ready, found from the counts of what keeps them back.
-use Rattle.std.proofs.Common.{◌≡◌, ℕ, zero, suc, ◌+◌, ◌<◌, ◌≤◌, ◌⊎◌, inl, inr, List, [], ◌∷◌, length, get_or, slice_get, Option, Some, None, Bool, true, false, IsTrue, ◌↔◌, refl, sym, ◌∙◌, ap, arith, rules}
-use Rattle.std.specs.Prelude.{◌==◌}
+use Rattle.std.proofs.Common.{◌≡◌, ℕ, zero, suc, ◌+◌, ◌<◌, ◌≤◌, ◌⊎◌, inl, inr, List, [], ◌∷◌, length, get_or, slice_get, Option, Some, None, Bool, IsTrue, ◌↔◌, refl, sym, ◌∙◌, ap, arith}
 use Rattle.std.proofs.Math.Nat.{eq-zero-or-pos}
 use Rattle.std.proofs.lemmas.Option.{slice_get_within}
 use Rattle.totem_ids.specs.declared.place.Place.{Place}
@@ -13,22 +12,19 @@ use Rattle.totem_table.specs.Tables.{IsTable, IsEntryAt, number_at}
 use Rattle.totem_cert.specs.Search.{place}
 use Rattle.totem_cert.specs.Progress.{Fits, IsFree, IsReady}
 use Rattle.totem_cert.specs.Counts.{given_at, class_at, class_in, class_fed, one, kept_behind, kept_in, kept_at, kept_by, Counts}
+use Rattle.totem_cert.proofs.CountingOne.{one_cases}
 use Rattle.totem_cert.proofs.Lists.{at_index, up_to_or_past}
 use Rattle.totem_cert.proofs.LineFacts.{log_index}
 use Rattle.totem_cert.proofs.LogHeads.{free_ready, ready_free}
 use Rattle.totem_cert.proofs.Classes.{alone_fed, alone_itself, in_class, class_from, feeds_in, in_feeds}
 use Rattle.totem_cert.proofs.Sums.{sum_zero, sum_some}
 
-one_self : (c : ℕ) → one (Some c) c ≡ 1
-one_self c = let test : (c == c) ≡ true = search rules in rw test refl
-
 one_some : (o : Option ℕ) (c : ℕ) → 0 < one o c → o ≡ Some c
 one_some None c some = absurd (omega arith)
-one_some (Some n) c some = go (n == c) refl
-  where
-    go : (b : Bool) → (n == c) ≡ b → Some n ≡ Some c
-    go true e = let same : n ≡ c = search rules in ap Some same
-    go false e = absurd (let h : 0 < 0 = rw e at some in omega arith)
+one_some (Some n) c some = elim (one_cases n c) [ inl (same, is) ↦ ap Some (sym same) | inr (other, is) ↦ absurd (omega arith) ]
+
+one_self : (c : ℕ) → one (Some c) c ≡ 1
+one_self c = elim (one_cases c c) [ inl (same, is) ↦ is | inr (other, is) ↦ absurd (other refl) ]
 
 either : (a b : ℕ) → 0 < a + b → (0 < a) ⊎ (0 < b)
 either a b some = grind arith

@@ -42,20 +42,16 @@ notes_past old class e past = record {
 pub notes_nothing : (old : List (Option Place)) (e : Place) → Notes old old None e
 notes_nothing old e = record { long = refl; each = λ c. inl (refl, λ h none. cc) }
 
+tested : (t : Bool) (c : ℕ) (o : Option ℕ) → cond t o None ≡ Some c → (t ≡ true) × (o ≡ Some c)
+tested true c o is = (refl, is)
+tested false c o is = absurd cc
+
 -- what is wanted is late enough
 pub le_parts : (a b c : ℕ) (o : Option ℕ) → (if nat_le a b then o else None) ≡ Some c → (a ≤ b) × (o ≡ Some c)
-le_parts a b c o is = go (leb a b) refl is
-  where
-    go : (t : Bool) → leb a b ≡ t → cond t o None ≡ Some c → (a ≤ b) × (o ≡ Some c)
-    go true e h = (leb-true a b e, h)
-    go false e h = absurd cc
+le_parts a b c o is = let parts = tested (leb a b) c o is in (leb-true a b parts.0, parts.1)
 
 pub lt_parts : (a b c : ℕ) (o : Option ℕ) → (if nat_lt a b then o else None) ≡ Some c → (a < b) × (o ≡ Some c)
-lt_parts a b c o is = go (ltb a b) refl is
-  where
-    go : (t : Bool) → ltb a b ≡ t → cond t o None ≡ Some c → (a < b) × (o ≡ Some c)
-    go true e h = (ltb-true a b e, h)
-    go false e h = absurd cc
+lt_parts a b c o is = let parts = tested (ltb a b) c o is in (ltb-true a b parts.0, parts.1)
 
 before_or_not : (k i l j : ℕ) → IsPast k i l j ⊎ ((k < l) ⊎ ((k ≡ l) × (i ≤ j)))
 before_or_not k i l j = grind arith

@@ -13,7 +13,7 @@ use Rattle.totem_cert.specs.Search.{place}
 use Rattle.totem_evs.specs.Classes.{WaitsFor}
 use Rattle.totem_evs.specs.Positions.{IsPositions}
 use Rattle.totem_cert.specs.Progress.{Fits, IsSound, IsFull, IsNumbered}
-use Rattle.totem_cert.proofs.LineFacts.{stands_at, stands_in, event_at, within_numbered, fits_tail}
+use Rattle.totem_cert.proofs.LineFacts.{line_of_at, line_in, event_at, within_numbered, fits_tail}
 use Rattle.totem_cert.proofs.Lists.{at_index}
 
 full_tail : (log : Log) (logs : List Log) (line : Numbering) (lines : List Numbering) → IsFull (log ∷ logs) (line ∷ lines) → IsFull logs lines
@@ -35,10 +35,10 @@ module _ (run : List Log) (lines : List Numbering) (rising : Rising run) (sound 
   numbered : (e : Place) → IsEvent run e → IsNumbered lines e
   numbered e (x, at) =
       let (k, i, a, is) = event_at run e x at in
-      let s = stands_in run lines k a.log rising sound.fits a.is_log in
-      let all = full.full k a.log s.0 a.is_log s.1.line_at in
+      let s = line_in run lines k a.log rising sound.fits a.is_log in
+      let all = full.full k a.log s.0 a.is_log s.1 in
       let lt = slice_get_within a.log.entries i x a.is_entry in
-      rw is (within_numbered lines a.log.proc i (rw s.1.line_is (omega arith)))
+      rw is (within_numbered lines a.log.proc i (rw s.2 (omega arith)))
 
   below : (e f : Place) → IsEvent run f → WaitsFor run f e → IsBelow lines e f
   below e f event waits =
@@ -49,8 +49,8 @@ module _ (run : List Log) (lines : List Numbering) (rising : Rising run) (sound 
   positive : All (λ line. All (λ n. 0 < n) line.numbers) lines
   positive = λ k d lt i e within.
       let (log, log_at) = at_index run k (let c = sound.fits.count in omega arith) in
-      let s = stands_at run lines k log (get_or lines k d) rising sound.fits log_at (slice_get-get_or lines k d lt) in
-      let given : number_at lines (place log.proc i) ≡ Some (get_or (get_or lines k d).numbers i e) = rw s.line_is (slice_get-get_or (get_or lines k d).numbers i e within) in
+      let s = line_of_at run lines k log (get_or lines k d) rising sound.fits log_at (slice_get-get_or lines k d lt) in
+      let given : number_at lines (place log.proc i) ≡ Some (get_or (get_or lines k d).numbers i e) = rw s (slice_get-get_or (get_or lines k d).numbers i e within) in
       sound.sound.positive (place log.proc i) (get_or (get_or lines k d).numbers i e) given
 
   pub full_positions : IsPositions run lines

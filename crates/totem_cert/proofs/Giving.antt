@@ -23,7 +23,7 @@ use Rattle.totem_cert.proofs.Classmates.{class_self}
 use Rattle.std.proofs.lemmas.Bool.{cases_eq}
 use Rattle.totem_cert.proofs.Classes.{alone_itself, in_class, class_from}
 use Rattle.totem_cert.proofs.ClassHeads.{head_is}
-use Rattle.totem_cert.proofs.LineFacts.{same_parts, stands_at}
+use Rattle.totem_cert.proofs.LineFacts.{same_parts, line_of_at}
 use Rattle.totem_cert.proofs.LogHeads.{ready_same}
 use Rattle.totem_cert.proofs.Next.{ready_at}
 
@@ -96,7 +96,7 @@ module _ (run : List Log) (rising : Rising run) (old new : List Numbering) (fits
   push_given j other = ap count_of (stays j other)
 
   numbers_are : (numbers_of old log.proc ≡ pushes.line.numbers) × (numbers_of new log.proc ≡ pushes.line.numbers ++ n ∷ [])
-  numbers_are = ((stands_at run old k log pushes.line rising fits log_at pushes.line_at).line_is, (stands_at run new k log (longer_by n pushes.line) rising push_fits log_at now_at).line_is)
+  numbers_are = (line_of_at run old k log pushes.line rising fits log_at pushes.line_at, line_of_at run new k log (longer_by n pushes.line) rising push_fits log_at now_at)
 
   pub push_fresh : number_at new (place log.proc (given_at old k)) ≡ Some n
   push_fresh = rw (given_is, numbers_are.1) (stands_last pushes.line.numbers n)

@@ -13,7 +13,7 @@ use Rattle.totem_evs.proofs.LogOf.{Rising, less_or_not}
 use Rattle.totem_evs.specs.ClosedLists.{Step, IsLeft, IsLeastLeft, IsTurned, BeginsLeast, IsBrokenBy, IsClosedList, forward, unless}
 use Rattle.totem_cert.specs.Search.{place}
 use Rattle.totem_cert.specs.Progress.{IsSound, NoneReady, IsFirstLeft, IsRound, IsForwardFrom}
-use Rattle.totem_cert.proofs.LineFacts.{stands_at, stands_in, event_at, entry_event, at_most, unnumbered_past, past_unnumbered, read_both}
+use Rattle.totem_cert.proofs.LineFacts.{line_of_at, line_in, event_at, entry_event, at_most, unnumbered_past, past_unnumbered, read_both}
 use Rattle.totem_cert.proofs.Lists.{at_index}
 use Rattle.totem_cert.proofs.Closing.{drop_here}
 use Rattle.totem_cert.proofs.Stepping.{left_unnumbered, unnumbered_left}
@@ -22,7 +22,7 @@ pub first_left_least : (run : List Log) (lines : List Numbering) (k : ℕ) (log 
     → slice_get run k ≡ Some log → slice_get lines k ≡ Some line → IsLeastLeft run (place log.proc (length line.numbers))
 first_left_least run lines k log line rising sound none first log_at line_at = record {
   left = unnumbered_left run lines sound none (place log.proc (length line.numbers)) (x.0, entry_event run k (length line.numbers) x.0 rising (record { log = log; is_log = log_at; is_entry = x.1 }))
-      (past_unnumbered lines log.proc (length line.numbers) (rw (stands_at run lines k log line rising sound.fits log_at line_at).line_is (omega arith)));
+      (past_unnumbered lines log.proc (length line.numbers) (rw (line_of_at run lines k log line rising sound.fits log_at line_at) (omega arith)));
   least = λ f left. least f left;
 }
   where
@@ -36,14 +36,14 @@ first_left_least run lines k log line rising sound none first log_at line_at = r
     least f left =
         let a : IsEntryAt run k (length line.numbers) x.0 = record { log = log; is_log = log_at; is_entry = x.1 } in
         let (l, j, b, is) = event_at run f left.event.0 left.event.1 in
-        let s = stands_in run lines l b.log rising sound.fits b.is_log in
+        let s = line_in run lines l b.log rising sound.fits b.is_log in
         let past : length (numbers_of lines b.log.proc) ≤ j = unnumbered_past lines b.log.proc j (rw is at (left_unnumbered run lines sound none f left)) in
-        let given : length (numbers_of lines b.log.proc) ≡ length s.0.numbers = ap length s.1.line_is in
+        let given : length (numbers_of lines b.log.proc) ≡ length s.0.numbers = ap length s.2 in
         rw is (at_most run k (length line.numbers) l j x.0 left.event.0 rising a b (elim (less_or_not k l) [
           | inl over ↦ inl over
           | inr rest ↦ elim rest [
-            | inl under ↦ absurd (let full = first.before.full l b.log s.0 under b.is_log s.1.line_at in let lt = slice_get_within b.log.entries j left.event.0 b.is_entry in omega arith)
-            | inr same ↦ inr (same, (let one : s.0 ≡ line = (let h : slice_get lines k ≡ Some s.0 = rw same s.1.line_at in cc) in let numbers = ap (λ (n : Numbering). length n.numbers) one in omega arith))
+            | inl under ↦ absurd (let full = first.before.full l b.log s.0 under b.is_log s.1 in let lt = slice_get_within b.log.entries j left.event.0 b.is_entry in omega arith)
+            | inr same ↦ inr (same, (let one : s.0 ≡ line = (let h : slice_get lines k ≡ Some s.0 = rw same s.1 in cc) in let numbers = ap (λ (n : Numbering). length n.numbers) one in omega arith))
           ]
         ]))
 

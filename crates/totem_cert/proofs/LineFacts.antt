@@ -1,5 +1,5 @@
 -- Lines and logs, by index, by process and by place.
-use Rattle.std.proofs.Common.{below_more, ◌≡◌, ℕ, zero, suc, ◌<◌, ◌≤◌, ◌⊎◌, inl, inr, Option, List, [], ◌∷◌, ◌+◌, length, get_or, slice_get, Some, None, Bool, true, false, refl, sym, ◌∙◌, ap, arith, rules}
+use Rattle.std.proofs.Common.{below_more, ◌≡◌, ℕ, zero, suc, ◌<◌, ◌≤◌, ◌⊎◌, inl, inr, Option, List, [], ◌∷◌, ◌+◌, length, get_or, slice_get, Some, None, true, false, refl, sym, ◌∙◌, ap, arith, rules}
 use Rattle.std.specs.Prelude.{◌==◌}
 use Rattle.std.proofs.lemmas.Option.{slice_get_within, slice_get-get_or, slice_get_past, slice_get_cases, slice_get_read}
 use Rattle.totem_ids.specs.declared.place.Place.{Place}
@@ -17,14 +17,6 @@ use Rattle.totem_cert.specs.Counts.{count_of, given_at, shared_by}
 use Rattle.totem_cert.specs.Progress.{Fits, IsClassOf, IsLogOf, IsNumbered}
 use Rattle.totem_cert.proofs.Lists.{at_index}
 
--- the log and the line of process p, which are at index k
-pub record Stands (run : List Log) (lines : List Numbering) (p k : ℕ) (log : Log) (line : Numbering) : Type 0 where
-  pub log_at : slice_get run k ≡ Some log
-  pub line_at : slice_get lines k ≡ Some line
-  pub proc : log.proc ≡ p
-  pub log_is : log_of run p ≡ log.entries
-  pub line_is : numbers_of lines p ≡ line.numbers
-
 pub fits_tail : (log : Log) (logs : List Log) (line : Numbering) (lines : List Numbering) → Fits (log ∷ logs) (line ∷ lines) → Fits logs lines
 fits_tail log logs line lines fits = record {
   count = (let h = fits.count in omega arith);
@@ -32,37 +24,21 @@ fits_tail log logs line lines fits = record {
   short = λ k l n at_l at_n. fits.short (suc k) l n at_l at_n;
 }
 
--- a process has both a log and a line, or neither
-where_is : (run : List Log) (lines : List Numbering) (p : ℕ) → Fits run lines
-    → ((log_of run p ≡ []) × (numbers_of lines p ≡ [])) ⊎ ((k : ℕ) × (log : Log) × (line : Numbering) × Stands run lines p k log line)
-where_is [] [] p fits = inl (refl, refl)
-where_is [] (line ∷ lines) p fits = absurd (let h = fits.count in omega arith)
-where_is (log ∷ logs) [] p fits = absurd (let h = fits.count in omega arith)
-where_is (log ∷ logs) (line ∷ lines) p fits = go (log.proc == p) refl (fits.proc 0 log line refl refl) (where_is logs lines p (fits_tail log logs line lines fits))
-  where
-    go : (b : Bool) → (log.proc == p) ≡ b → line.proc ≡ log.proc → ((log_of logs p ≡ []) × (numbers_of lines p ≡ [])) ⊎ ((k : ℕ) × (l : Log) × (n : Numbering) × Stands logs lines p k l n)
-        → ((log_of (log ∷ logs) p ≡ []) × (numbers_of (line ∷ lines) p ≡ [])) ⊎ ((k : ℕ) × (l : Log) × (n : Numbering) × Stands (log ∷ logs) (line ∷ lines) p k l n)
-    go true e same rest = inr (0, log, line, record { log_at = refl; line_at = refl; proc = search rules; log_is = rw e refl; line_is = rw (same, e) refl })
-    go false e same (inl (none, nothing)) = inl (rw e none, rw (same, e) nothing)
-    go false e same (inr (k, l, n, at)) = inr (suc k, l, n, record { log_at = at.log_at; line_at = at.line_at; proc = at.proc; log_is = rw e at.log_is; line_is = rw (same, e) at.line_is })
-
--- if the processes are ascending, each log and line is found by its process
-pub stands_at : (run : List Log) (lines : List Numbering) (k : ℕ) (log : Log) (line : Numbering) → Rising run → Fits run lines → slice_get run k ≡ Some log → slice_get lines k ≡ Some line
-    → Stands run lines log.proc k log line
-stands_at [] lines k log line rising fits at_l at_n = absurd cc
-stands_at (x ∷ xs) [] k log line rising fits at_l at_n = absurd cc
-stands_at (x ∷ xs) (y ∷ ys) zero log line rising fits at_l at_n =
+-- if the processes are ascending, each line is found by the process of its log
+pub line_of_at : (run : List Log) (lines : List Numbering) (k : ℕ) (log : Log) (line : Numbering) → Rising run → Fits run lines → slice_get run k ≡ Some log → slice_get lines k ≡ Some line → numbers_of lines log.proc ≡ line.numbers
+line_of_at [] lines k log line rising fits at_l at_n = absurd cc
+line_of_at (x ∷ xs) [] k log line rising fits at_l at_n = absurd cc
+line_of_at (x ∷ xs) (y ∷ ys) zero log line rising fits at_l at_n =
     let same : x ≡ log = cc in
     let also : y ≡ line = cc in
     let proc : y.proc ≡ x.proc = fits.proc 0 x y refl refl in
     let test : (x.proc == log.proc) ≡ true = rw same (search rules) in
-    record { log_at = at_l; line_at = at_n; proc = refl; log_is = rw test (ap (λ (l : Log). l.entries) same); line_is = rw (proc, test) (ap (λ (n : Numbering). n.numbers) also) }
-stands_at (x ∷ xs) (y ∷ ys) (suc k) log line rising fits at_l at_n =
-    let rest = stands_at xs ys k log line (Rising-tail x xs rising) (fits_tail x xs y ys fits) at_l at_n in
+    rw (proc, test) (ap (λ (n : Numbering). n.numbers) also)
+line_of_at (x ∷ xs) (y ∷ ys) (suc k) log line rising fits at_l at_n =
     let lt : x.proc < log.proc = in_order (x ∷ xs) 0 (suc k) x log rising refl at_l (omega arith) in
     let proc : y.proc ≡ x.proc = fits.proc 0 x y refl refl in
     let test : (x.proc == log.proc) ≡ false = search rules in
-    record { log_at = at_l; line_at = at_n; proc = refl; log_is = rw test rest.log_is; line_is = rw (proc, test) rest.line_is }
+    rw (proc, test) (line_of_at xs ys k log line (Rising-tail x xs rising) (fits_tail x xs y ys fits) at_l at_n)
 
 -- a place is given by its parts
 pub same_parts : (g : Place) (p a : ℕ) → g.proc ≡ p → g.at ≡ a → g ≡ record { proc = p; at = a }
@@ -101,14 +77,14 @@ read_both run items lines k log line fits same lt log_is line_is = (
 )
 
 -- each log has its line
-pub stands_in : (run : List Log) (lines : List Numbering) (k : ℕ) (log : Log) → Rising run → Fits run lines → slice_get run k ≡ Some log → (line : Numbering) × Stands run lines log.proc k log line
-stands_in run lines k log rising fits log_at =
+pub line_in : (run : List Log) (lines : List Numbering) (k : ℕ) (log : Log) → Rising run → Fits run lines → slice_get run k ≡ Some log → (line : Numbering) × (slice_get lines k ≡ Some line) × (numbers_of lines log.proc ≡ line.numbers)
+line_in run lines k log rising fits log_at =
     let line = at_index lines k (let lt = slice_get_within run k log log_at in let c = fits.count in omega arith) in
-    (line.0, stands_at run lines k log line.0 rising fits log_at line.1)
+    (line.0, line.1, line_of_at run lines k log line.0 rising fits log_at line.1)
 
 -- the numbers of a log, by its index in the run
 pub given_of : (run : List Log) (lines : List Numbering) (k : ℕ) (log : Log) → Rising run → Fits run lines → slice_get run k ≡ Some log → given_at lines k ≡ length (numbers_of lines log.proc)
-given_of run lines k log rising fits log_at = let s = stands_in run lines k log rising fits log_at in ap count_of s.1.line_at ∙ ap length (sym s.1.line_is)
+given_of run lines k log rising fits log_at = let line = line_in run lines k log rising fits log_at in ap count_of line.1 ∙ ap length (sym line.2)
 
 -- a process has one log
 pub log_index : (run : List Log) (k l : ℕ) (a b : Log) → Rising run → slice_get run k ≡ Some a → slice_get run l ≡ Some b → a.proc ≡ b.proc → k ≡ l
@@ -149,7 +125,12 @@ pub no_entry : (run : List Log) (p i : ℕ) → IsLogOf run p None → None ≡ 
 no_entry run p i none = elim (log_of_cases run p) [ inl is ↦ rw is refl | inr (k, log, at, same, _) ↦ absurd (none k log at same) ]
 
 pub no_numbers : (run : List Log) (lines : List Numbering) (p : ℕ) → Fits run lines → IsLogOf run p None → 0 ≡ length (numbers_of lines p)
-no_numbers run lines p fits none = elim (where_is run lines p fits) [ inl (_, nothing) ↦ sym (ap length nothing) | inr (k, log, line, s) ↦ absurd (none k log s.log_at s.proc) ]
+no_numbers run [] p fits none = refl
+no_numbers [] (line ∷ lines) p fits none = absurd (let h = fits.count in omega arith)
+no_numbers (log ∷ logs) (line ∷ lines) p fits none =
+    let other : line.proc ≡ p → ⊥ = λ same. none 0 log refl (sym (fits.proc 0 log line refl refl) ∙ same) in
+    let test : (line.proc == p) ≡ false = grind arith in
+    rw test (no_numbers logs lines p (fits_tail log logs line lines fits) (λ k l at. none (suc k) l at))
 
 -- what the code reads at the index of a log
 pub read_at : (run items : List Log) (k : ℕ) (found log : Log) → items ≡ run → slice_get run k ≡ Some found → log ≡ get_or items k log → slice_get run k ≡ Some log

@@ -1,7 +1,7 @@
 -- A run has at most one certificate.
 use Rattle.std.proofs.Common.{below_more, ◌≡◌, ℕ, zero, suc, ◌<◌, inl, inr, List, [], ◌∷◌, Some, Bool, true, false, refl, sym, ◌∙◌, ap, arith}
 use Rattle.std.specs.Prelude.{All, ◌==◌}
-use Rattle.std.proofs.lemmas.Option.{slice_get_within, slice_get_cases, get_or_from_slice_get}
+use Rattle.std.proofs.lemmas.Option.{slice_get_within, get_or_from_slice_get}
 use Rattle.std.proofs.lemmas.List.Elements.{All-nil, All-head, All-tail}
 use Rattle.totem_ids.specs.declared.place.Place.{Place}
 use Rattle.totem_evs.specs.declared.log.Log.{Log}
@@ -14,6 +14,7 @@ use Rattle.totem_evs.specs.Classes.{InClass, WaitsFor, ClassAtMost}
 use Rattle.totem_evs.specs.Positions.{IsPositions, IsNumberedBelow}
 use Rattle.totem_cert.specs.Laws.{PositionsAreOne}
 use Rattle.totem_cert.proofs.Classmates.{class_sym, class_trans}
+use Rattle.totem_cert.proofs.Lists.{at_index}
 use Rattle.totem_cert.proofs.LogHeads.{option_cases}
 use Rattle.totem_cert.proofs.Walking.{antisym}
 
@@ -31,10 +32,7 @@ numbered run lines e k matches at = go e.at at
   where
     go : (a : ℕ) → number_in (numbers_of lines e.proc) a ≡ Some k → (x : _) × (at_place (log_of run e.proc) a ≡ Some x)
     go zero h = absurd cc
-    go (suc i) h = elim (slice_get_cases (log_of run e.proc) i).1 [
-      | inl (x, lt, is, _) ↦ (x, is)
-      | inr (le, _) ↦ absurd (let w = slice_get_within (numbers_of lines e.proc) i k h in let s = same_length run lines e.proc matches in omega arith)
-    ]
+    go (suc i) h = at_index (log_of run e.proc) i (let w = slice_get_within (numbers_of lines e.proc) i k h in let s = same_length run lines e.proc matches in omega arith)
 
 positive : (lines : List Numbering) (e : Place) (k : ℕ) → All (λ line. All (λ n. 0 < n) line.numbers) lines → number_at lines e ≡ Some k → 0 < k
 positive lines e k all at = go e.at at
