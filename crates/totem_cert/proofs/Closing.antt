@@ -46,13 +46,10 @@ some_right : (Leads : Place → Place → Type 0) (x : Place) (xs ys : List Plac
 some_right Leads x [] ys y z h = inr h
 some_right Leads x (w ∷ xs) ys y z h = inr (some_right Leads w xs ys y z h)
 
-closed_same : (run : List Log) (Leads : Place → Place → Type 0) (xs ys : List Place) → xs ≡ ys → IsClosed run Leads xs → IsClosed run Leads ys
-closed_same run Leads xs ys same h = rw same at h
-
 -- a closed list can start at any of its events
 turn : (run : List Log) (Leads : Place → Place → Type 0) (front back : List Place) → IsClosed run Leads (front ++ back) → IsClosed run Leads (back ++ front)
 turn run Leads [] back h = rw append-nil h
-turn run Leads (a ∷ as') [] h = closed_same run Leads ((a ∷ as') ++ []) (a ∷ as') (append-nil (a ∷ as')) h
+turn run Leads (a ∷ as') [] h = rw (append-nil as') at h
 turn run Leads (a ∷ as') (b ∷ bs) (chain, strict) =
     let parts = chain_split Leads a as' bs b a chain in (
       path_append Leads (b ∷ bs) as' a b parts.1 parts.0,

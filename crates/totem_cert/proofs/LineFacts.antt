@@ -1,5 +1,5 @@
 -- Lines and logs, by index, by process and by place.
-use Rattle.std.proofs.Common.{below_more, ◌≡◌, ℕ, zero, suc, ◌<◌, ◌≤◌, ◌⊎◌, inl, inr, Option, List, [], ◌∷◌, ◌+◌, length, get_or, slice_get, Some, None, true, false, refl, sym, ◌∙◌, ap, arith, rules}
+use Rattle.std.proofs.Common.{◌≡◌, ℕ, zero, suc, ◌<◌, ◌≤◌, ◌⊎◌, inl, inr, Option, List, [], ◌∷◌, length, get_or, slice_get, Some, None, true, false, refl, sym, ◌∙◌, ap, arith, rules}
 use Rattle.std.specs.Prelude.{◌==◌}
 use Rattle.std.proofs.lemmas.Option.{slice_get_within, slice_get-get_or, slice_get_past, slice_get_cases, slice_get_read}
 use Rattle.totem_ids.specs.declared.place.Place.{Place}
@@ -111,15 +111,6 @@ at_most run k i l j x y rising a b (inl lt) = inl (in_order run k l a.log b.log 
 at_most run k i l j x y rising a b (inr (same, le)) =
     let one : a.log ≡ b.log = (let h : slice_get run l ≡ Some a.log = rw same at a.is_log in let g = b.is_log in cc) in
     inr (ap (λ (log : Log). log.proc) one, omega arith)
-
--- no log before the k-th is p's
-pub record NoLogBefore (run : List Log) (p k : ℕ) : Type 0 where
-  pub none : (j : ℕ) → j < k → (log : Log) → slice_get run j ≡ Some log → log.proc ≡ p → ⊥
-
-pub no_log_more : (run : List Log) (p k : ℕ) (log : Log) → slice_get run k ≡ Some log → (log.proc ≡ p → ⊥) → NoLogBefore run p k → NoLogBefore run p (k + 1)
-no_log_more run p k log at other before = record {
-  none = below_more (λ j. (l : Log) → slice_get run j ≡ Some l → l.proc ≡ p → ⊥) k before.none (λ l at_l same. (let one : l ≡ log = cc in other (rw one at same)));
-}
 
 pub no_entry : (run : List Log) (p i : ℕ) → IsLogOf run p None → None ≡ slice_get (log_of run p) i
 no_entry run p i none = elim (log_of_cases run p) [ inl is ↦ rw is refl | inr (k, log, at, same, _) ↦ absurd (none k log at same) ]

@@ -1,5 +1,5 @@
 -- The first log with a ready head has the next class.
-use Rattle.std.proofs.Common.{◌≡◌, ℕ, ◌+◌, ◌<◌, ◌≤◌, ◌⊎◌, below_more, inl, inr, List, length, slice_get, Some, sym, arith}
+use Rattle.std.proofs.Common.{◌≡◌, ℕ, ◌<◌, ◌≤◌, ◌⊎◌, inl, inr, List, length, slice_get, Some, sym, arith}
 use Rattle.std.proofs.lemmas.Option.{slice_get_within}
 use Rattle.totem_ids.specs.declared.place.Place.{Place}
 use Rattle.totem_evs.specs.declared.entry.Entry.{Entry}
@@ -8,12 +8,17 @@ use Rattle.totem_evs.specs.Classes.{IsAtMost}
 use Rattle.totem_evs.specs.Certificates.{Numbering}
 use Rattle.totem_evs.proofs.LogOf.{Rising, less_or_not, log_of_at}
 use Rattle.totem_table.specs.Tables.{IsEntryAt}
+use Rattle.totem_table.proofs.Checking.{HoldsTo}
 use Rattle.totem_cert.specs.Search.{place}
 use Rattle.totem_cert.specs.Counts.{given_at}
-use Rattle.totem_cert.specs.Progress.{IsReady, IsSound, Fits, IsNextHead, NoneReady, NoneReadyBefore}
+use Rattle.totem_cert.specs.Progress.{IsReady, IsSound, Fits, IsNextHead, NoneReady}
 use Rattle.totem_cert.proofs.Classmates.{class_self}
 use Rattle.totem_cert.proofs.LineFacts.{given_of, event_at, at_most, unnumbered_past}
 use Rattle.totem_cert.proofs.LogHeads.{ready_free, ready_same}
+
+-- no head of a log before the k-th is ready
+abbrev pub NoneReadyBefore : List Log → List Numbering → ℕ → Type 0
+NoneReadyBefore run lines k = HoldsTo (λ (j : ℕ) (log : Log). IsReady run lines (place log.proc (given_at lines j)) → ⊥) run k
 
 -- a ready event is the head of a log
 pub ready_at : (run : List Log) (lines : List Numbering) (e : Place) → Rising run → Fits run lines → IsReady run lines e → (k : ℕ) × (x : Entry) × (a : IsEntryAt run k (given_at lines k) x) × (e ≡ place a.log.proc (given_at lines k))
@@ -44,7 +49,7 @@ first_is_next run lines k log rising sound log_at ready none = record {
     first g ready_g =
         let (m, y, b, is) = ready_at run lines g rising sound.fits ready_g in
         let least : IsAtMost (place log.proc (given_at lines k)) (place b.log.proc (given_at lines m)) = at_most run k (given_at lines k) m (given_at lines m) ready.event.0 y rising
-        (record { log = log; is_log = log_at; is_entry = rw (log_of_at run k log rising log_at) at ready.event.1 }) b (order m (λ lt. none.none m lt b.log b.is_log (rw is at ready_g))) in
+        (record { log = log; is_log = log_at; is_entry = rw (log_of_at run k log rising log_at) at ready.event.1 }) b (order m (λ lt. none.each m b.log lt b.is_log (rw is at ready_g))) in
         rw is least
       where
         order : (m : ℕ) → (m < k → ⊥) → (k < m) ⊎ ((k ≡ m) × (given_at lines k ≤ given_at lines m))
@@ -53,12 +58,7 @@ first_is_next run lines k log rising sound log_at ready none = record {
           | inr rest ↦ elim rest [ inl over ↦ inl over | inr same ↦ inr (sym same, rw same (omega arith)) ]
         ]
 
-pub none_ready_more : (run : List Log) (lines : List Numbering) (k : ℕ) (log : Log) → slice_get run k ≡ Some log → (IsReady run lines (place log.proc (given_at lines k)) → ⊥) → NoneReadyBefore run lines k → NoneReadyBefore run lines (k + 1)
-none_ready_more run lines k log log_at never before = record {
-  none = below_more (λ j. (l : Log) → slice_get run j ≡ Some l → IsReady run lines (place l.proc (given_at lines j)) → ⊥) k before.none (λ l at_l ready. never (let one : l ≡ log = cc in rw one at ready));
-}
-
 pub none_ready_end : (run : List Log) (lines : List Numbering) (k : ℕ) → Rising run → Fits run lines → length run ≤ k → NoneReadyBefore run lines k → NoneReady run lines
 none_ready_end run lines k rising fits end before = record {
-  none = λ e ready. (let (m, y, b, is) = ready_at run lines e rising fits ready in before.none m (let lt = slice_get_within run m b.log b.is_log in omega arith) b.log b.is_log (rw is at ready));
+  none = λ e ready. (let (m, y, b, is) = ready_at run lines e rising fits ready in before.each m b.log (let lt = slice_get_within run m b.log b.is_log in omega arith) b.is_log (rw is at ready));
 }

@@ -1,5 +1,5 @@
 -- Different deliveries of one message among the neighbours of a closed list.
-use Rattle.std.proofs.Common.{◌≡◌, below_more, ℕ, zero, suc, ◌+◌, ◌<◌, ◌≤◌, ◌⊎◌, inl, inr, List, [], ◌∷◌, length, get_or, slice_get, Option, Some, None, Bool, true, false, IsTrue, ◌↔◌, refl, ◌∙◌, ap, arith}
+use Rattle.std.proofs.Common.{◌≡◌, ℕ, zero, suc, ◌+◌, ◌<◌, ◌≤◌, ◌⊎◌, inl, inr, List, [], ◌∷◌, length, get_or, slice_get, Option, Some, None, Bool, true, false, IsTrue, ◌↔◌, refl, ◌∙◌, ap, arith}
 use Rattle.std.specs.Prelude.{IfSome, IfNone}
 use Rattle.std.proofs.lemmas.Option.{slice_get_within, slice_get_read}
 use Rattle.totem_ids.specs.declared.message.MsgId.{MsgId}
@@ -10,11 +10,16 @@ use Rattle.totem_evs.specs.declared.log.Log.{Log}
 use Rattle.totem_evs.specs.Events.{log_of}
 use Rattle.totem_evs.specs.Steps.{DeliversAt}
 use Rattle.totem_evs.specs.Places.{Somewhere}
+use Rattle.totem_table.proofs.Checking.{HoldsTo, holds_more}
 use Rattle.totem_cert.specs.Search.{place}
 use Rattle.totem_evs.specs.ClosedLists.{AreTwinDeliveries, HasTwinDeliveries}
-use Rattle.totem_cert.specs.Progress.{NeverDelivers, StandsNext, NoTwinsBefore, BothAre, message_of}
+use Rattle.totem_cert.specs.Progress.{NeverDelivers, StandsNext, BothAre, message_of}
 use Rattle.totem_cert.proofs.LineFacts.{same_parts}
 use Rattle.totem_cert.proofs.Classmates.{one_message}
+
+-- no event of a closed list before the i-th delivers the message that the next one delivers too
+abbrev pub NoTwinsBefore : List Log → List Place → ℕ → Type 0
+NoTwinsBefore run places i = HoldsTo (λ (j : ℕ) (e : Place). (f : Place) → StandsNext places j f → AreTwinDeliveries run e f → ⊥) places i
 
 somewhere_at : (Step : Place → Place → Type 0) (e : Place) (es : List Place) (z : Place) (i : ℕ) (a b : Place) → slice_get (e ∷ es) i ≡ Some a → (slice_get es i ≡ Some b) ⊎ ((length es ≡ i) × (z ≡ b)) → Step a b → Somewhere Step e es z
 somewhere_at Step e [] z zero a b at (inl h) step = absurd cc
@@ -42,22 +47,17 @@ twins_none run (x ∷ xs) i le none h =
     let r = somewhere_where (AreTwinDeliveries run) x xs x h in
     let s : r.0 + 1 ≡ suc r.0 = omega arith in
     let lt = slice_get_within (x ∷ xs) r.0 r.1 r.3 in
-    none.none r.0 (omega arith) r.1 r.2 r.3 (elim r.4 [ inl at ↦ inl (rw s at) | inr (l, same) ↦ inr (omega arith, ap Some same) ]) r.5
+    none.each r.0 r.1 (omega arith) r.3 r.2 (elim r.4 [ inl at ↦ inl (rw s at) | inr (l, same) ↦ inr (omega arith, ap Some same) ]) r.5
+
+one_next : (xs : List Place) (i : ℕ) (b f : Place) → StandsNext xs i b → StandsNext xs i f → b ≡ f
+one_next xs i b f (inl p) (inl q) = cc
+one_next xs i b f (inl p) (inr (l, q)) = absurd (let lt = slice_get_within xs (i + 1) b p in omega arith)
+one_next xs i b f (inr (l, p)) (inl q) = absurd (let lt = slice_get_within xs (i + 1) f q in omega arith)
+one_next xs i b f (inr (l, p)) (inr (m, q)) = cc
 
 pub twins_more : (run : List Log) (places : List Place) (i : ℕ) (e f : Place) → i < length places → e ≡ get_or places i e → StandsNext places i f → (IsTrue false ↔ AreTwinDeliveries run e f) → NoTwinsBefore run places i → NoTwinsBefore run places (i + 1)
-twins_more run places i e f within read next not_twins before = record {
-  none = below_more (λ j. (a b : Place) → slice_get places j ≡ Some a → StandsNext places j b → AreTwinDeliveries run a b → ⊥) i before.none (λ a b at_a next_b twins. (
-      let at = slice_get_read places _ i e refl within read in
-      let one : a ≡ e = cc in
-      let two : b ≡ f = one_next places i b f next_b next in
-      let h = not_twins.1 (rw (one, two) at twins) in cc));
-}
-  where
-    one_next : (xs : List Place) (i : ℕ) (b f : Place) → StandsNext xs i b → StandsNext xs i f → b ≡ f
-    one_next xs i b f (inl p) (inl q) = cc
-    one_next xs i b f (inl p) (inr (l, q)) = absurd (let lt = slice_get_within xs (i + 1) b p in omega arith)
-    one_next xs i b f (inr (l, p)) (inl q) = absurd (let lt = slice_get_within xs (i + 1) f q in omega arith)
-    one_next xs i b f (inr (l, p)) (inr (m, q)) = cc
+twins_more run places i e f within read next not_twins before =
+    holds_more _ places i e (slice_get_read places _ i e refl within read) (λ b next_b twins. (let same : b ≡ f = one_next places i b f next_b next in let h = not_twins.1 (rw same at twins) in cc)) before
 
 pub twins_here : (run : List Log) (places : List Place) (i : ℕ) (e f : Place) → i < length places → e ≡ get_or places i e → StandsNext places i f → (IsTrue true ↔ AreTwinDeliveries run e f) → IsTrue true ↔ HasTwinDeliveries run places
 twins_here run places i e f within read next twins = (λ _. twins_found run places i e f (slice_get_read places _ i e refl within read) next (twins.0 refl), λ _. refl)

@@ -14,7 +14,7 @@ use Rattle.totem_table.specs.Tables.{IsEntryAt}
 use Rattle.totem_cert.specs.Counts.{class_at, given_at}
 use Rattle.totem_evs.specs.Classes.{IsAtMost, InClass, WaitsFor, ClassAtMost, AreSendAndDelivery}
 use Rattle.totem_evs.specs.Positions.{IsReadyAt}
-use Rattle.totem_evs.specs.ClosedLists.{Placed, Step, IsStepOf, IsWalk, ComesBack, forward, AreTwinDeliveries}
+use Rattle.totem_evs.specs.ClosedLists.{Placed, Step, IsStepOf, IsWalk, ComesBack, forward}
 
 -- e has a number
 pub record IsNumbered (lines : List Numbering) (e : Place) : Type 0 where
@@ -93,10 +93,6 @@ pub record IsNextIn (run : List Log) (table : Table) (lines : List Numbering) (c
 -- no class is ready
 pub record NoneReady (run : List Log) (lines : List Numbering) : Type 0 where
   pub none : (e : Place) → IsReady run lines e → ⊥
-
--- no head of a log before the k-th is ready
-pub record NoneReadyBefore (run : List Log) (lines : List Numbering) (k : ℕ) : Type 0 where
-  pub none : (j : ℕ) → j < k → (log : Log) → slice_get run j ≡ Some log → IsReady run lines (place log.proc (given_at lines j)) → ⊥
 
 -- some classes are numbered, all of them correctly
 pub record IsSound (run : List Log) (lines : List Numbering) : Type 0 where
@@ -194,10 +190,6 @@ pub record NeverDelivers (run : List Log) (e : Place) : Type 0 where
 -- f follows the event at i of a closed list
 abbrev pub StandsNext : List Place → ℕ → Place → Type 0
 StandsNext places i f = (slice_get places (i + 1) ≡ Some f) ⊎ ((length places ≡ i + 1) × (slice_get places 0 ≡ Some f))
-
--- no event of a closed list before the i-th delivers the message that the next one delivers too
-pub record NoTwinsBefore (run : List Log) (places : List Place) (i : ℕ) : Type 0 where
-  pub none : (j : ℕ) → j < i → (e f : Place) → slice_get places j ≡ Some e → StandsNext places j f → AreTwinDeliveries run e f → ⊥
 
 abbrev pub BothAre : Option MsgId → Option MsgId → Type 0
 BothAre (Some m) (Some n) = m ≡ n

@@ -2,7 +2,8 @@ use Rattle.std.proofs.Common.{refl, ap, ◌∙◌}
 use Rattle.std.proofs.lemmas.Option.{slice_get_read}
 use Rattle.totem_evs.specs.RunRecord.{RunRecord}
 use Rattle.totem_cert.proofs.ClassHeads.{head_within, head_ready}
-use Rattle.totem_cert.proofs.Next.{first_is_next, none_ready_more, none_ready_end}
+use Rattle.totem_table.proofs.Checking.{holds_more}
+use Rattle.totem_cert.proofs.Next.{first_is_next, none_ready_end}
 use Rattle.totem_cert.proofs.counted.first_counted.Goals as goal
 
 pub is_unkept-requires : goal.is_unkept-requires
@@ -23,7 +24,7 @@ loop-k-preserved c =
     let runs = ap (λ (r : RunRecord). r.logs) c.run.view_is in
     let rising = (rw runs at c.as_slice-log-items.ensures.run.rising) in
     let at = rw (c.as_slice-log-items.ensures.value ∙ runs) at (slice_get_read c.as_slice-log-items.result.now _ c.loop-k.k c.log-item.result refl c.loop-k-test.true c.log-item.is) in
-    rw (c.as_slice-log-items.ensures.value ∙ runs) (none_ready_more _ _ _ _ at
+    rw (c.as_slice-log-items.ensures.value ∙ runs) (holds_more _ _ _ _ at
     (λ ready. (let h = (head_ready _ _ rising c.requires.table _ c.requires.sound.fits _ c.requires.counts _ _ _ _ c.head_of-head.ensures at c.if-is_unkept.ensures).1 ready in cc))
     (rw (c.as_slice-log-items.ensures.value ∙ runs) at c.loop-k.invariant))
 

@@ -1,4 +1,4 @@
-use Rattle.totem_cert.specs.Progress.{NoneReadyBefore}
+use Rattle.totem_cert.proofs.Next.{NoneReadyBefore}
 use Rattle.totem_cert.proofs.counted.first_counted.Given as goal
 
 abbrev pub invariant-loop-k : goal.invariant-loop-k

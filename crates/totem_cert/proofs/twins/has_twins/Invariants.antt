@@ -1,4 +1,4 @@
-use Rattle.totem_cert.specs.Progress.{NoTwinsBefore}
+use Rattle.totem_cert.proofs.TwinSteps.{NoTwinsBefore}
 use Rattle.totem_cert.proofs.twins.has_twins.Given as goal
 
 abbrev pub invariant-loop-i : goal.invariant-loop-i
