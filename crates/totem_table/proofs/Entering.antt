@@ -1,26 +1,25 @@
 -- Entering a run in a register, log by log and entry by entry.
-use Rattle.std.proofs.Common.{below_more, ◌≡◌, ℕ, ◌+◌, ◌<◌, ◌≤◌, ◌⊎◌, inl, inr, List, [], length, slice_get, Some, arith}
+use Rattle.std.proofs.Common.{◌≡◌, ℕ, ◌+◌, ◌<◌, ◌≤◌, ◌⊎◌, inl, inr, List, [], length, slice_get, Some, arith}
 use Rattle.std.proofs.lemmas.Option.{slice_get_within}
 use Rattle.totem_evs.specs.declared.entry.Entry.{Entry}
 use Rattle.totem_evs.specs.declared.log.Log.{Log}
 use Rattle.totem_evs.specs.Events.{log_of}
 use Rattle.totem_table.specs.Registers.{Keeps, KnowsLog, KnowsRun}
+use Rattle.totem_table.proofs.Checking.{HoldsTo, holds_more}
 use Rattle.totem_evs.proofs.LogOf.{log_of_cases}
 
 pub keeps_on : (P Q R : ℕ → List Entry → ℕ → Type 0) → Keeps P Q → Keeps Q R → Keeps P R
 keeps_on P Q R first second = record { each = λ p log i h. second.each p log i (first.each p log i h) }
 
 -- the logs before the one at k are known
-pub record KnowsBefore (P : ℕ → List Entry → ℕ → Type 0) (run : List Log) (k : ℕ) : Type 0 where
-  pub each : (j : ℕ) (log : Log) → j < k → slice_get run j ≡ Some log → KnowsLog P log.proc log.entries (length log.entries)
+abbrev pub KnowsBefore : (ℕ → List Entry → ℕ → Type 0) → List Log → ℕ → Type 0
+KnowsBefore P run k = HoldsTo (λ (j : ℕ) (log : Log). KnowsLog P log.proc log.entries (length log.entries)) run k
 
 pub before_more : (P Q : ℕ → List Entry → ℕ → Type 0) (run : List Log) (k : ℕ) (log : Log) → slice_get run k ≡ Some log → Keeps P Q → KnowsLog Q log.proc log.entries (length log.entries)
     → KnowsBefore P run k → KnowsBefore Q run (k + 1)
-before_more P Q run k log at kept here before = record {
-  each = λ j l lt at_j. below_more (λ j. (l : Log) → slice_get run j ≡ Some l → KnowsLog Q l.proc l.entries (length l.entries)) k
-      (λ j under l at_j. (let old = before.each j l under at_j in record { each = λ i within. kept.each l.proc l.entries i (old.each i within) }))
-      (λ l at_l. (let same : log ≡ l = cc in rw same at here)) j lt l at_j;
-}
+before_more P Q run k log at kept here before = holds_more _ run k log at here (record {
+  each = λ j l lt at_j. (let old = before.each j l lt at_j in record { each = λ i within. kept.each l.proc l.entries i (old.each i within) });
+})
 
 pub before_end : (P : ℕ → List Entry → ℕ → Type 0) (run : List Log) (k : ℕ) → length run ≤ k → KnowsBefore P run k → KnowsRun P run
 before_end P run k end before = record { each = λ p i within. go p i (log_of_cases run p) within }

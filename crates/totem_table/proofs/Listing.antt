@@ -9,16 +9,15 @@ use Rattle.totem_table.specs.Changes.{ListsChanges, AreChanges}
 use Rattle.totem_evs.proofs.Originating.{change_or_not}
 use Rattle.totem_table.proofs.Changing.{listed_below, listed_before_end}
 use Rattle.totem_table.specs.Registers.{Keeps, KnowsLog}
+use Rattle.totem_table.proofs.Checking.{HoldsTo, holds_more}
 use Rattle.totem_table.specs.Search.{place, NoneFrom, IsLeastFrom, NoneInLog, IsLeastInLog}
 
 -- the first n of the listed changes are known
-pub record KnowsListed (P : ℕ → List Entry → ℕ → Type 0) (p : ℕ) (log : List Entry) (list : List ℕ) (n : ℕ) : Type 0 where
-  pub each : (k i : ℕ) → k < n → slice_get list k ≡ Some i → P p log i
+abbrev pub KnowsListed : (ℕ → List Entry → ℕ → Type 0) → ℕ → List Entry → List ℕ → ℕ → Type 0
+KnowsListed P p log list n = HoldsTo (λ (k i : ℕ). P p log i) list n
 
 pub known_more : (P Q : ℕ → List Entry → ℕ → Type 0) (p : ℕ) (log : List Entry) (list : List ℕ) (n b : ℕ) → Keeps P Q → slice_get list n ≡ Some b → Q p log b → KnowsListed P p log list n → KnowsListed Q p log list (n + 1)
-known_more P Q p log list n b kept at here before = record {
-  each = λ k i lt at_k. below_more (λ k. (i : ℕ) → slice_get list k ≡ Some i → Q p log i) n (λ k under i at_k. kept.each p log i (before.each k i under at_k)) (λ i at_i. (let e : b ≡ i = cc in rw e at here)) k lt i at_k;
-}
+known_more P Q p log list n b kept at here before = holds_more _ list n b at here (record { each = λ k i lt at_k. kept.each p log i (before.each k i lt at_k) })
 
 -- with the entries that are no change, all entries before the next listed one are known
 pub known_below : (P : ℕ → List Entry → ℕ → Type 0) (p : ℕ) (log : List Entry) (list : List ℕ) (n b : ℕ) → ((q : ℕ) (l : List Entry) (i : ℕ) → (IsChange l i → ⊥) → P q l i) → ListsChanges log (length log) list → slice_get list n ≡ Some b
