@@ -206,9 +206,6 @@ pushes_of old new k n read now within is new_is now_is = record { line = read; l
 pub takes_as : (old new : List ℕ) (m n : ℕ) (xs ys : List Entry) (row other : List ℕ) (h g : ℕ) → m ≡ n → xs ≡ ys → row ≡ other → h ≡ g → Takes old new (passed m xs row h) → Takes old new (passed n ys other g)
 takes_as old new m n xs ys row other h g a b c d takes = rw (a, b, c, d) at takes
 
-pub class_as : (o : Option ℕ) (m n : ℕ) (x : Entry) (row other : List ℕ) (h g : ℕ) → m ≡ n → row ≡ other → h ≡ g → o ≡ class_in m x (get_or row h 0) → o ≡ class_in n x (get_or other g 0)
-class_as o m n x row other h g a b c is = rw (a, b, c) at is
-
 pub next_as : (o : Option ℕ) (m n : ℕ) (xs ys : List Entry) (row other : List ℕ) (h : ℕ) → m ≡ n → xs ≡ ys → row ≡ other → o ≡ shared_by m (slice_get xs h) (get_or row h 0) → o ≡ shared_by n (slice_get ys h) (get_or other h 0)
 next_as o m n xs ys row other h a b c is = rw (a, b, c) at is
 
@@ -220,9 +217,6 @@ table_row run table k log entries row read is log_at entries_is read_is row_is =
     let at : slice_get table.rows.items k ≡ Some read = slice_get_read table.rows.items _ k read refl within read_is in
     let same : row ≡ get_or table.rows.items k [] = row_is ∙ sym (get_or_from_slice_get table.rows.items k read [] at) in
     (same, rw (entries_is, same) (is.rows.each k log log_at).long)
-
-pub line_read : (lines : List Numbering) (k : ℕ) (read was : Numbering) → slice_get lines k ≡ Some was → read ≡ get_or lines k read → read ≡ was
-line_read lines k read was at is = is ∙ get_or_from_slice_get lines k was read at
 
 pub logs_short : (run : List Log) → IsRun run → (k : ℕ) (log : Log) → slice_get run k ≡ Some log → length log.entries ≤ 1000000
 logs_short run is k log at =

@@ -1,5 +1,5 @@
 -- The first wanted entries, noted entry by entry.
-use Rattle.std.proofs.Common.{◌≡◌, ◌≢◌, ℕ, ◌+◌, ◌<◌, ◌≤◌, ◌⊎◌, inl, inr, List, length, set, get_or, slice_get, Option, Some, None, Bool, true, false, cond, refl, sym, ◌∙◌, ap, arith}
+use Rattle.std.proofs.Common.{◌≡◌, ℕ, ◌+◌, ◌<◌, ◌≤◌, ◌⊎◌, inl, inr, List, length, set, get_or, slice_get, Option, Some, None, Bool, true, false, cond, refl, sym, ◌∙◌, ap, arith}
 use Rattle.std.specs.Prelude.{if◌then◌else◌, nat_le, nat_lt}
 use Rattle.std.proofs.Math.Dec.{leb, ltb}
 use Rattle.std.proofs.lemmas.Bool.{leb-true, ltb-true}
@@ -101,17 +101,14 @@ module _ (run : List Log) (table : Table) (lines : List Numbering) (wanted : Wan
   }
     where
       earlier : (c l j : ℕ) → IsPast (k + 1) 0 l j → IsWanted run table lines wanted c l j → IsPast k i l j
-      earlier c l j past w = elim (cases_eq l k) [
+      earlier c l j (inr both) w = absurd (omega (arith, both.1))
+      earlier c l j (inl lt) w = elim (cases_eq l k) [
         | inl same ↦
             let one : w.at.log ≡ log = (let a : slice_get run k ≡ Some w.at.log = rw same at w.at.is_log in cc) in
-            let lt : j < length log.entries = rw one at (slice_get_within w.at.log.entries j w.entry w.at.is_entry) in
+            let within : j < length log.entries = rw one at (slice_get_within w.at.log.entries j w.entry w.at.is_entry) in
             inr (same, omega arith)
-        | inr other ↦ inl (not_same l other past)
+        | inr other ↦ inl (omega (arith, other))
       ]
-        where
-          not_same : (l : ℕ) → (l ≢ k) → IsPast (k + 1) 0 l j → l < k
-          not_same l other (inl lt) = grind arith
-          not_same l other (inr both) = absurd (omega (arith, both.1))
 
   pub unwanted : (firsts : List (Option Place)) (c l j : ℕ) → AreFirsts run table lines wanted firsts → slice_get firsts c ≡ Some None → IsWanted run table lines wanted c l j → ⊥
   unwanted firsts c l j are at w = are.none c l j at (inl (slice_get_within run l w.at.log w.at.is_log)) w

@@ -68,14 +68,6 @@ unnumbered_past lines p i none = elim (slice_get_cases (numbers_of lines p) i).1
 pub past_unnumbered : (lines : List Numbering) (p i : ℕ) → length (numbers_of lines p) ≤ i → number_at lines (place p i) ≡ None
 past_unnumbered lines p i le = slice_get_past (numbers_of lines p) i le
 
--- what a loop reads at index k
-pub read_both : (run items : List Log) (lines : List Numbering) (k : ℕ) (log : Log) (line : Numbering) → Fits run lines → items ≡ run → k < length items → log ≡ get_or items k log → line ≡ get_or lines k line
-    → (slice_get run k ≡ Some log) × (slice_get lines k ≡ Some line)
-read_both run items lines k log line fits same lt log_is line_is = (
-  rw same at (slice_get_read items _ k log refl lt log_is),
-  slice_get_read lines _ k line refl (let h : k < length run = rw same at lt in let c = fits.count in omega arith) line_is,
-)
-
 -- each log has its line
 pub line_in : (run : List Log) (lines : List Numbering) (k : ℕ) (log : Log) → Rising run → Fits run lines → slice_get run k ≡ Some log → (line : Numbering) × (slice_get lines k ≡ Some line) × (numbers_of lines log.proc ≡ line.numbers)
 line_in run lines k log rising fits log_at =

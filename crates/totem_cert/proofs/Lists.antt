@@ -1,5 +1,6 @@
 -- Lists by index.
-use Rattle.std.proofs.Common.{◌≡◌, ◌≢◌, ℕ, zero, suc, ◌<◌, ◌≤◌, ◌⊎◌, List, [], ◌∷◌, ◌++◌, length, set, slice_get, Some, refl, arith}
+use Rattle.std.proofs.Common.{◌≡◌, ◌≢◌, ℕ, zero, suc, ◌<◌, ◌≤◌, ◌⊎◌, List, [], ◌∷◌, ◌++◌, length, set, get_or, slice_get, Some, refl, ◌∙◌, arith}
+use Rattle.std.proofs.lemmas.Option.{get_or_from_slice_get}
 
 pub up_to_or_past : (a b : ℕ) → (a ≤ b) ⊎ (b < a)
 up_to_or_past a b = grind arith
@@ -37,3 +38,7 @@ push_other (x ∷ xs) y (suc i) other = push_other xs y i (λ h. other (omega (a
 pub last_at : {A : Type 0} (x : A) (xs : List A) → (v : A) × (slice_get (x ∷ xs) (length xs) ≡ Some v)
 last_at x [] = (x, refl)
 last_at x (y ∷ ys) = last_at y ys
+
+-- what the code reads at an index
+pub read_is : {A : Type 0} (xs : List A) (k : ℕ) (read was : A) → slice_get xs k ≡ Some was → read ≡ get_or xs k read → read ≡ was
+read_is xs k read was at is = is ∙ get_or_from_slice_get xs k was read at

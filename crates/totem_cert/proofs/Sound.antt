@@ -1,5 +1,6 @@
 -- What holds of the numbers given so far, and after one more class.
 use Rattle.std.proofs.Common.{◌≡◌, ℕ, ◌+◌, ◌<◌, ◌≤◌, ◌⊎◌, inl, inr, List, Some, sym, ◌∙◌, arith}
+use Rattle.std.proofs.Math.Nat.{eq-or-lt_of_le}
 use Rattle.totem_ids.specs.declared.place.Place.{Place}
 use Rattle.totem_evs.specs.declared.log.Log.{Log}
 use Rattle.totem_evs.specs.Events.{IsEvent}
@@ -84,13 +85,10 @@ module _ (run : List Log) (old new : List Numbering) (n : ℕ) (sound : Sound ru
   }
     where
       dense : (j : ℕ) → 0 < j → j ≤ n + 1 → (f : Place) × (number_at new f ≡ Some j)
-      dense j pos le = elim (split j le) [
-        | inl lt ↦ (let f = sound.dense j pos lt in (f.0, kept f.0 j f.1))
-        | inr is ↦ (given.event, rw is (given.fresh given.event (class_self run given.event given.next.ready.event)))
+      dense j pos le = elim (eq-or-lt_of_le le) [
+        | inl is ↦ (given.event, rw is (given.fresh given.event (class_self run given.event given.next.ready.event)))
+        | inr lt ↦ (let f = sound.dense j pos (omega arith) in (f.0, kept f.0 j f.1))
       ]
-        where
-          split : (j : ℕ) → j ≤ n + 1 → (j ≤ n) ⊎ (j ≡ n + 1)
-          split j le = grind arith
 
       apart : (x y : Place) (k : ℕ) → (InClass run given.event x × (k ≡ n + 1)) ⊎ (number_at old x ≡ Some k) → (InClass run given.event y × (k ≡ n + 1)) ⊎ (number_at old y ≡ Some k) → InClass run x y
       apart x y k (inl (a, is)) (inl (b, same)) = class_trans run x given.event y (class_sym run given.event x a) b

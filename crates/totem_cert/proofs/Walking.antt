@@ -6,7 +6,7 @@ use Rattle.totem_evs.proofs.Pushing.{before_push}
 use Rattle.totem_ids.specs.declared.place.Place.{Place}
 use Rattle.totem_evs.specs.declared.log.Log.{Log}
 use Rattle.totem_evs.specs.Classes.{IsAtMost, InClass}
-use Rattle.totem_evs.specs.ClosedLists.{Step, IsLeft, HoldsUp, IsStepOf, IsWalk}
+use Rattle.totem_evs.specs.ClosedLists.{Step, IsLeft, IsStepOf, IsWalk}
 use Rattle.totem_cert.specs.Progress.{IsVisitedAt, IsNotVisited, IsWalking, IsRound}
 use Rattle.totem_cert.proofs.Classmates.{class_sym, class_trans}
 use Rattle.totem_cert.proofs.LineFacts.{same_parts}
@@ -19,11 +19,7 @@ antisym e f (inr (p, a)) (inl b) = absurd (omega arith)
 antisym e f (inr (p, a)) (inr (q, b)) = same_parts e f.proc f.at p (omega arith)
 
 pub left_from : (run : List Log) (k : Place) (v : Step) → IsStepOf run k v → IsLeft run v.from
-left_from run k v step = go step.holds
-  where
-    go : HoldsUp run v.from v.to → IsLeft run v.from
-    go (inl prev) = prev.left
-    go (inr (_, least)) = least.send.left
+left_from run k v step = elim step.holds [ inl prev ↦ prev.left | inr (_, least) ↦ least.send.left ]
 
 -- two steps into one class lead to one event
 pub one_step : (run : List Log) (k l : Place) (v w : Step) → IsStepOf run k v → IsStepOf run l w → InClass run v.to w.to → v.to ≡ w.to

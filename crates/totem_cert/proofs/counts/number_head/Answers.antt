@@ -2,7 +2,8 @@ use Rattle.std.proofs.Common.{◌≡◌, length, refl, ap, ◌∙◌}
 use Rattle.std.proofs.lemmas.Option.{slice_get_within}
 use Rattle.totem_evs.specs.LogRecord.{LogRecord}
 use Rattle.totem_evs.specs.Certificates.{Numbering}
-use Rattle.totem_cert.proofs.CountSteps.{counts_step, pushes_of, takes_as, table_row, line_read}
+use Rattle.totem_cert.proofs.Lists.{read_is}
+use Rattle.totem_cert.proofs.CountSteps.{counts_step, pushes_of, takes_as, table_row}
 use Rattle.totem_cert.proofs.counts.number_head.Goals as goal
 
 pub advance-requires-clause-long : goal.advance-requires-clause-long
@@ -19,7 +20,7 @@ pub returns-clause-counts : goal.returns-clause-counts
 returns-clause-counts c =
     let entries = c.as_slice-entries.ensures.value ∙ ap (λ (l : LogRecord). l.entries) c.log.view_is in
     let row = table_row c.args.run.now.logs c.args.table.now c.args.k c.args.log.now c.as_slice-entries.result.now c.as_slice.result.now c.index-2.result.now c.requires.table c.requires.log entries c.index-2.ensures c.as_slice.ensures in
-    let line = line_read c.args.lines.now.items c.args.k c.index.result.now c.requires.head.line c.requires.head.line_at c.index.ensures in
+    let line = read_is c.args.lines.now.items c.args.k c.index.result.now c.requires.head.line c.requires.head.line_at c.index.ensures in
     let head : length c.numbers-head.result.now ≡ length c.requires.head.line.numbers = ap length (c.numbers-head.ensures ∙ ap (λ (l : Numbering). l.numbers) line) in
     let pushes = pushes_of _ _ c.args.k c.args.number c.index_mut.result.now c.push.new.self (slice_get_within c.args.lines.now.items c.args.k c.requires.head.line c.requires.head.line_at)
     c.index_mut.ensures.value refl c.in_ok-push.ensures.ok in
