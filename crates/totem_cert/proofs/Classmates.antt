@@ -1,22 +1,15 @@
 -- Classes are disjoint.
 use Rattle.std.proofs.Common.{◌≡◌, inl, inr, List, refl, sym}
-use Rattle.totem_ids.specs.declared.conf.ConfId.{ConfId}
 use Rattle.totem_ids.specs.declared.message.MsgId.{MsgId}
 use Rattle.totem_ids.specs.declared.place.Place.{Place}
 use Rattle.totem_evs.specs.declared.entry.Entry.TheVariants.{Conf, Deliver}
 use Rattle.totem_evs.specs.declared.log.Log.{Log}
 use Rattle.totem_evs.specs.Events.{IsEvent}
-use Rattle.totem_evs.specs.Steps.{ChangesAt, DeliversAt, SameClass}
+use Rattle.totem_evs.specs.Steps.{DeliversAt, SameClass}
 use Rattle.totem_evs.specs.Classes.{InClass, WaitsFor, ClassAtMost}
-
-one_conf : (run : List Log) (e : Place) (x y : ConfId) → ChangesAt run e x → ChangesAt run e y → x ≡ y
-one_conf run e x y (ms, h) (ns, k) = cc
 
 pub one_message : (run : List Log) (e : Place) (m n : MsgId) → DeliversAt run e m → DeliversAt run e n → m ≡ n
 one_message run e m n (x, h) (y, k) = cc
-
-not_both : (run : List Log) (e : Place) (x : ConfId) (m : MsgId) → ChangesAt run e x → DeliversAt run e m → ⊥
-not_both run e x m (ms, h) (y, k) = cc
 
 pub class_sym : (run : List Log) (e f : Place) → InClass run e f → InClass run f e
 class_sym run e f (inl (event, same)) = inl ((rw same at event), sym same)
@@ -24,9 +17,9 @@ class_sym run e f (inr (inl (x, a, b))) = inr (inl (x, b, a))
 class_sym run e f (inr (inr (m, a, b))) = inr (inr (m, b, a))
 
 same_trans : (run : List Log) (e f g : Place) → SameClass run e f → SameClass run f g → SameClass run e g
-same_trans run e f g (inl (x, a, b)) (inl (y, c, d)) = let same : x ≡ y = one_conf run f x y b c in inl (x, a, rw same d)
-same_trans run e f g (inl (x, a, b)) (inr (m, c, d)) = absurd (not_both run f x m b c)
-same_trans run e f g (inr (m, a, b)) (inl (x, c, d)) = absurd (not_both run f x m c b)
+same_trans run e f g (inl (x, a, (ms, b))) (inl (y, (ns, c), d)) = let same : x ≡ y = cc in inl (x, a, rw same d)
+same_trans run e f g (inl (x, a, (ms, b))) (inr (m, (y, c), d)) = absurd cc
+same_trans run e f g (inr (m, a, (y, b))) (inl (x, (ms, c), d)) = absurd cc
 same_trans run e f g (inr (m, a, b)) (inr (n, c, d)) = let same : m ≡ n = one_message run f m n b c in inr (m, a, rw same d)
 
 pub class_trans : (run : List Log) (e f g : Place) → InClass run e f → InClass run f g → InClass run e g

@@ -203,12 +203,6 @@ counts_more run table old new k messages log entries row to log_at messages_is e
 pub pushes_of : (old new : List Numbering) (k n : ℕ) (read now : Numbering) → k < length old → read ≡ get_or old k read → new ≡ set old k now → now ≡ record read { numbers = read.numbers ++ n ∷ [] } → Pushes old new k n
 pushes_of old new k n read now within is new_is now_is = record { line = read; line_at = slice_get_read old _ k read refl within is; is = rw (← now_is) new_is }
 
-pub takes_as : (old new : List ℕ) (m n : ℕ) (xs ys : List Entry) (row other : List ℕ) (h g : ℕ) → m ≡ n → xs ≡ ys → row ≡ other → h ≡ g → Takes old new (passed m xs row h) → Takes old new (passed n ys other g)
-takes_as old new m n xs ys row other h g a b c d takes = rw (a, b, c, d) at takes
-
-pub next_as : (o : Option ℕ) (m n : ℕ) (xs ys : List Entry) (row other : List ℕ) (h : ℕ) → m ≡ n → xs ≡ ys → row ≡ other → o ≡ shared_by m (slice_get xs h) (get_or row h 0) → o ≡ shared_by n (slice_get ys h) (get_or other h 0)
-next_as o m n xs ys row other h a b c is = rw (a, b, c) at is
-
 -- the row of a log, as the code reads it
 pub table_row : (run : List Log) (table : Table) (k : ℕ) (log : Log) (entries : List Entry) (row read : List ℕ) → IsTable run table → slice_get run k ≡ Some log → entries ≡ log.entries → read ≡ get_or table.rows.items k read → row ≡ read
     → (row ≡ get_or table.rows.items k []) × (length entries ≡ length row)

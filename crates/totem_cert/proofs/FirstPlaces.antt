@@ -112,6 +112,3 @@ module _ (run : List Log) (table : Table) (lines : List Numbering) (wanted : Wan
 
   pub unwanted : (firsts : List (Option Place)) (c l j : ℕ) → AreFirsts run table lines wanted firsts → slice_get firsts c ≡ Some None → IsWanted run table lines wanted c l j → ⊥
   unwanted firsts c l j are at w = are.none c l j at (inl (slice_get_within run l w.at.log w.at.is_log)) w
-
-pub wanted_as : (o : Option ℕ) (wanted : Wanted) (m n g h i : ℕ) (x : Entry) (row read : List ℕ) → m ≡ n → g ≡ h → row ≡ read → o ≡ class_wanted wanted m g i x (get_or row i 0) → o ≡ class_wanted wanted n h i x (get_or read i 0)
-wanted_as o wanted m n g h i x row read a b c is = rw (a, b, c) at is

@@ -16,15 +16,12 @@ use Rattle.totem_cert.specs.Progress.{Fits, IsSound, IsFull, IsNumbered}
 use Rattle.totem_cert.proofs.LineFacts.{line_of_at, line_in, event_at, within_numbered, fits_tail}
 use Rattle.totem_cert.proofs.Lists.{at_index}
 
-full_tail : (log : Log) (logs : List Log) (line : Numbering) (lines : List Numbering) → IsFull (log ∷ logs) (line ∷ lines) → IsFull logs lines
-full_tail log logs line lines full = record { full = λ j l n at_l at_n. full.full (suc j) l n at_l at_n }
-
 matches : (run : List Log) (lines : List Numbering) → Fits run lines → IsFull run lines → Matches run lines
 matches [] [] fits full = refl
 matches [] (line ∷ lines) fits full = absurd (let h = fits.count in omega arith)
 matches (log ∷ logs) [] fits full = absurd (let h = fits.count in omega arith)
 matches (log ∷ logs) (line ∷ lines) fits full =
-    let rest = matches logs lines (fits_tail log logs line lines fits) (full_tail log logs line lines full) in
+    let rest = matches logs lines (fits_tail log logs line lines fits) (record { full = λ j l n at_l at_n. full.full (suc j) l n at_l at_n }) in
     let proc : line.proc ≡ log.proc = fits.proc 0 log line refl refl in
     let le = fits.short 0 log line refl refl in
     let ge = full.full 0 log line refl refl in

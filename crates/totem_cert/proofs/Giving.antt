@@ -71,20 +71,20 @@ module _ (run : List Log) (rising : Rising run) (old new : List Numbering) (fits
   longer : length (pushes.line.numbers ++ n ∷ []) ≡ length pushes.line.numbers + 1
   longer = simp length-append (omega arith)
 
+  at_line : (j : ℕ) (l : Log) (m : Numbering) → j ≡ k → slice_get run j ≡ Some l → slice_get new j ≡ Some m → (l ≡ log) × (m ≡ longer_by n pushes.line)
+  at_line j l m same at_l at_m = ((let h : slice_get run k ≡ Some l = rw same at at_l in cc), (let h : slice_get new k ≡ Some m = rw same at at_m in let g = now_at in cc))
+
   pub push_fits : Fits run new
   push_fits = record {
     count = rw pushes.is (length-set old k (longer_by n pushes.line)) ∙ fits.count;
     proc = λ j l m at_l at_m. elim (cases_eq j k) [
-      | inl same ↦ (let one : l ≡ log = (let h : slice_get run k ≡ Some l = rw same at at_l in cc) in
-          let two : m ≡ longer_by n pushes.line = (let h : slice_get new k ≡ Some m = rw same at at_m in let g = now_at in cc) in
-          rw (one, two) (fits.proc k log pushes.line log_at pushes.line_at))
+      | inl same ↦ (let is = at_line j l m same at_l at_m in rw (is.0, is.1) (fits.proc k log pushes.line log_at pushes.line_at))
       | inr other ↦ fits.proc j l m at_l (sym (stays j other) ∙ at_m)
     ];
     short = λ j l m at_l at_m. elim (cases_eq j k) [
-      | inl same ↦ (let one : l ≡ log = (let h : slice_get run k ≡ Some l = rw same at at_l in cc) in
-          let two : m ≡ longer_by n pushes.line = (let h : slice_get new k ≡ Some m = rw same at at_m in let g = now_at in cc) in
+      | inl same ↦ (let is = at_line j l m same at_l at_m in
           let short : length (pushes.line.numbers ++ n ∷ []) ≤ length log.entries = omega (arith, longer, given_is, lt) in
-          rw (one, two) short)
+          rw (is.0, is.1) short)
       | inr other ↦ fits.short j l m at_l (sym (stays j other) ∙ at_m)
     ];
   }

@@ -22,9 +22,6 @@ module _ (run : List Log) (old new : List Numbering) (n : ℕ) (sound : Sound ru
   was : (x : Place) (k : ℕ) → number_at new x ≡ Some k → (InClass run given.event x × (k ≡ n + 1)) ⊎ (number_at old x ≡ Some k)
   was x k at = elim (given.each x) [ inl (in_class, is) ↦ inl (in_class, (let same : Some k ≡ Some (n + 1) = sym at ∙ is in cc)) | inr is ↦ inr (sym is ∙ at) ]
 
-  below_kept : (x : Place) (k : ℕ) → IsNumberedBelow old x k → IsNumberedBelow new x k
-  below_kept x k h = record { number = h.number; given = kept x h.number h.given; below = h.below }
-
   -- a number below an old one was given before too
   below_was : (x : Place) (k : ℕ) → k ≤ n + 1 → IsNumberedBelow new x k → IsNumberedBelow old x k
   below_was x k le h = elim (was x h.number h.given) [
@@ -33,7 +30,7 @@ module _ (run : List Log) (old new : List Numbering) (n : ℕ) (sound : Sound ru
   ]
 
   waits_kept : (x : Place) (k : ℕ) → IsReadyAt run old x k → IsReadyAt run new x k
-  waits_kept x k h = record { each = λ g waits. below_kept g k (h.each g waits) }
+  waits_kept x k h = record { each = λ g waits. (let b = h.each g waits in record { number = b.number; given = kept g b.number b.given; below = b.below }) }
 
   waits_was : (x : Place) (k : ℕ) → k ≤ n + 1 → IsReadyAt run new x k → IsReadyAt run old x k
   waits_was x k le h = record { each = λ g waits. below_was g k le (h.each g waits) }
@@ -59,9 +56,6 @@ module _ (run : List Log) (old new : List Numbering) (n : ℕ) (sound : Sound ru
     waits = λ g h. (let b = below_was g (n + 1) (omega arith) (waits.each g h) in record { number = b.number; given = b.given });
   }
 
-  not_below_was : (f : Place) (k : ℕ) → NotBelow new f k → NotBelow old f k
-  not_below_was f k h = record { none = λ l at. h.none l (kept f l at) }
-
   pub numbered_more : Sound run new (n + 1)
   numbered_more = record {
     only = λ x k at. elim (was x k at) [ inl (in_class, _) ↦ event_of run given.event x in_class | inr is ↦ sound.only x k is ];
@@ -79,7 +73,7 @@ module _ (run : List Log) (old new : List Numbering) (n : ℕ) (sound : Sound ru
     apart = λ x y k at_x at_y. apart x y k (was x k at_x) (was y k at_y);
     least = λ x f k at event waits none. elim (was x k at) [
       | inl (in_class, is) ↦ at_most_same run x given.event f (class_sym run given.event x in_class) (given.next.least f (was_ready f event (rw is at waits) (rw is at none)))
-      | inr is ↦ (let le = sound.few x k is in sound.least x f k is event (waits_was f k (omega arith) waits) (not_below_was f k none))
+      | inr is ↦ (let le = sound.few x k is in sound.least x f k is event (waits_was f k (omega arith) waits) (record { none = λ l at_l. none.none l (kept f l at_l) }))
     ];
     placed = λ x k at. elim (was x k at) [ inl (in_class, _) ↦ new_placed x in_class | inr is ↦ sound.placed x k is ];
   }

@@ -30,6 +30,7 @@ use Rattle.totem_cert.proofs.Classes.{alone_itself, in_class, class_from, class_
 use Rattle.totem_cert.proofs.Countable.{alone_ready}
 use Rattle.totem_cert.proofs.FirstPlaces.{le_parts, lt_parts, unwanted}
 use Rattle.totem_cert.proofs.LineFacts.{same_parts, unnumbered_past, past_unnumbered, given_of, log_index, event_at, entry_event, at_most}
+use Rattle.totem_cert.proofs.Walking.{led_to}
 use Rattle.totem_cert.proofs.LogHeads.{feeds_send, send_feeds, class_delivers, free_ready, option_cases}
 
 strict_event : (run : List Log) (e f : Place) → Strict run e f → IsEvent run e
@@ -173,15 +174,12 @@ module _ (run : List Log) (table : Table) (lines : List Numbering) (rising : Ris
         where
           step : (l j : ℕ) (y : Entry) (b : IsEntryAt run l j y) → class_at table l j y ≡ Some c → given_at lines l ≤ j → to ≡ place b.log.proc j → (send ≡ None → given_at lines l < j)
               → ((m n : ℕ) (e : Place) → IsMateAt e m n → (send ≡ None → given_at lines m < n) → (l < m) ⊎ ((l ≡ m) × (j ≤ n))) → IsStepOf run (place a.log.proc i) v
-          step l j y b class past at follows least = rw same_step (record {
+          step l j y b class past at follows least = rw (led_to v (place b.log.proc j) (to_is ∙ at)) (record {
             shares = in_class run table rising is_table k i x a c in_c l j y b class;
             holds = holds (rw at at by);
             least = λ f e shares h. (let (m, n, mate, others) = held_at f e shares h in rw mate.is (at_most run l j m n y mate.entry rising b mate.at (least m n e mate others)));
           })
             where
-              same_step : v ≡ record { from = v.from; to = place b.log.proc j }
-              same_step = ap (λ (t : Place). let u : Step = record { from = v.from; to = t } in u) (to_is ∙ at)
-
               holds : IsHeldBy lines send (place b.log.proc j) v.from → HoldsUp run v.from (place b.log.proc j)
               holds (inl (lt, proc, before)) =
                   let given = given_of run lines l b.log rising sound.fits b.is_log in
@@ -223,7 +221,7 @@ module _ (run : List Log) (table : Table) (lines : List Numbering) (rising : Ris
   -- an event that is alone in its class is held up by the entry before it
   pub alone_step : (k i : ℕ) (x : Entry) (a : IsEntryAt run k i x) → IsLeft run (place a.log.proc i) → class_at table k i x ≡ None → (v : Step) → v.to ≡ place a.log.proc i → IsHeldBy lines None (place a.log.proc i) v.from
       → IsStepOf run (place a.log.proc i) v
-  alone_step k i x a left alone v to_is by = rw same_step (record {
+  alone_step k i x a left alone v to_is by = rw (led_to v (place a.log.proc i) to_is) (record {
     shares = inl (left.event, refl);
     holds = inl (holds by);
     least = λ f e shares h. (let same = alone_itself run table rising is_table k i x a e alone shares in inr (ap (λ (e : Place). e.proc) same, (let h' : suc i ≡ e.at = ap (λ (e : Place). e.at) same in omega arith)));
@@ -231,9 +229,6 @@ module _ (run : List Log) (table : Table) (lines : List Numbering) (rising : Ris
     where
       given : given_at lines k ≡ length (numbers_of lines a.log.proc)
       given = given_of run lines k a.log rising sound.fits a.is_log
-
-      same_step : v ≡ record { from = v.from; to = place a.log.proc i }
-      same_step = ap (λ (t : Place). let u : Step = record { from = v.from; to = t } in u) to_is
 
       not_head : given_at lines k ≡ i → ⊥
       not_head head = none.none (place a.log.proc i) (alone_ready run table rising is_table lines sound.fits k i x a head alone)

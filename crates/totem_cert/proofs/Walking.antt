@@ -1,5 +1,5 @@
 -- Walks from class to class.
-use Rattle.std.proofs.Common.{◌≡◌, ℕ, zero, suc, ◌+◌, ◌-◌, ◌<◌, ◌⊎◌, inl, inr, List, [], ◌∷◌, ◌++◌, length, slice_get, Some, refl, sym, arith}
+use Rattle.std.proofs.Common.{◌≡◌, ℕ, zero, suc, ◌+◌, ◌-◌, ◌<◌, ◌⊎◌, inl, inr, List, [], ◌∷◌, ◌++◌, length, slice_get, Some, refl, sym, ap, arith}
 use Rattle.std.proofs.lemmas.List.{length_push}
 use Rattle.std.proofs.lemmas.Option.{slice_get_within}
 use Rattle.totem_evs.proofs.Pushing.{before_push}
@@ -17,6 +17,10 @@ antisym e f (inl a) (inl b) = absurd (omega arith)
 antisym e f (inl a) (inr (p, b)) = absurd (omega arith)
 antisym e f (inr (p, a)) (inl b) = absurd (omega arith)
 antisym e f (inr (p, a)) (inr (q, b)) = same_parts e f.proc f.at p (omega arith)
+
+-- a step by its ends
+pub led_to : (v : Step) (e : Place) → v.to ≡ e → v ≡ record { from = v.from; to = e }
+led_to v e same = ap (λ (t : Place). let u : Step = record { from = v.from; to = t } in u) same
 
 pub left_from : (run : List Log) (k : Place) (v : Step) → IsStepOf run k v → IsLeft run v.from
 left_from run k v step = elim step.holds [ inl prev ↦ prev.left | inr (_, least) ↦ least.send.left ]

@@ -3,7 +3,7 @@ use Rattle.std.proofs.lemmas.Option.{slice_get_within}
 use Rattle.totem_evs.specs.LogRecord.{LogRecord}
 use Rattle.totem_evs.specs.Certificates.{Numbering}
 use Rattle.totem_cert.proofs.Lists.{read_is}
-use Rattle.totem_cert.proofs.CountSteps.{counts_step, pushes_of, takes_as, table_row}
+use Rattle.totem_cert.proofs.CountSteps.{counts_step, pushes_of, table_row}
 use Rattle.totem_cert.proofs.counts.number_head.Goals as goal
 
 pub advance-requires-clause-long : goal.advance-requires-clause-long
@@ -25,4 +25,4 @@ returns-clause-counts c =
     let pushes = pushes_of _ _ c.args.k c.args.number c.index_mut.result.now c.push.new.self (slice_get_within c.args.lines.now.items c.args.k c.requires.head.line c.requires.head.line_at)
     c.index_mut.ensures.value refl c.in_ok-push.ensures.ok in
     counts_step c.args.run.now.logs c.args.table.now _ _ c.args.k c.args.number c.args.log.now c.requires.head.line _ _ c.requires.table c.requires.counts pushes c.requires.log c.requires.head.line_at c.requires.head.more
-    (takes_as _ _ _ _ _ _ _ _ _ _ (c.len.ensures ∙ c.args.table.now.messages.ok.0) entries row.0 head c.advance.ensures)
+    (rw (c.len.ensures ∙ c.args.table.now.messages.ok.0, entries, row.0, head) at c.advance.ensures)

@@ -3,7 +3,7 @@ use Rattle.std.proofs.lemmas.Option.{slice_get_read}
 use Rattle.totem_evs.specs.LogRecord.{LogRecord}
 use Rattle.totem_table.specs.Tables.{IsEntryAt}
 use Rattle.totem_cert.proofs.CountSteps.{table_row}
-use Rattle.totem_cert.proofs.FirstPlaces.{first_more, firsts_log, wanted_as}
+use Rattle.totem_cert.proofs.FirstPlaces.{first_more, firsts_log}
 use Rattle.totem_cert.proofs.LineFacts.{same_parts}
 use Rattle.totem_cert.proofs.firsts.note_log.Goals as goal
 
@@ -20,7 +20,7 @@ loop-at-preserved c =
     let entry = rw entries at (slice_get_read c.as_slice-entry-items.result.now _ c.loop-at.at c.entry-item.result refl c.loop-at-test.true c.entry-item.is) in
     let here : IsEntryAt c.args.run.now.logs c.args.k c.loop-at.at c.entry-item.result = record { log = c.args.log.now; is_log = c.requires.log; is_entry = entry } in
     first_more _ _ _ _ _ _ _ _ _ _ _ here
-    (wanted_as _ _ _ _ _ _ _ _ _ _ (c.len-messages.ensures ∙ c.args.table.now.messages.ok.0) c.given_at-given.ensures row.0 c.class_wanted-class.ensures)
+    (rw (c.len-messages.ensures ∙ c.args.table.now.messages.ok.0, c.given_at-given.ensures, row.0) at c.class_wanted-class.ensures)
     c.note.ensures (same_parts _ _ _ (ap (λ (l : LogRecord). l.proc) c.log.view_is) (omega arith)) c.loop-at.invariant
 
 pub returns : goal.returns

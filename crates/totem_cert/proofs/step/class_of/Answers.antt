@@ -4,7 +4,7 @@ use Rattle.totem_ids.specs.declared.place.Place.{Place}
 use Rattle.totem_evs.specs.LogRecord.{LogRecord}
 use Rattle.totem_evs.specs.RunRecord.{RunRecord}
 use Rattle.totem_cert.proofs.LineFacts.{read_log, class_read}
-use Rattle.totem_cert.proofs.CountSteps.{table_row, next_as}
+use Rattle.totem_cert.proofs.CountSteps.{table_row}
 use Rattle.totem_cert.proofs.step.class_of.Goals as goal
 
 pub index-requires : goal.index-requires
@@ -29,4 +29,4 @@ returns-clause-class c =
     let row = table_row c.args.run.now.logs c.args.table.now _ _ c.as_slice-entries.result.now c.as_slice-row.result.now c.index.result.now c.requires log.0 entries c.index.ensures c.as_slice-row.ensures in
     let at : c.args.e.now.at ≡ suc (c.e.inside.at - 1) = (let h = c.e.invariant in let ats = ap (λ (e : Place). e.at) c.e.view_is in omega arith) in
     class_read _ _ _ _ _ _ _ c.in-Some.ensures.run.rising log.0 (log.1 ∙ ap (λ (e : Place). e.proc) c.e.view_is) at
-    (next_as _ _ _ _ _ _ _ _ (c.len.ensures ∙ c.args.table.now.messages.ok.0) entries row.0 c.class_next.ensures)
+    (rw (c.len.ensures ∙ c.args.table.now.messages.ok.0, entries, row.0) at c.class_next.ensures)
