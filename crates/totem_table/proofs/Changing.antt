@@ -3,12 +3,11 @@ use Rattle.std.proofs.Common.{below_more, ◌≡◌, ℕ, ◌+◌, ◌<◌, ◌�
 use Rattle.std.proofs.lemmas.Option.{slice_get_within}
 use Rattle.totem_evs.specs.declared.entry.Entry.{Entry}
 use Rattle.totem_evs.specs.declared.entry.Entry.TheVariants.{Conf}
-use Rattle.totem_evs.specs.declared.log.Log.{Log}
 use Rattle.totem_evs.specs.Events.{IsChange}
 use Rattle.totem_evs.proofs.LogOf.{less_or_not}
 use Rattle.totem_evs.specs.Following.{IsNextOrEnd}
 use Rattle.totem_table.specs.Changes.{IsListed, ListsChanges}
-use Rattle.totem_evs.proofs.Pushing.{before_push, stands_before, stands_last, Along}
+use Rattle.totem_evs.proofs.Pushing.{before_push, stands_before, stands_last}
 
 -- the entry at n is no change
 pub no_more : (log : List Entry) (n : ℕ) (e : Entry) (list : List ℕ) → slice_get log n ≡ Some e → ((x : _) (ms : _) → e ≡ Conf x ms → ⊥) → ListsChanges log n list → ListsChanges log (n + 1) list
@@ -82,7 +81,3 @@ none_follows log list j a lists at_a end = record {
       let w = slice_get_within list l.number k l.is in
       omega arith;
 }
-
--- the changes of the first n logs
-abbrev pub ChangesTo : List Log → List (List ℕ) → ℕ → Type 0
-ChangesTo run rows n = Along (λ (l : Log) (row : List ℕ). ListsChanges l.entries (length l.entries) row) run rows n

@@ -14,13 +14,9 @@ use Rattle.std.proofs.lemmas.List.Filters.{dedup_is}
 use Rattle.std.proofs.lemmas.List.Kept.{IsStrictlySortedBy-dedup, Contains-dedup}
 use Rattle.std.proofs.lemmas.List.Sorted.{Contains-permutation, searchable_from_sorted}
 use Rattle.totem_ids.proofs.Exact.{equal_at}
-use Rattle.totem_ids.specs.declared.message.MsgId.{MsgId}
-use Rattle.totem_ids.specs.declared.conf.ConfId.{ConfId}
-use Rattle.totem_evs.specs.declared.entry.Entry.{Entry}
-use Rattle.totem_evs.specs.declared.log.Log.{Log}
 use Rattle.totem_evs.proofs.LogOf.{less_or_not}
 use Rattle.totem_evs.proofs.Pushing.{Along}
-use Rattle.totem_table.specs.Tables.{Rises, NamedBy, RowNames}
+use Rattle.totem_table.specs.Tables.{Rises}
 use Rattle.totem_table.specs.Names.{ListsNames}
 
 -- what f gives for the element at an index is among what it gives for all
@@ -78,11 +74,3 @@ along_whole P xs ys n d end h = (
   omega (arith, h.long, end),
   λ i x at. h.each i x (get_or ys i d) at (slice_get-get_or ys i d (omega (arith, h.long, end, slice_get_within xs i x at))),
 )
-
--- the entries at the first n indexes have the numbers of what they name
-abbrev pub NumbersTo : List MsgId → List ConfId → List Entry → List ℕ → ℕ → Type 0
-NumbersTo messages confs entries row n = Along (λ (e : Entry) (i : ℕ). NamedBy messages confs e i) entries row n
-
--- the first n logs have rows with the numbers of what their entries name
-abbrev pub RowsTo : List MsgId → List ConfId → List Log → List (List ℕ) → ℕ → Type 0
-RowsTo messages confs logs rows n = Along (λ (l : Log) (row : List ℕ). RowNames messages confs l.entries row) logs rows n

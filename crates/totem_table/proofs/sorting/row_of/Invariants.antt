@@ -1,5 +1,6 @@
-use Rattle.totem_table.proofs.NameLists.{NumbersTo}
+use Rattle.totem_evs.proofs.Pushing.{Along}
+use Rattle.totem_table.specs.Tables.{NamedBy}
 use Rattle.totem_table.proofs.sorting.row_of.Given as goal
 
 abbrev pub invariant-loop-entry : goal.invariant-loop-entry
-invariant-loop-entry l = NumbersTo l.messages l.confs l.entries l.numbers.items l.entry-index
+invariant-loop-entry l = Along (λ entry number. NamedBy l.messages l.confs entry number) l.entries l.numbers.items l.entry-index

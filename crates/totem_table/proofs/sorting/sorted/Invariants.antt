@@ -1,5 +1,6 @@
-use Rattle.totem_table.proofs.NameLists.{RowsTo}
+use Rattle.totem_evs.proofs.Pushing.{Along}
+use Rattle.totem_table.specs.Tables.{RowNames}
 use Rattle.totem_table.proofs.sorting.sorted.Given as goal
 
 abbrev pub invariant-loop-log : goal.invariant-loop-log
-invariant-loop-log l = RowsTo l.messages.items l.confs.items l.logs l.rows.items l.log-index
+invariant-loop-log l = Along (λ log row. RowNames l.messages.items l.confs.items log.entries row) l.logs l.rows.items l.log-index

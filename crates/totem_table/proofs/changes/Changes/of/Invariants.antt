@@ -1,5 +1,7 @@
-use Rattle.totem_table.proofs.Changing.{ChangesTo}
+use Rattle.std.proofs.Common.{length}
+use Rattle.totem_evs.proofs.Pushing.{Along}
+use Rattle.totem_table.specs.Changes.{ListsChanges}
 use Rattle.totem_table.proofs.changes.Changes.of.Given as goal
 
 abbrev pub invariant-loop-log : goal.invariant-loop-log
-invariant-loop-log l = ChangesTo l.logs l.rows.items l.log-index
+invariant-loop-log l = Along (λ log row. ListsChanges log.entries (length log.entries) row) l.logs l.rows.items l.log-index
