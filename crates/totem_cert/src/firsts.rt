@@ -1,4 +1,4 @@
-//! Finds the first entries and sends of each class that have no number, in one pass over the run.
+//! Finds the first entries and sends of each class that have no number, in three passes over the run.
 ghost use Rattle.std.specs.Prelude.{◌≡◌, ◌+◌, ◌<◌, ◌^◌, IfOk, Some, slice_get};
 ghost use Rattle.totem_table.specs.Tables.{IsTable};
 ghost use Rattle.totem_cert.specs.Counts.{given_at};

@@ -1,11 +1,7 @@
-use Rattle.std.proofs.lemmas.Option.{slice_get_within}
 use Rattle.totem_evs.specs.ClosedLists.{IsClosedList}
 use Rattle.totem_cert.proofs.Least.{written_some, cycle}
 use Rattle.totem_cert.proofs.Closing.{closed_breaks}
 use Rattle.totem_cert.proofs.closed_list.closed_list.Goals as goal
-
-pub forward-requires : goal.forward-requires
-forward-requires c = rw c.deref.ensures.value (slice_get_within _ _ _ c.in_ok-round.ensures.back.at_again)
 
 pub turned-requires : goal.turned-requires
 turned-requires c = rw c.deref-2.ensures.value (written_some _ _ _ _ _ c.in_ok-round.ensures (rw c.deref.ensures.value at c.in_ok-written.ensures))

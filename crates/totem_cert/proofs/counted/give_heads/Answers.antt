@@ -1,20 +1,9 @@
 use Rattle.std.proofs.Common.{refl, ap, ◌∙◌}
 use Rattle.std.proofs.lemmas.Option.{slice_get_read}
 use Rattle.totem_evs.specs.RunRecord.{RunRecord}
-use Rattle.totem_cert.proofs.ClassHeads.{class_head}
-use Rattle.totem_cert.proofs.Giving.{given_yet, given_stay, given_push, given_all}
+use Rattle.totem_cert.proofs.Giving.{given_stay, given_push, given_all}
 use Rattle.totem_cert.proofs.counted.give_heads.Goals as goal
 use Rattle.totem_cert.proofs.counted.give_heads.Goals.{then-is_in_class+in_ok-number_head, else-is_in_class}
-
-pub loop-k-init : goal.loop-k-init
-loop-k-init c =
-    let rising = (rw (ap (λ (r : RunRecord). r.logs) c.run.view_is) at c.as_slice-log-items.ensures.run.rising) in
-    record { given = given_yet _ _ rising c.requires.table _ c.requires.sound _ _ c.requires.next; counts = c.requires.counts }
-
-pub number_head-requires-clause-head : goal.number_head-requires-clause-head
-number_head-requires-clause-head c =
-    let at = rw (c.as_slice-log-items.ensures.value ∙ ap (λ (r : RunRecord). r.logs) c.run.view_is) at (slice_get_read c.as_slice-log-items.result.now _ c.loop-k.k c.log-item.result refl c.loop-k-test.true c.log-item.is) in
-    class_head c.args.run.now.logs c.args.table.now c.loop-k.lines.items c.loop-k.k c.args.class c.log-item.result c.head_of-head.result c.loop-k.invariant.given.fits at (rw c.deref.ensures.value at c.head_of-head.ensures) (c.if-is_in_class.ensures.0 refl)
 
 pub loop-k-preserved : goal.loop-k-preserved
 loop-k-preserved c =

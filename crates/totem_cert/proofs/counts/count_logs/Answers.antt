@@ -1,4 +1,4 @@
-use Rattle.std.proofs.Common.{◌≡◌, ◌<◌, ◌≤◌, length, refl, ap, ◌∙◌, arith}
+use Rattle.std.proofs.Common.{◌<◌, length, refl, ap, ◌∙◌, arith}
 use Rattle.std.proofs.lemmas.Option.{slice_get_read}
 use Rattle.totem_evs.specs.LogRecord.{LogRecord}
 use Rattle.totem_evs.specs.RunRecord.{RunRecord}
@@ -31,10 +31,3 @@ loop-k-preserved c =
       counts = counts_more c.args.run.now.logs c.args.table.now c.loop-k.counts c.count_log.new.counts c.loop-k.k c.len-messages.result c.log-item.result c.as_slice.result.now c.as_slice-row.result.now
           c.loop-k.invariant.counts at (c.len-messages.ensures ∙ c.args.table.now.messages.ok.0) entries row.0 c.count_log.ensures;
     }
-
-pub returns : goal.returns
-returns c =
-    let runs = ap (λ (r : RunRecord). r.logs) c.run.view_is in
-    let ge : length c.args.run.now.logs ≤ c.loop-k.k = rw (c.as_slice-log-items.ensures.value ∙ runs) at c.loop-k-test.false in
-    let whole : c.loop-k.k ≡ length c.args.run.now.logs = (let le = c.loop-k.invariant.within in omega arith) in
-    rw whole at c.loop-k.invariant.counts

@@ -1,13 +1,8 @@
 use Rattle.std.proofs.Common.{sym, ◌∙◌, ap, arith}
 use Rattle.totem_evs.specs.LogRecord.{LogRecord}
-use Rattle.totem_cert.proofs.ClassHeads.{past_end, head_entry}
+use Rattle.totem_cert.proofs.ClassHeads.{head_entry}
 use Rattle.totem_cert.proofs.CountSteps.{table_row}
 use Rattle.totem_cert.proofs.heads.head_of.Goals as goal
-
-pub returns-then-entries-head : goal.returns-then-entries-head
-returns-then-entries-head c =
-    let entries = c.as_slice-entries.ensures.value ∙ ap (λ (l : LogRecord). l.entries) c.log.view_is in
-    past_end _ _ _ c.args.log.now c.given_at-head.result c.requires.log c.given_at-head.ensures (rw entries at c.if-entries-head.true)
 
 pub bounds-row-head : goal.bounds-row-head
 bounds-row-head c =

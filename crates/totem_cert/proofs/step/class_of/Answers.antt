@@ -1,18 +1,10 @@
-use Rattle.std.proofs.Common.{◌≡◌, suc, ◌-◌, vec_len, length, ◌<◌, ◌∙◌, ap, arith}
-use Rattle.std.proofs.lemmas.Option.{slice_get_within}
+use Rattle.std.proofs.Common.{◌≡◌, suc, ◌-◌, ◌∙◌, ap, arith}
 use Rattle.totem_ids.specs.declared.place.Place.{Place}
 use Rattle.totem_evs.specs.LogRecord.{LogRecord}
 use Rattle.totem_evs.specs.RunRecord.{RunRecord}
 use Rattle.totem_cert.proofs.LineFacts.{read_log, class_read}
 use Rattle.totem_cert.proofs.CountSteps.{table_row}
 use Rattle.totem_cert.proofs.step.class_of.Goals as goal
-
-pub index-requires : goal.index-requires
-index-requires c =
-    let lt : c.in-Some.k < length c.args.run.now.logs = slice_get_within _ _ _ c.in-Some.ensures.log.1 in
-    let rows : vec_len c.args.table.now.rows ≡ length c.args.table.now.rows.items = c.args.table.now.rows.ok.0 in
-    let long : length c.args.run.now.logs ≡ length c.args.table.now.rows.items = c.requires.rows.long in
-    omega arith
 
 pub class_next-requires-clause-long : goal.class_next-requires-clause-long
 class_next-requires-clause-long c =

@@ -1,8 +1,5 @@
-use Rattle.totem_cert.proofs.TwinSteps.{twins_same, twins_decided}
+use Rattle.totem_cert.proofs.TwinSteps.{twins_decided}
 use Rattle.totem_cert.proofs.twins.are_twins.Goals as goal
-
-pub returns-then-is_same : goal.returns-then-is_same
-returns-then-is_same c = twins_same _ _ _ c.if-is_same.ensures
 
 pub returns : goal.returns
 returns c = twins_decided _ _ _ _ _ _ c.delivered-m.ensures.found c.delivered-m.ensures.none c.delivered-n.ensures.found c.delivered-n.ensures.none c.if-is_same.ensures c.both_are.ensures

@@ -1,14 +1,8 @@
 use Rattle.std.proofs.Common.{ap, sym, ◌∙◌}
 use Rattle.totem_evs.specs.ClosedLists.{Step}
-use Rattle.totem_cert.proofs.Walking.{round, left_next, walking_more, walking_yet}
-use Rattle.totem_cert.proofs.Noting.{noted_yet, not_visited, noted_more}
+use Rattle.totem_cert.proofs.Walking.{round, left_next, walking_more}
+use Rattle.totem_cert.proofs.Noting.{not_visited, noted_more}
 use Rattle.totem_cert.proofs.walk.walk_round.Goals as goal
-
-pub steps-init : goal.steps-init
-steps-init c = record {
-  walking = walking_yet _ _ _ _ c.new-steps.ensures.items c.step_of-next.ensures;
-  noted = noted_yet _ _ c.new-seen.ensures.empty c.new-steps.ensures.items;
-}
 
 pub returns-in-Some : goal.returns-in-Some
 returns-in-Some c =
