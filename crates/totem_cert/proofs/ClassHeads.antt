@@ -1,5 +1,5 @@
 -- The first entries of logs without a number, by the numbers of their classes.
-use Rattle.std.proofs.Common.{◌≡◌, ℕ, suc, ◌<◌, ◌≤◌, List, length, get_or, slice_get, Some, None, Bool, IsTrue, ◌↔◌, refl, sym, ap, arith}
+use Rattle.std.proofs.Common.{◌≡◌, ℕ, suc, ◌<◌, List, length, get_or, slice_get, Some, None, Bool, IsTrue, ◌↔◌, refl, sym, ap, arith}
 use Rattle.std.proofs.lemmas.Option.{slice_get_within, slice_get_read}
 use Rattle.totem_ids.specs.declared.place.Place.{Place}
 use Rattle.totem_evs.specs.declared.entry.Entry.{Entry}
@@ -28,12 +28,6 @@ one_entry run k i x y a b =
 
 -- ---- heads
 
-pub past_end : (run : List Log) (lines : List Numbering) (k : ℕ) (log : Log) (head : ℕ) → slice_get run k ≡ Some log → head ≡ given_at lines k → length log.entries ≤ head → (i : ℕ) (x : Entry) → IsEntryAt run k i x → i < given_at lines k
-past_end run lines k log head log_at is le i x a =
-    let one : a.log ≡ log = (let h = a.is_log in cc) in
-    let lt : i < length log.entries = rw one at (slice_get_within a.log.entries i x a.is_entry) in
-    omega arith
-
 -- the head, as the code reads it
 pub head_entry : (run : List Log) (lines : List Numbering) (k : ℕ) (log : Log) (entries : List Entry) (head : ℕ) (x : Entry) → slice_get run k ≡ Some log → head ≡ given_at lines k → entries ≡ log.entries → head < length entries → x ≡ get_or entries head x
     → IsEntryAt run k (given_at lines k) x
@@ -51,9 +45,6 @@ has_head run lines k log x fits log_at a =
     let lt : given_at lines k < length log.entries = rw one at (slice_get_within a.log.entries (given_at lines k) x a.is_entry) in
     let given : given_at lines k ≡ length line.0.numbers = ap count_of line.1 in
     record { line = line.0; line_at = line.1; more = omega arith }
-
-pub class_head : (run : List Log) (table : Table) (lines : List Numbering) (k c : ℕ) (log : Log) (h : Head) → Fits run lines → slice_get run k ≡ Some log → IsHead run table lines k h → h ≡ Class c → HasHead log lines k
-class_head run table lines k c log h fits log_at is same = let head : IsHead run table lines k (Class c) = rw same at is in has_head run lines k log head.0 fits log_at head.1
 
 pub next_in : (run : List Log) (table : Table) (lines : List Numbering) (k c : ℕ) → IsHead run table lines k (Class c) → IsNextHead run lines k → IsNextIn run table lines c
 next_in run table lines k c (x, a, in_c) head =

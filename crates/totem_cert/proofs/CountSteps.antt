@@ -11,7 +11,7 @@ use Rattle.totem_table.specs.Tables.{IsTable}
 use Rattle.totem_table.specs.declared.table.Table.{Table}
 use Rattle.totem_evs.proofs.LogOf.{less_or_not}
 use Rattle.totem_cert.specs.Progress.{empty_line}
-use Rattle.totem_cert.specs.Counts.{count_of, given_at, sum_to, class_in, class_fed, one, kept_behind, kept_in, kept_at, kept_by, Counts, CountsTo, fed_by, shared_by, passed, Adds, Takes, AtMost, Pushes}
+use Rattle.totem_cert.specs.Counts.{count_of, given_at, sum_to, class_in, class_fed, one, kept_behind, kept_in, kept_at, kept_by, Counts, CountsTo, shared_by, passed, Adds, Takes, AtMost, Pushes}
 use Rattle.totem_cert.proofs.CountingOne.{one_cases}
 use Rattle.totem_cert.proofs.Lists.{set_here, set_other}
 use Rattle.totem_cert.proofs.Sums.{sum_change, sum_millions}
@@ -28,21 +28,6 @@ kept_step messages zero (x ∷ []) (n ∷ ns) c lt long = omega arith
 kept_step messages zero (x ∷ y ∷ ys) (n ∷ []) c lt long = absurd (omega arith)
 kept_step messages zero (x ∷ y ∷ ys) (n ∷ m ∷ ms) c lt long = omega arith
 kept_step messages (suc head) (x ∷ xs) (n ∷ ns) c lt long = kept_step messages head xs ns c (omega arith) (omega arith)
-
--- the counts after the two classes that the entry at `head` kept
-pub takes_passed : (old mid new : List ℕ) (messages : ℕ) (entries : List Entry) (row : List ℕ) (head : ℕ) (x : Entry) (fed next : Option ℕ) → slice_get entries head ≡ Some x → fed ≡ class_fed x (get_or row head 0)
-    → next ≡ shared_by messages (slice_get entries (head + 1)) (get_or row (head + 1) 0) → Takes old mid (one fed) → Takes mid new (one next) → Takes old new (passed messages entries row head)
-takes_passed old mid new messages entries row head x fed next at fed_is next_is first second = record {
-  long = second.long ∙ first.long;
-  each = λ c within.
-      let s : head + 1 ≡ suc head = omega arith in
-      let f : one (fed_by (slice_get entries head) (get_or row head 0)) c ≡ one fed c = ap (λ (o : Option ℕ). one o c) (rw at (sym fed_is)) in
-      let g : one (shared_by messages (slice_get entries (suc head)) (get_or row (suc head) 0)) c ≡ one next c = ap (λ (o : Option ℕ). one o c) (sym (rw s at next_is)) in
-      less _ _ _ _ _ _ _ (second.each c within) (first.each c (rw second.long at within)) f g;
-}
-  where
-    less : (p q r f g h k : ℕ) → p ≡ q - k → q ≡ r - h → f ≡ h → g ≡ k → p ≡ r - (f + g)
-    less p q r f g h k a b c d = omega arith
 
 -- the counts of a run in which the head of a log gets its number
 pub counts_step : (run : List Log) (table : Table) (old new : List Numbering) (k n : ℕ) (log : Log) (was : Numbering) (counts next : List ℕ)
@@ -79,13 +64,6 @@ pub record CountsBehind (messages : ℕ) (entries : List Entry) (row old new : L
   pub long : length new ≡ length old
   pub each : (c : ℕ) → c < length new → get_or new c 0 + kept_behind messages (drop i entries) (drop i row) c ≡ get_or old c 0 + kept_behind messages entries row c
 
-behind_step : (messages i : ℕ) (entries : List Entry) (row : List ℕ) (x : Entry) (c : ℕ) → slice_get entries i ≡ Some x → length entries ≡ length row
-    → kept_behind messages (drop i entries) (drop i row) c ≡ one (class_fed x (get_or row i 0)) c + one (class_in messages x (get_or row i 0)) c + kept_behind messages (drop (suc i) entries) (drop (suc i) row) c
-behind_step messages i [] row x c at long = absurd cc
-behind_step messages i (y ∷ ys) [] x c at long = absurd (omega arith)
-behind_step messages zero (y ∷ ys) (n ∷ ns) x c at long = let same : y ≡ x = cc in rw same refl
-behind_step messages (suc i) (y ∷ ys) (n ∷ ns) x c at long = behind_step messages i ys ns x c at (omega arith)
-
 behind_most : (messages : ℕ) (entries : List Entry) (row : List ℕ) (c : ℕ) → kept_behind messages entries row c ≤ 2 * length entries
 behind_most messages [] row c = omega arith
 behind_most messages (x ∷ xs) [] c = omega arith
@@ -96,25 +74,6 @@ kept_most messages given [] row c = omega arith
 kept_most messages given (x ∷ xs) [] c = omega arith
 kept_most messages zero (x ∷ xs) (n ∷ ns) c = let rest = behind_most messages xs ns c in let here = one_most (class_fed x n) c in omega arith
 kept_most messages (suc given) (x ∷ xs) (n ∷ ns) c = let rest = kept_most messages given xs ns c in omega arith
-
-pub behind_none : (messages : ℕ) (entries : List Entry) (row counts : List ℕ) → CountsBehind messages entries row counts counts 0
-behind_none messages [] row counts = record { long = refl; each = λ c lt. refl }
-behind_none messages (x ∷ xs) [] counts = record { long = refl; each = λ c lt. refl }
-behind_none messages (x ∷ xs) (n ∷ ns) counts = record { long = refl; each = λ c lt. refl }
-
--- one more entry is counted
-pub behind_more : (messages : ℕ) (entries : List Entry) (row old mid half new : List ℕ) (i : ℕ) (x : Entry) (fed shared : Option ℕ) → slice_get entries i ≡ Some x → length entries ≡ length row → fed ≡ class_fed x (get_or row i 0) → shared ≡ class_in messages x (get_or row i 0)
-    → CountsBehind messages entries row old mid i → Adds mid half (one fed) → Adds half new (one shared) → CountsBehind messages entries row old new (i + 1)
-behind_more messages entries row old mid half new i x fed shared at long fed_is shared_is so_far first second = record {
-  long = second.long ∙ first.long ∙ so_far.long;
-  each = λ c lt.
-      let s : i + 1 ≡ suc i = omega arith in
-      let lt' : c < length half = rw second.long at lt in
-      rw s (add_up _ _ _ _ _ _ _ _ (second.each c lt) (first.each c lt') (so_far.each c (rw first.long at lt')) (rw (fed_is, shared_is) (behind_step messages i entries row x c at long)));
-}
-  where
-    add_up : (p h q f g r s t : ℕ) → p ≡ h + g → h ≡ q + f → q + r ≡ s → r ≡ f + g + t → p + t ≡ s
-    add_up p h q f g r s t a b c d = omega arith
 
 pub at_most_more : (counts : List ℕ) (a b : ℕ) → AtMost counts a → a ≤ b → AtMost counts b
 at_most_more counts a b few le = record { each = λ c. (let h = few.each c in omega arith) }

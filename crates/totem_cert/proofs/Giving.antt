@@ -128,9 +128,6 @@ pub record GivenTo (run : List Log) (table : Table) (old new : List Numbering) (
   pub left : (entries_left run new < entries_left run old) ⊎ (new ≡ old)
 
 module _ (run : List Log) (table : Table) (rising : Rising run) (is_table : IsTable run table) (old : List Numbering) (sound : IsSound run old) (c n : ℕ) where
-  pub given_yet : IsNextIn run table old c → GivenTo run table old old c n 0
-  given_yet next = record { next = next; fits = sound.fits; each = λ x. inr refl; done = λ j lt y a is. absurd (omega arith); after = λ j le. refl; left = inr refl }
-
   module _ (new : List Numbering) (k : ℕ) (log : Log) (log_at : slice_get run k ≡ Some log) (h : Head) (head : IsHead run table new k h) (up : GivenTo run table old new c n k) where
     given_k : given_at new k ≡ given_at old k
     given_k = up.after k (omega arith)

@@ -28,12 +28,6 @@ same_place e f h =
 apart_or_same : (e f : Place) → (e ≡ f) ⊎ (is_eq (place_order e f) ≡ false)
 apart_or_same e f = elim (apart_or_at place_order e f) [ inl h ↦ inl (same_place e f (equal_at (place_order e f) h)) | inr h ↦ inr h ]
 
-pub noted_yet : (seen : BTreeMap Place ℕ) (steps : List Step) → seen.entries ≡ [] → steps ≡ [] → IsNoted seen steps
-noted_yet seen steps empty is = record {
-  each = λ i v at. absurd (let h : slice_get {X = Step} [] i ≡ Some v = rw is at at in cc);
-  only = λ e i at. absurd (let h : get place_order seen e ≡ None = rw empty refl in cc);
-}
-
 pub not_visited : (seen : BTreeMap Place ℕ) (steps : List Step) (e : Place) → IsNoted seen steps → None ≡ get place_order seen e → IsNotVisited steps e (length steps)
 not_visited seen steps e noted none = record { none = λ j v lt at same. (let h = noted.each j v at in let k : get place_order seen e ≡ Some j = rw same at h in cc) }
 

@@ -74,9 +74,6 @@ found_message run e (Deliver m y) i r is at at_e =
     let there : DeliversAt run e m = rw (same_parts e e.proc (suc i) refl at_e) here in
     rw is there
 
-pub twins_same : (run : List Log) (e f : Place) → (IsTrue true ↔ (e ≡ f)) → IsTrue false ↔ AreTwinDeliveries run e f
-twins_same run e f same = (λ h. absurd cc, λ (m, x, y, other). absurd (other (same.0 refl)))
-
 pub twins_decided : (run : List Log) (e f : Place) (m n : Option MsgId) (r : Bool) → IfSome m (λ k. DeliversAt run e k) → IfNone m (NeverDelivers run e) → IfSome n (λ k. DeliversAt run f k) → IfNone n (NeverDelivers run f)
     → (IsTrue false ↔ (e ≡ f)) → (IsTrue r ↔ BothAre m n) → IsTrue r ↔ AreTwinDeliveries run e f
 twins_decided run e f (Some m) (Some n) r a b c d same both = (

@@ -42,17 +42,6 @@ next_step : (run : List Log) (start : Place) (steps : List Step) (next : Step) �
 next_step run start [] next walking = (start, walking.first refl)
 next_step run start (x ∷ xs) next walking = let l = last_at x xs in (l.0.from, walking.later (length xs) l.0 l.1 (omega arith))
 
-pub walking_yet : (run : List Log) (start : Place) (steps : List Step) (next : Step) → steps ≡ [] → IsStepOf run start next → IsWalking run start steps next
-walking_yet run start steps next is step = rw is (record {
-  walk = record {
-    first = λ v at. absurd cc;
-    next = λ i v w at_v at_w. absurd cc;
-    new = λ i j v w at_v at_w lt same. cc;
-  };
-  first = λ h. step;
-  later = λ i v at len. absurd cc;
-})
-
 -- one more step
 module _ (run : List Log) (start : Place) (steps : List Step) (next : Step) (walking : IsWalking run start steps next) (new : IsNotVisited steps next.to (length steps)) where
   pub walk_more : IsWalk run start (steps ++ next ∷ [])
