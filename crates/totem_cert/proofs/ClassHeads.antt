@@ -1,4 +1,5 @@
 -- The first entries of logs without a number, by the numbers of their classes.
+use Rattle.std.proofs.lemmas.Grind.{common_steps}
 use Rattle.std.proofs.Common.{◌≡◌, ℕ, suc, ◌<◌, List, length, get_or, slice_get, Some, None, Bool, IsTrue, ◌↔◌, refl, sym, ap, arith}
 use Rattle.std.proofs.lemmas.Option.{slice_get_within, slice_get_read}
 use Rattle.totem_ids.specs.declared.place.Place.{Place}
@@ -22,9 +23,7 @@ use Rattle.totem_cert.proofs.LineFacts.{log_index, event_at}
 
 -- two entries at one place are one
 pub one_entry : (run : List Log) (k i : ℕ) (x y : Entry) → IsEntryAt run k i x → IsEntryAt run k i y → x ≡ y
-one_entry run k i x y a b =
-    let log : a.log ≡ b.log = (let p = a.is_log in let q = b.is_log in cc) in
-    (let p : slice_get b.log.entries i ≡ Some x = rw log at a.is_entry in let q = b.is_entry in cc)
+one_entry run k i x y a b = grind (arith, common_steps)
 
 -- ---- heads
 

@@ -1,5 +1,6 @@
 -- A run has at most one closed list.
-use Rattle.std.proofs.Common.{◌≡◌, ℕ, zero, suc, ◌+◌, ◌-◌, ◌<◌, ◌⊎◌, inl, inr, List, [], ◌∷◌, length, drop, slice_get, Some, refl, sym, ◌∙◌, ap, subst, arith}
+use Rattle.std.proofs.lemmas.Grind.{common_steps}
+use Rattle.std.proofs.Common.{◌≡◌, ℕ, zero, suc, ◌+◌, ◌-◌, ◌<◌, inl, inr, List, [], ◌∷◌, length, drop, slice_get, Some, refl, sym, ◌∙◌, ap, subst, arith}
 use Rattle.std.proofs.lemmas.Option.{slice_get_within}
 use Rattle.totem_ids.specs.declared.place.Place.{Place}
 use Rattle.totem_evs.specs.declared.log.Log.{Log}
@@ -7,7 +8,7 @@ use Rattle.totem_evs.specs.declared.spec.SpecNo.{SpecNo}
 use Rattle.totem_evs.specs.ClosedLists.{Step, HoldsUp, IsStepOf, IsWalk, ComesBack, IsTurned, forward, IsBrokenBy, IsClosedList}
 use Rattle.totem_cert.specs.Laws.{ClosedListsAreOne}
 use Rattle.totem_evs.proofs.LogOf.{less_or_not}
-use Rattle.totem_cert.proofs.Classmates.{class_sym, class_trans, one_message}
+use Rattle.totem_cert.proofs.Classmates.{class_trans, one_message}
 use Rattle.totem_cert.proofs.LineFacts.{same_parts}
 use Rattle.totem_cert.proofs.Lists.{at_index, previous}
 use Rattle.totem_cert.proofs.Walking.{antisym}
@@ -76,14 +77,7 @@ one_walk run start xs ys i j v w a b = elim (less_or_not (length xs) (length ys)
 
 -- and they return to the same class, at the same step
 pub one_return : (run : List Log) (start : Place) (xs : List Step) (i j : ℕ) (v w : Step) → ComesBack run start xs i v → ComesBack run start xs j w → (i ≡ j) × (v ≡ w)
-one_return run start xs i j v w a b =
-    let last : v ≡ w = (let p = a.at_end in let q = b.at_end in cc) in
-    (go last (less_or_not i j), last)
-  where
-    go : v ≡ w → (i < j) ⊎ ((j < i) ⊎ (i ≡ j)) → i ≡ j
-    go last (inl lt) = absurd (a.walk.new i j a.step b.step a.at_again b.at_again lt (class_trans run a.step.to v.from b.step.to a.comes_back (class_sym run b.step.to v.from (rw last b.comes_back))))
-    go last (inr (inl lt)) = absurd (a.walk.new j i b.step a.step b.at_again a.at_again lt (class_trans run b.step.to v.from a.step.to (rw last b.comes_back) (class_sym run a.step.to v.from a.comes_back)))
-    go last (inr (inr e)) = e
+one_return run start xs i j v w a b = grind (arith, common_steps)
 
 one_spec : (run : List Log) (k l : SpecNo) (a : List Place) → IsBrokenBy run k a → IsBrokenBy run l a → k ≡ l
 one_spec run k l a (inl (x, _)) (inl (y, _)) = x ∙ sym y

@@ -1,5 +1,6 @@
 -- The closed list breaks the specification that it names.
-use Rattle.std.proofs.Common.{◌≡◌, ◌≢◌, ℕ, zero, suc, ◌+◌, ◌-◌, ◌⊎◌, inl, inr, List, [], ◌∷◌, ◌++◌, length, drop, slice_get, Some, Bool, true, false, refl, sym, ◌∙◌, ap, arith, length-drop}
+use Rattle.std.proofs.lemmas.Grind.{common_steps}
+use Rattle.std.proofs.Common.{◌≡◌, ℕ, zero, suc, ◌+◌, ◌-◌, ◌⊎◌, inl, inr, List, [], ◌∷◌, ◌++◌, length, drop, slice_get, Some, refl, sym, ◌∙◌, ap, arith, length-drop}
 use Rattle.std.proofs.Math.Seq.{drop-cons}
 use Rattle.std.proofs.lemmas.List.{append-nil}
 use Rattle.std.proofs.lemmas.Option.{slice_get_within, get_or_from_slice_get}
@@ -11,10 +12,9 @@ use Rattle.totem_evs.specs.Events.{IsEvent}
 use Rattle.totem_evs.specs.Steps.{Strict}
 use Rattle.totem_evs.specs.Places.{Chain, Somewhere, IsClosed, IsStep, IsOrderStep}
 use Rattle.totem_evs.specs.Faults.{Breaks}
-use Rattle.totem_evs.specs.ClosedLists.{Step, HoldsUp, same_place, unless, forward, AreTwinDeliveries, IsBrokenBy, IsClosedList}
+use Rattle.totem_evs.specs.ClosedLists.{Step, HoldsUp, unless, forward, AreTwinDeliveries, IsBrokenBy, IsClosedList}
 use Rattle.totem_evs.specs.Classes.{InClass}
 use Rattle.totem_cert.proofs.Classmates.{class_sym, event_of}
-use Rattle.totem_cert.proofs.LineFacts.{same_parts}
 use Rattle.totem_cert.proofs.Walking.{step_in}
 
 -- steps along a list, and from its last event to z
@@ -64,29 +64,8 @@ abbrev Linked : List Log → Place → List Step → Type 0
 Linked run p [] = Unit {0}
 Linked run p (v ∷ vs) = Strict run v.from v.to × InClass run v.to p × Linked run v.from vs
 
-class_step : (run : List Log) (e f : Place) → InClass run e f → (e ≢ f) → IsOrderStep run e f
-class_step run e f (inl (_, same)) other = absurd (other same)
-class_step run e f (inr (inl (x, a, b))) other = inl (inr (x, a, b, other))
-class_step run e f (inr (inr (m, a, b))) other = inr (m, a, b, other)
-
-pub same_is : (e f : Place) → same_place e f ≡ true → e ≡ f
-same_is e f h =
-    let p : e.proc ≡ f.proc = grind arith in
-    let a : e.at ≡ f.at = grind arith in
-    same_parts e f.proc f.at p a
-
-pub not_same : (e f : Place) → same_place e f ≡ false → e ≢ f
-not_same e f h same =
-    let p : e.proc ≡ f.proc = ap (λ (g : Place). g.proc) same in
-    let a : e.at ≡ f.at = ap (λ (g : Place). g.at) same in
-    grind arith
-
 last_part : (run : List Log) (v : Step) (p : Place) → Strict run v.from v.to → InClass run v.to p → Chain (IsOrderStep run) v.from (unless v.to p) p × Somewhere (Strict run) v.from (unless v.to p) p
-last_part run v p strict shares = go (same_place v.to p) refl
-  where
-    go : (b : Bool) → same_place v.to p ≡ b → Chain (IsOrderStep run) v.from (unless v.to p) p × Somewhere (Strict run) v.from (unless v.to p) p
-    go true e = let s : Strict run v.from p = rw (same_is v.to p e) at strict in rw e (inl (inl s), s)
-    go false e = rw e ((inl (inl strict), class_step run v.to p shares (not_same v.to p e)), inl strict)
+last_part run v p strict shares = grind (arith, common_steps)
 
 forward_path : (run : List Log) (p : Place) (vs : List Step) → Linked run p vs → Path (IsOrderStep run) (forward p vs) p
 forward_path run p [] h = tt

@@ -1,4 +1,5 @@
 -- How the counts change when one more entry gets a number.
+use Rattle.std.proofs.lemmas.Grind.{common_steps}
 use Rattle.std.proofs.Common.{◌≡◌, ◌≢◌, ℕ, zero, suc, ◌+◌, ◌-◌, ◌*◌, ◌<◌, ◌≤◌, ◌⊎◌, inl, inr, List, [], ◌∷◌, ◌++◌, length, map, drop, get_or, slice_get, Option, Some, None, refl, sym, ◌∙◌, ap, arith, length-append}
 use Rattle.std.proofs.Math.ListN.{set, drop_of_length-le}
 use Rattle.std.proofs.lemmas.Option.{slice_get_within, slice_get_read, get_or_from_slice_get}
@@ -79,12 +80,7 @@ pub at_most_more : (counts : List ℕ) (a b : ℕ) → AtMost counts a → a ≤
 at_most_more counts a b few le = record { each = λ c. (let h = few.each c in omega arith) }
 
 pub adds_few : (old new : List ℕ) (class : Option ℕ) → AtMost old 90000000 → Adds old new (one class) → AtMost new 100000000
-adds_few old new class few adds = record {
-  each = λ c. elim (less_or_not c (length new)) [
-    | inl within ↦ (let a = adds.each c within in let b = few.each c in let m = one_most class c in omega arith)
-    | inr past ↦ (let p : get_or new c 0 ≡ 0 = get_or_past new c 0 (grind arith) in omega arith)
-  ];
-}
+adds_few old new class few adds = grind (arith, common_steps)
 
 -- no count is greater than twice the number of entries before
 pub behind_few : (messages : ℕ) (entries : List Entry) (row old new : List ℕ) (i : ℕ) → AtMost old 62000000 → length entries ≤ 1000000 → CountsBehind messages entries row old new i → AtMost new 90000000

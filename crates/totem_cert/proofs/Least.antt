@@ -1,4 +1,5 @@
 -- The least event that is left, and the closed list as it is written.
+use Rattle.std.proofs.lemmas.Grind.{common_steps}
 use Rattle.std.proofs.Common.{◌≡◌, ℕ, suc, ◌+◌, ◌<◌, ◌≤◌, inl, inr, List, ◌∷◌, ◌++◌, length, drop, get_or, slice_get, Some, refl, ◌∙◌, ap, arith, length-append}
 use Rattle.std.proofs.lemmas.Option.{slice_get_within}
 use Rattle.totem_ids.specs.declared.place.Place.{Place}
@@ -56,17 +57,7 @@ least_left_is run items lines k log line numbers is_run sound none first same lo
 -- what is written for the round is the closed list
 pub cycle : (run : List Log) (start : Place) (steps : List Step) (again : ℕ) (written places : List Place) (k : SpecNo) → IsLeastLeft run start → IsRound run start steps again → IsForwardFrom steps again again written
     → IsTurned written places → BeginsLeast places → IsBrokenBy run k places → IsClosedList run k places
-cycle run start steps again written places k begins round from turned least broken = record {
-  start = start;
-  begins = begins;
-  steps = steps;
-  again = again;
-  last = round.last;
-  back = round.back;
-  written = (let e = from.each round.last.from (inr (refl, round.last, round.back.at_end, refl)) in rw e at turned);
-  least = least;
-  broken = broken;
-}
+cycle run start steps again written places k begins round from turned least broken = grind (arith, common_steps)
 
 pub written_some : (run : List Log) (start : Place) (steps : List Step) (again : ℕ) (written : List Place) → IsRound run start steps again → IsForwardFrom steps again again written → 0 < length written
 written_some run start steps again written round from =

@@ -1,11 +1,12 @@
 -- Lines and logs, by index, by process and by place.
+use Rattle.std.proofs.lemmas.Grind.{common_steps}
 use Rattle.std.proofs.Common.{◌≡◌, ℕ, zero, suc, ◌<◌, ◌≤◌, ◌⊎◌, inl, inr, Option, List, [], ◌∷◌, length, get_or, slice_get, Some, None, true, false, refl, sym, ◌∙◌, ap, arith, rules}
 use Rattle.std.specs.Prelude.{◌==◌}
 use Rattle.std.proofs.lemmas.Option.{slice_get_within, slice_get-get_or, slice_get_past, slice_get_cases, slice_get_read}
 use Rattle.totem_ids.specs.declared.place.Place.{Place}
 use Rattle.totem_evs.specs.declared.entry.Entry.{Entry}
 use Rattle.totem_evs.specs.declared.log.Log.{Log}
-use Rattle.totem_evs.specs.Events.{log_of, at_place, entry_at}
+use Rattle.totem_evs.specs.Events.{log_of, entry_at}
 use Rattle.totem_evs.specs.Certificates.{Numbering, numbers_of, number_at}
 use Rattle.totem_evs.specs.Classes.{IsAtMost}
 use Rattle.totem_evs.proofs.LogOf.{Rising, Rising-tail, in_order, less_or_not, log_of_cases, log_of_at}
@@ -46,11 +47,7 @@ same_parts g p a procs ats = rw (← procs, ← ats) refl
 
 -- an event has an index in its log
 pub index_of : (run : List Log) (e : Place) (x : Entry) → entry_at run e ≡ Some x → (i : ℕ) × (e ≡ place e.proc i) × (slice_get (log_of run e.proc) i ≡ Some x)
-index_of run e x at = go e.at refl at
-  where
-    go : (n : ℕ) → e.at ≡ n → at_place (log_of run e.proc) n ≡ Some x → (i : ℕ) × (e ≡ place e.proc i) × (slice_get (log_of run e.proc) i ≡ Some x)
-    go zero h k = absurd cc
-    go (suc i) h k = (i, ap (λ (a : ℕ). let e' : Place = record { proc = e.proc; at = a } in e') h, k)
+index_of run e x at = grind (arith, common_steps)
 
 -- an event with a number is before the end of its line
 pub numbered_within : (lines : List Numbering) (p i : ℕ) → IsNumbered lines (place p i) → i < length (numbers_of lines p)

@@ -1,28 +1,21 @@
 -- The steps of a walk, noted by the events to which they led.
-use Rattle.std.proofs.Common.{◌≡◌, ℕ, ◌<◌, ◌⊎◌, inl, inr, List, [], ◌∷◌, ◌++◌, length, slice_get, Some, None, false, refl, sym, ◌∙◌, nat_cmp, arith}
+use Rattle.std.proofs.lemmas.Grind.{common_steps}
+use Rattle.std.proofs.Common.{◌≡◌, ℕ, ◌<◌, ◌⊎◌, inl, inr, List, [], ◌∷◌, ◌++◌, length, slice_get, Some, None, false, sym, ◌∙◌, arith}
 use Rattle.std.specs.Ordering.{is_eq}
 use Rattle.std.specs.declared.cmp.Ordering.TheVariants.{Equal}
 use Rattle.std.specs.BTreeMap.{BTreeMap, get, Updates}
-use Rattle.std.proofs.lemmas.Cmp.{ranked}
 use Rattle.std.proofs.lemmas.Option.{slice_get_within}
 use Rattle.totem_ids.specs.declared.place.Place.{Place}
 use Rattle.totem_ids.specs.contracts.life.ProcOrd.TheImpl as processes
-use Rattle.totem_ids.proofs.Exact.{both_equal, equal_at, apart_or_at}
+use Rattle.totem_ids.proofs.Exact.{equal_at, apart_or_at}
 use Rattle.totem_evs.specs.ClosedLists.{Step}
-use Rattle.totem_evs.proofs.ProcOrder.{exact_proc}
 use Rattle.totem_evs.proofs.Pushing.{before_push, stands_last}
 use Rattle.totem_cert.specs.Progress.{IsVisitedAt, IsNotVisited}
 use Rattle.totem_cert.specs.Visited.{place_order, IsNoted}
-use Rattle.totem_cert.proofs.LineFacts.{same_parts}
 use Rattle.totem_cert.proofs.Lists.{push_other}
 
-same_number : (a b : ℕ) → nat_cmp a b ≡ Equal → a ≡ b
-same_number a b e = rw e at (ranked a b (nat_cmp a b) refl)
-
 same_place : (e f : Place) → place_order e f ≡ Equal → e ≡ f
-same_place e f h =
-    let parts = both_equal (processes.cmp-value.it e.proc f.proc) (nat_cmp e.at f.at) h in
-    same_parts e f.proc f.at (exact_proc e.proc f.proc parts.0) (same_number e.at f.at parts.1)
+same_place e f h = grind (arith, common_steps)
 
 -- the two places are equal, or the order them apart
 apart_or_same : (e f : Place) → (e ≡ f) ⊎ (is_eq (place_order e f) ≡ false)

@@ -1,4 +1,5 @@
 -- What holds of the numbers given so far, and after one more class.
+use Rattle.std.proofs.lemmas.Grind.{common_steps}
 use Rattle.std.proofs.Common.{◌≡◌, ℕ, ◌+◌, ◌<◌, ◌≤◌, ◌⊎◌, inl, inr, List, Some, sym, ◌∙◌, arith}
 use Rattle.std.proofs.Math.Nat.{eq-or-lt_of_le}
 use Rattle.totem_ids.specs.declared.place.Place.{Place}
@@ -24,10 +25,7 @@ module _ (run : List Log) (old new : List Numbering) (n : ℕ) (sound : Sound ru
 
   -- a number below an old one was given before too
   below_was : (x : Place) (k : ℕ) → k ≤ n + 1 → IsNumberedBelow new x k → IsNumberedBelow old x k
-  below_was x k le h = elim (was x h.number h.given) [
-    | inl (in_class, is) ↦ absurd (let lt = h.below in omega arith)
-    | inr is ↦ record { number = h.number; given = is; below = h.below }
-  ]
+  below_was x k le h = grind (arith, common_steps)
 
   waits_kept : (x : Place) (k : ℕ) → IsReadyAt run old x k → IsReadyAt run new x k
   waits_kept x k h = record { each = λ g waits. (let b = h.each g waits in record { number = b.number; given = kept g b.number b.given; below = b.below }) }

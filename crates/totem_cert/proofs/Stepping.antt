@@ -1,4 +1,5 @@
 -- Steps to classes without a number.
+use Rattle.std.proofs.lemmas.Grind.{common_steps}
 use Rattle.std.proofs.Common.{◌≡◌, ℕ, zero, suc, ◌+◌, ◌<◌, ◌≤◌, ◌⊎◌, inl, inr, List, length, get_or, slice_get, Option, Some, None, cond, refl, sym, ◌∙◌, ap, arith}
 use Rattle.std.specs.Prelude.{unwrap_or, is_some}
 use Rattle.std.proofs.lemmas.Bool.{le-leb, lt-ltb}
@@ -46,10 +47,7 @@ module _ (run : List Log) (lines : List Numbering) (sound : IsSound run lines) (
   ]
 
   pub left_unnumbered : (e : Place) → IsLeft run e → number_at lines e ≡ None
-  left_unnumbered e left = elim (option_cases (number_at lines e)) [
-    | inl is ↦ is
-    | inr (k, is) ↦ absurd (left.never (sound.sound.placed e k is))
-  ]
+  left_unnumbered e left = grind (arith, common_steps)
 
   pub unnumbered_left : (e : Place) → IsEvent run e → number_at lines e ≡ None → IsLeft run e
   unnumbered_left e event is = record { event = event; never = λ h. (let n = placed_numbered e h event in let g = n.given in cc) }

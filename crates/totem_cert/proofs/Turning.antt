@@ -1,5 +1,6 @@
 -- A closed list has each of its places once, so there is one way to start it at its least place.
-use Rattle.std.proofs.Common.{◌≡◌, ℕ, zero, suc, ◌+◌, ◌-◌, ◌<◌, ◌≤◌, ◌⊎◌, inl, inr, List, [], ◌∷◌, ◌++◌, length, drop, slice_get, Some, Bool, true, false, refl, sym, ◌∙◌, ap, subst, arith, append_assoc, length-drop}
+use Rattle.std.proofs.lemmas.Grind.{common_steps}
+use Rattle.std.proofs.Common.{◌≡◌, ℕ, zero, suc, ◌+◌, ◌-◌, ◌<◌, ◌≤◌, ◌⊎◌, inl, inr, List, [], ◌∷◌, ◌++◌, length, drop, slice_get, Some, refl, sym, ◌∙◌, ap, subst, arith, append_assoc, length-drop}
 use Rattle.std.specs.Prelude.{Contains}
 use Rattle.std.proofs.lemmas.Option.{slice_get_within, slice_get-get_or}
 use Rattle.std.proofs.lemmas.List.{append-nil}
@@ -7,11 +8,10 @@ use Rattle.std.proofs.lemmas.List.Elements.{Contains-append_left, Contains-appen
 use Rattle.totem_ids.specs.declared.place.Place.{Place}
 use Rattle.totem_evs.specs.declared.log.Log.{Log}
 use Rattle.totem_evs.specs.Classes.{IsAtMost, InClass}
-use Rattle.totem_evs.specs.ClosedLists.{Step, ComesBack, same_place, unless, forward, IsTurned, BeginsLeast}
-use Rattle.totem_evs.proofs.LogOf.{less_or_not}
+use Rattle.totem_evs.specs.ClosedLists.{Step, ComesBack, unless, forward, IsTurned, BeginsLeast}
 use Rattle.totem_cert.proofs.Classmates.{class_self, class_sym, class_trans, event_of}
 use Rattle.totem_cert.proofs.Walking.{antisym, step_in}
-use Rattle.totem_cert.proofs.Closing.{drop_here, same_is, not_same}
+use Rattle.totem_cert.proofs.Closing.{drop_here}
 
 -- e is not in the list
 abbrev Fresh : Place → List Place → Type 0
@@ -118,17 +118,10 @@ regroup xs ys x y = simp append_assoc
 
 -- an event, left out if the other one equals it
 unless_cases : (e p : Place) → ((e ≡ p) × (unless e p ≡ [])) ⊎ ((e ≡ p → ⊥) × (unless e p ≡ e ∷ []))
-unless_cases e p = go (same_place e p) refl
-  where
-    go : (b : Bool) → same_place e p ≡ b → ((e ≡ p) × (unless e p ≡ [])) ⊎ ((e ≡ p → ⊥) × (unless e p ≡ e ∷ []))
-    go true h = inl (same_is e p h, rw h refl)
-    go false h = inr (not_same e p h, rw h refl)
+unless_cases e p = grind (arith, common_steps)
 
 in_unless : (e p f : Place) → Contains (unless e p) f → (e ≡ f) × (e ≡ p → ⊥)
-in_unless e p f h = elim (unless_cases e p) [
-  | inl (_, none) ↦ absurd (in_none f (rw none at h))
-  | inr (other, one) ↦ elim (in_cases e f [] (rw one at h)) [ inl same ↦ (same, other) | inr none ↦ absurd (in_none f none) ]
-]
+in_unless e p f h = grind (arith, common_steps)
 
 unless_distinct : (e p : Place) → IsDistinct (unless e p)
 unless_distinct e p = elim (unless_cases e p) [ inl (_, none) ↦ rw none tt | inr (_, one) ↦ rw one ((λ h. in_none e h), tt) ]
@@ -136,10 +129,7 @@ unless_distinct e p = elim (unless_cases e p) [ inl (_, none) ↦ rw none tt | i
 module _ (run : List Log) (start : Place) (xs : List Step) (again : ℕ) (last : Step) (back : ComesBack run start xs again last) where
   -- steps into one class are one step
   new : (i j : ℕ) (v w : Step) → slice_get xs i ≡ Some v → slice_get xs j ≡ Some w → InClass run v.to w.to → i ≡ j
-  new i j v w at_v at_w shares = elim (less_or_not i j) [
-    | inl lt ↦ absurd (back.walk.new i j v w at_v at_w lt shares)
-    | inr rest ↦ elim rest [ inl gt ↦ absurd (back.walk.new j i w v at_w at_v gt (class_sym run v.to w.to shares)) | inr e ↦ e ]
-  ]
+  new i j v w at_v at_w shares = grind (arith, common_steps)
 
   -- e follows the steps from t on in forward order: it is in the class of the step at t, or is where the last step came from
   record Follows (t : ℕ) (e : Place) : Type 0 where
