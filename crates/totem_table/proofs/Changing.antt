@@ -1,21 +1,17 @@
 -- The changes of a log, in a list of their indices.
+use Rattle.std.proofs.lemmas.Grind.{common_steps}
 use Rattle.std.proofs.Common.{below_more, ◌≡◌, ℕ, ◌+◌, ◌<◌, ◌≤◌, inl, inr, List, [], ◌∷◌, ◌++◌, length, slice_get, Some, arith}
 use Rattle.std.proofs.lemmas.Option.{slice_get_within}
 use Rattle.totem_evs.specs.declared.entry.Entry.{Entry}
 use Rattle.totem_evs.specs.declared.entry.Entry.TheVariants.{Conf}
 use Rattle.totem_evs.specs.Events.{IsChange}
-use Rattle.totem_evs.proofs.LogOf.{less_or_not}
 use Rattle.totem_evs.specs.Following.{IsNextOrEnd}
 use Rattle.totem_table.specs.Changes.{IsListed, ListsChanges}
 use Rattle.totem_evs.proofs.Pushing.{before_push, stands_before, stands_last}
 
 -- the entry at n is no change
 pub no_more : (log : List Entry) (n : ℕ) (e : Entry) (list : List ℕ) → slice_get log n ≡ Some e → ((x : _) (ms : _) → e ≡ Conf x ms → ⊥) → ListsChanges log n list → ListsChanges log (n + 1) list
-no_more log n e list at other before = record {
-  each = λ k i listed. (let old = before.each k i listed in (omega (arith, old.0), old.1));
-  rising = before.rising;
-  whole = below_more (λ i. IsChange log i → IsListed list i) n before.whole (λ (x, (ms, h)). absurd (other x ms cc));
-}
+no_more log n e list at other before = grind (arith, common_steps)
 
 -- the entry at n is a change
 pub one_more : (log : List Entry) (n : ℕ) (list : List ℕ) → IsChange log n → ListsChanges log n list → ListsChanges log (n + 1) (list ++ (n ∷ []))
@@ -35,13 +31,7 @@ one_more log n list here before = record {
 
 -- what is greater is listed later
 listed_later : (log : List Entry) (n : ℕ) (list : List ℕ) (k l i j : ℕ) → ListsChanges log n list → slice_get list k ≡ Some i → slice_get list l ≡ Some j → i < j → k < l
-listed_later log n list k l i j lists at_i at_j lt = elim (less_or_not k l) [
-  | inl under ↦ under
-  | inr rest ↦ elim rest [
-    | inl over ↦ absurd (let above = lists.rising l k j i at_j at_i over in omega arith)
-    | inr same ↦ absurd (let at : slice_get list l ≡ Some i = rw same at at_i in let e : i ≡ j = cc in omega (arith, e))
-  ]
-]
+listed_later log n list k l i j lists at_i at_j lt = grind (arith, common_steps)
 
 -- a change before a listed one is listed before it
 pub listed_below : (log : List Entry) (n : ℕ) (list : List ℕ) (j b i : ℕ) → ListsChanges log n list → slice_get list j ≡ Some b → i < b → i < n → IsChange log i → (k : ℕ) × (k < j) × (slice_get list k ≡ Some i)

@@ -1,5 +1,6 @@
 -- Entering only the changes of a run, and searching only the changes.
-use Rattle.std.proofs.Common.{below_more, ◌≡◌, ℕ, ◌+◌, ◌<◌, ◌≤◌, inl, inr, List, ◌∷◌, length, slice_get, get_or, Some, refl, arith}
+use Rattle.std.proofs.lemmas.Grind.{common_steps}
+use Rattle.std.proofs.Common.{◌≡◌, ℕ, ◌+◌, ◌<◌, ◌≤◌, inl, inr, List, ◌∷◌, length, slice_get, get_or, Some, refl, arith}
 use Rattle.std.proofs.lemmas.Option.{slice_get_within, slice_get_read}
 use Rattle.totem_ids.specs.declared.place.Place.{Place}
 use Rattle.totem_evs.specs.declared.entry.Entry.{Entry}
@@ -46,9 +47,7 @@ pub record NoneListed (H : List Place → Type 0) (p : ℕ) (list : List ℕ) (n
   pub none : (k i : ℕ) (rest : List Place) → k < n → slice_get list k ≡ Some i → H (place p i ∷ rest) → ⊥
 
 pub none_more : (H : List Place → Type 0) (p : ℕ) (list : List ℕ) (n b : ℕ) → slice_get list n ≡ Some b → NoneFrom H p b → NoneListed H p list n → NoneListed H p list (n + 1)
-none_more H p list n b at here before = record {
-  none = λ k i rest lt at_k. below_more (λ k. (i : ℕ) → slice_get list k ≡ Some i → H (place p i ∷ rest) → ⊥) n (λ k under i at_k. before.none k i rest under at_k) (λ i at_i. (let e : b ≡ i = cc in rw e at (here.none rest))) k lt i at_k;
-}
+none_more H p list n b at here before = grind (arith, common_steps)
 
 none_below : (H : List Place → Type 0) (p : ℕ) (log : List Entry) (list : List ℕ) (n b : ℕ) → ((i : ℕ) → i < length log → (IsChange log i → ⊥) → NoneFrom H p i) → ListsChanges log (length log) list → slice_get list n ≡ Some b
     → NoneListed H p list n → NoneInLog H p b

@@ -1,4 +1,5 @@
 -- Searching a run, event by event.
+use Rattle.std.proofs.lemmas.Grind.{common_steps}
 use Rattle.std.proofs.Common.{below_more, ◌≡◌, ℕ, ◌+◌, ◌<◌, ◌≤◌, ◌⊎◌, inl, inr, List, [], ◌∷◌, length, slice_get, Some, refl, sym, ◌∙◌, ap, arith, Option, None, Result, Ok, Err, IfOk, MatchOption}
 use Rattle.std.proofs.lemmas.Option.{slice_get_within}
 use Rattle.totem_ids.specs.declared.place.Place.{Place}
@@ -17,11 +18,7 @@ pub record NoneBeforeLog (run : List Log) (H : List Place → Type 0) (k : ℕ) 
   pub none : (j i : ℕ) (log : Log) (rest : List Place) → j < k → slice_get run j ≡ Some log → i < length log.entries → H (place log.proc i ∷ rest) → ⊥
 
 pub none_before_more : (run : List Log) (H : List Place → Type 0) (k : ℕ) (log : Log) → slice_get run k ≡ Some log → NoneInLog H log.proc (length log.entries) → NoneBeforeLog run H k → NoneBeforeLog run H (k + 1)
-none_before_more run H k log at here before = record {
-  none = λ j i l rest lt. below_more (λ j. slice_get run j ≡ Some l → i < length l.entries → H (place l.proc i ∷ rest) → ⊥) k
-      (λ j under. before.none j i l rest under)
-      (λ at_l. (let same : log ≡ l = cc in rw same at (here.none i rest))) j lt;
-}
+none_before_more run H k log at here before = grind (arith, common_steps)
 
 pub none_at_end : (run : List Log) (H : List Place → Type 0) (k : ℕ) → length run ≤ k → NoneBeforeLog run H k → NoneOf run H
 none_at_end run H k end before = record { none = λ p i rest within h. go p i rest (log_of_cases run p) within h }
