@@ -1,4 +1,5 @@
 -- The classes of entries, by their numbers in a table.
+use Rattle.std.proofs.lemmas.Grind.{common_steps}
 use Rattle.std.proofs.Common.{◌≡◌, ℕ, suc, ◌+◌, ◌<◌, inl, inr, List, length, slice_get, Some, None, refl, ◌∙◌, ap, arith}
 use Rattle.std.proofs.lemmas.Option.{slice_get_within}
 use Rattle.totem_ids.specs.declared.conf.ConfId.{ConfId}
@@ -21,18 +22,13 @@ use Rattle.totem_cert.proofs.LogHeads.{alike_class, class_alike}
 
 -- an entry that is in no class is alone, and waits for no send
 pub alone_alike : (m n : ℕ) (x y : Entry) → class_in m x n ≡ None → AreOfOneClass x y → ⊥
-alone_alike m n (Conf x ms) y none same = cc
-alone_alike m n (Deliver o x) y none same = cc
-alone_alike m n x y none same = same
+alone_alike m n x y none same = grind (arith, common_steps)
 
 pub alone_fed : (m n : ℕ) (y x : Entry) → class_in m x n ≡ None → AreSendAndDelivery y x → ⊥
-alone_fed m n (Send o c s) (Deliver p d) none same = cc
-alone_fed m n y x none same = same
+alone_fed m n y x none same = grind (arith, common_steps)
 
 pub alike_itself : (m n c : ℕ) (x : Entry) → class_in m x n ≡ Some c → AreOfOneClass x x
-alike_itself m n c (Conf x ms) is = refl
-alike_itself m n c (Deliver o x) is = refl
-alike_itself m n c x is = absurd cc
+alike_itself m n c x is = grind (arith, common_steps)
 
 module _ (run : List Log) (table : Table) (is : IsTable run table) where
   named : (k i : ℕ) (x : Entry) → IsEntryAt run k i x → NamedBy table.messages.items table.confs.items x (number_at table k i)

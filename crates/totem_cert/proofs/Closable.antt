@@ -1,9 +1,9 @@
 -- Lines in which each entry has a number form a certificate.
+use Rattle.std.proofs.lemmas.Grind.{common_steps}
 use Rattle.std.proofs.Common.{◌≡◌, ℕ, ◌<◌, List, length, get_or, slice_get, Some, arith}
 use Rattle.std.specs.Prelude.{All}
 use Rattle.std.proofs.lemmas.Option.{slice_get_within, slice_get-get_or, get_or_from_slice_get}
 use Rattle.totem_ids.specs.declared.version.Version.{Version}
-use Rattle.totem_ids.specs.declared.version.Version.TheVariants.{One, Two, Three}
 use Rattle.totem_ids.specs.Processes.{IsProcessIn}
 use Rattle.totem_evs.specs.declared.log.Log.{Log}
 use Rattle.totem_evs.specs.Runs.{IsRunIn, IsLogIn}
@@ -17,14 +17,10 @@ use Rattle.totem_cert.proofs.Lists.{at_index}
 
 -- a certificate of that version has a text, and writes the processes of the run
 pub of_text : (version : Version) → IsOfText (certificate_version version)
-of_text One = tt
-of_text Two = tt
-of_text Three = tt
+of_text h = grind (arith, common_steps)
 
 process_there : (version : Version) (p : ℕ) → IsProcessIn version p → IsProcessIn (certificate_version version) p
-process_there One p is = is
-process_there Two p is = is
-process_there Three p is = record { id_fits = is.id_fits; life_fits = is.life_fits; first = is.first }
+process_there h p is = grind (arith, common_steps)
 
 module _ (version : Version) (run : List Log) (lines : List Numbering) (is_run : IsRunIn version run) (sound : IsSound run lines) (full : IsFull run lines) where
   log_at : (k : ℕ) → k < length lines → (log : Log) × (slice_get run k ≡ Some log)

@@ -13,13 +13,11 @@ use Rattle.totem_table.specs.declared.table.Table.{Table}
 use Rattle.totem_evs.proofs.LogOf.{less_or_not}
 use Rattle.totem_cert.specs.Progress.{empty_line}
 use Rattle.totem_cert.specs.Counts.{count_of, given_at, sum_to, class_in, class_fed, one, kept_behind, kept_in, kept_at, kept_by, Counts, CountsTo, shared_by, passed, Adds, Takes, AtMost, Pushes}
-use Rattle.totem_cert.proofs.CountingOne.{one_cases}
 use Rattle.totem_cert.proofs.Lists.{set_here, set_other}
 use Rattle.totem_cert.proofs.Sums.{sum_change, sum_millions}
 
 one_most : (o : Option ℕ) (c : ℕ) → one o c ≤ 1
-one_most None c = omega arith
-one_most (Some n) c = elim (one_cases n c) [ inl (same, is) ↦ omega arith | inr (other, is) ↦ omega arith ]
+one_most h c = grind (arith, common_steps)
 
 -- a log whose head gets its number
 kept_step : (messages head : ℕ) (entries : List Entry) (row : List ℕ) (c : ℕ) → head < length entries → length entries ≡ length row → kept_in messages head entries row c ≡ kept_in messages (suc head) entries row c + passed messages entries row head c

@@ -1,4 +1,5 @@
 -- Which classes are ready, found from the counts of what keeps them back.
+use Rattle.std.proofs.lemmas.Grind.{common_steps}
 use Rattle.std.proofs.Common.{◌≡◌, ℕ, zero, suc, ◌+◌, ◌<◌, ◌≤◌, ◌⊎◌, inl, inr, List, [], ◌∷◌, length, get_or, slice_get, Option, Some, None, Bool, IsTrue, ◌↔◌, refl, sym, ◌∙◌, ap, arith}
 use Rattle.std.proofs.Math.Nat.{eq-zero-or-pos}
 use Rattle.std.proofs.lemmas.Option.{slice_get_within}
@@ -20,8 +21,7 @@ use Rattle.totem_cert.proofs.Classes.{alone_fed, alone_itself, in_class, class_f
 use Rattle.totem_cert.proofs.Sums.{sum_zero, sum_some}
 
 one_some : (o : Option ℕ) (c : ℕ) → 0 < one o c → o ≡ Some c
-one_some None c some = absurd (omega arith)
-one_some (Some n) c some = elim (one_cases n c) [ inl (same, is) ↦ ap Some (sym same) | inr (other, is) ↦ absurd (omega arith) ]
+one_some h c some = grind (arith, common_steps)
 
 one_self : (c : ℕ) → one (Some c) c ≡ 1
 one_self c = elim (one_cases c c) [ inl (same, is) ↦ is | inr (other, is) ↦ absurd (other refl) ]

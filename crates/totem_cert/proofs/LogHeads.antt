@@ -1,10 +1,11 @@
 -- Which classes are ready: those that nothing keeps back.
+use Rattle.std.proofs.lemmas.Grind.{common_steps}
 use Rattle.std.proofs.Common.{◌≡◌, ℕ, zero, suc, ◌<◌, ◌≤◌, ◌⊎◌, inl, inr, List, Option, Some, None, refl, ◌∙◌, ap, arith}
 use Rattle.totem_ids.specs.declared.conf.ConfId.{ConfId}
 use Rattle.totem_ids.specs.declared.message.MsgId.{MsgId}
 use Rattle.totem_ids.specs.declared.place.Place.{Place}
 use Rattle.totem_evs.specs.declared.entry.Entry.{Entry}
-use Rattle.totem_evs.specs.declared.entry.Entry.TheVariants.{Conf, Send, Deliver}
+use Rattle.totem_evs.specs.declared.entry.Entry.TheVariants.{Send, Deliver}
 use Rattle.totem_evs.specs.declared.log.Log.{Log}
 use Rattle.totem_evs.specs.Events.{entry_at}
 use Rattle.totem_evs.specs.Steps.{Strict, SameClass, SendsAt, DeliversAt}
@@ -15,35 +16,27 @@ use Rattle.totem_cert.specs.Counts.{given_at}
 use Rattle.totem_evs.proofs.LogOf.{Rising}
 use Rattle.totem_evs.specs.Classes.{InClass, WaitsFor, AreOfOneClass, AreSendAndDelivery}
 use Rattle.totem_cert.specs.Progress.{Fits, IsFree, IsNumbered, Sound, IsReady}
-use Rattle.totem_cert.proofs.Classmates.{class_sym, event_of, one_message, waits_same}
+use Rattle.totem_cert.proofs.Classmates.{class_sym, event_of, waits_same}
 use Rattle.totem_cert.proofs.Lists.{previous}
 use Rattle.totem_cert.proofs.LineFacts.{same_parts, index_of, event_at, entry_event, given_of, numbered_within, within_numbered, past_unnumbered}
 
 -- places whose entries are of one class are in the same class
 pub alike_class : (x y : Entry) (run : List Log) (e f : Place) → AreOfOneClass x y → entry_at run e ≡ Some x → entry_at run f ≡ Some y → SameClass run e f
-alike_class (Conf x ms) (Conf y ns) run e f h at_e at_f = inl (x, (ms, at_e), (ns, rw h at_f))
-alike_class (Deliver m x) (Deliver n y) run e f h at_e at_f = inr (m, (x, at_e), (y, rw h at_f))
-alike_class x y run e f h at_e at_f = absurd h
+alike_class x y run e f h at_e at_f = grind (arith, common_steps)
 
 pub class_alike : (run : List Log) (e f : Place) (x y : Entry) → SameClass run e f → entry_at run e ≡ Some x → entry_at run f ≡ Some y → AreOfOneClass x y
-class_alike run e f x y (inl (c, (ms, a), (ns, b))) at_e at_f =
-    let x_is : x ≡ Conf c ms = cc in let y_is : y ≡ Conf c ns = cc in rw (x_is, y_is) refl
-class_alike run e f x y (inr (m, (c, a), (d, b))) at_e at_f =
-    let x_is : x ≡ Deliver m c = cc in let y_is : y ≡ Deliver m d = cc in rw (x_is, y_is) refl
+class_alike run e f x y h at_e at_f = grind (arith, common_steps)
 
 -- a send of the message that an event delivers
 pub feeds_send : (y x : Entry) (run : List Log) (g e : Place) → AreSendAndDelivery y x → entry_at run g ≡ Some y → entry_at run e ≡ Some x → (m : MsgId) × (c : ConfId) × SendsAt run g m c × DeliversAt run e m
-feeds_send (Send m c s) (Deliver n d) run g e h at_g at_e = (m, c, (s, at_g), (d, rw h at_e))
-feeds_send y x run g e h at_g at_e = absurd h
+feeds_send y x run g e h at_g at_e = grind (arith, common_steps)
 
 pub send_feeds : (y x : Entry) (run : List Log) (g e : Place) (m : MsgId) (c : ConfId) → SendsAt run g m c → DeliversAt run e m → entry_at run g ≡ Some y → entry_at run e ≡ Some x → AreSendAndDelivery y x
 send_feeds y x run g e m c (s, a) (d, b) at_g at_e = let y_is : y ≡ Send m c s = cc in let x_is : x ≡ Deliver m d = cc in rw (y_is, x_is) refl
 
 -- all events of the class of a delivery deliver its message
 pub class_delivers : (run : List Log) (e f : Place) (m : MsgId) → InClass run e f → DeliversAt run f m → DeliversAt run e m
-class_delivers run e f m (inl (_, same)) d = rw same d
-class_delivers run e f m (inr (inl (x, (ms, a), (ns, b)))) (c, d) = absurd cc
-class_delivers run e f m (inr (inr (n, a, b))) d = let same : m ≡ n = one_message run f m n d b in rw same a
+class_delivers run e f m h d = grind (arith, common_steps)
 
 module _ (run : List Log) (lines : List Numbering) (rising : Rising run) (fits : Fits run lines) (k i : ℕ) (x : Entry) (a : IsEntryAt run k i x) where
   -- a class that nothing keeps back is ready

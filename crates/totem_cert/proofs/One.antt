@@ -1,5 +1,6 @@
 -- A run has at most one certificate.
-use Rattle.std.proofs.Common.{below_more, ◌≡◌, ℕ, zero, suc, ◌<◌, inl, inr, List, [], ◌∷◌, Some, Bool, true, false, refl, sym, ◌∙◌, ap, arith}
+use Rattle.std.proofs.lemmas.Grind.{common_steps}
+use Rattle.std.proofs.Common.{below_more, ◌≡◌, ℕ, zero, suc, ◌<◌, inl, inr, List, [], ◌∷◌, Some, Bool, true, false, refl, sym, ◌∙◌, arith}
 use Rattle.std.specs.Prelude.{All, ◌==◌}
 use Rattle.std.proofs.lemmas.Option.{slice_get_within, get_or_from_slice_get}
 use Rattle.std.proofs.lemmas.List.Elements.{All-nil, All-head, All-tail}
@@ -44,8 +45,7 @@ positive lines e k all at = go e.at at
         rw (get_or_from_slice_get (numbers_of lines e.proc) i k 0 h) at p
 
 in_number : (run : List Log) (lines : List Numbering) (e f : Place) → Certified run lines → InClass run e f → number_at lines e ≡ number_at lines f
-in_number run lines e f cert (inl (_, same)) = ap (λ (x : Place). number_at lines x) same
-in_number run lines e f cert (inr same) = cert.shared e f same
+in_number run lines e f cert h = grind (arith, common_steps)
 
 -- what a class waits for has smaller numbers
 pub waits_below : (run : List Log) (lines : List Numbering) (f g : Place) (k : ℕ) → Certified run lines → number_at lines f ≡ Some k → WaitsFor run f g → IsNumberedBelow lines g k

@@ -9,7 +9,7 @@ use Rattle.totem_ids.specs.declared.place.Place.{Place}
 use Rattle.totem_evs.specs.declared.log.Log.{Log}
 use Rattle.totem_evs.specs.Classes.{IsAtMost, InClass}
 use Rattle.totem_evs.specs.ClosedLists.{Step, ComesBack, unless, forward, IsTurned, BeginsLeast}
-use Rattle.totem_cert.proofs.Classmates.{class_self, class_sym, class_trans, event_of}
+use Rattle.totem_cert.proofs.Classmates.{class_self, class_sym, event_of}
 use Rattle.totem_cert.proofs.Walking.{antisym, step_in}
 use Rattle.totem_cert.proofs.Closing.{drop_here}
 
@@ -28,8 +28,7 @@ tail_in : (e f : Place) (es : List Place) → Contains es f → Contains (e ∷ 
 tail_in e f es (k, lt, is) = (suc k, omega arith, is)
 
 in_cases : (e f : Place) (es : List Place) → Contains (e ∷ es) f → (e ≡ f) ⊎ Contains es f
-in_cases e f es (zero, lt, is) = inl is
-in_cases e f es (suc k, lt, is) = inr (k, omega arith, is)
+in_cases e f es h = grind (arith, common_steps)
 
 in_none : (f : Place) → Contains [] f → ⊥
 in_none f (k, lt, is) = omega arith
@@ -127,10 +126,6 @@ unless_distinct : (e p : Place) → IsDistinct (unless e p)
 unless_distinct e p = elim (unless_cases e p) [ inl (_, none) ↦ rw none tt | inr (_, one) ↦ rw one ((λ h. in_none e h), tt) ]
 
 module _ (run : List Log) (start : Place) (xs : List Step) (again : ℕ) (last : Step) (back : ComesBack run start xs again last) where
-  -- steps into one class are one step
-  new : (i j : ℕ) (v w : Step) → slice_get xs i ≡ Some v → slice_get xs j ≡ Some w → InClass run v.to w.to → i ≡ j
-  new i j v w at_v at_w shares = grind (arith, common_steps)
-
   -- e follows the steps from t on in forward order: it is in the class of the step at t, or is where the last step came from
   record Follows (t : ℕ) (e : Place) : Type 0 where
     shares : (w : Step) → slice_get xs t ≡ Some w → InClass run w.to e
@@ -152,9 +147,7 @@ module _ (run : List Log) (start : Place) (xs : List Step) (again : ℕ) (last :
 
   -- what the step at t leads to is not written by later steps
   clash : (t : ℕ) (v : Step) (e : Place) → slice_get xs t ≡ Some v → InClass run v.to e → (e ≡ last.from → again ≡ t → ⊥) → Written (suc t) e → ⊥
-  clash t v e at shares other (inl (i, le, w, at_w, in_w)) = let h = new t i v w at at_w (class_trans run v.to e w.to shares (class_sym run w.to e in_w)) in omega arith
-  clash t v e at shares other (inr same) = other same (new again t back.step v back.at_again at
-      (class_trans run back.step.to last.from v.to back.comes_back (class_sym run v.to last.from (rw same at shares))))
+  clash t v e at shares other h = grind (arith, common_steps)
 
   to_itself : (t : ℕ) (v : Step) → slice_get xs t ≡ Some v → InClass run v.to v.to
   to_itself t v at = let s = step_in run start xs t v back.walk at in class_self run v.to (event_of run s.0 v.to s.1.shares)

@@ -1,4 +1,5 @@
 -- Walks from class to class.
+use Rattle.std.proofs.lemmas.Grind.{common_steps}
 use Rattle.std.proofs.Common.{◌≡◌, ℕ, zero, suc, ◌+◌, ◌-◌, ◌<◌, ◌⊎◌, inl, inr, List, [], ◌∷◌, ◌++◌, length, slice_get, Some, refl, sym, ap, arith}
 use Rattle.std.proofs.lemmas.List.{length_push}
 use Rattle.std.proofs.lemmas.Option.{slice_get_within}
@@ -9,14 +10,10 @@ use Rattle.totem_evs.specs.Classes.{IsAtMost, InClass}
 use Rattle.totem_evs.specs.ClosedLists.{Step, IsLeft, IsStepOf, IsWalk}
 use Rattle.totem_cert.specs.Progress.{IsVisitedAt, IsNotVisited, IsWalking, IsRound}
 use Rattle.totem_cert.proofs.Classmates.{class_sym, class_trans}
-use Rattle.totem_cert.proofs.LineFacts.{same_parts}
 use Rattle.totem_cert.proofs.Lists.{previous, last_at}
 
 pub antisym : (e f : Place) → IsAtMost e f → IsAtMost f e → e ≡ f
-antisym e f (inl a) (inl b) = absurd (omega arith)
-antisym e f (inl a) (inr (p, b)) = absurd (omega arith)
-antisym e f (inr (p, a)) (inl b) = absurd (omega arith)
-antisym e f (inr (p, a)) (inr (q, b)) = same_parts e f.proc f.at p (omega arith)
+antisym e f h h2 = grind (arith, common_steps)
 
 -- a step by its ends
 pub led_to : (v : Step) (e : Place) → v.to ≡ e → v ≡ record { from = v.from; to = e }

@@ -1,4 +1,5 @@
 -- The steps of a round, written in forward order from the least place.
+use Rattle.std.proofs.lemmas.Grind.{common_steps}
 use Rattle.std.proofs.Common.{◌≡◌, ℕ, zero, suc, ◌+◌, ◌-◌, ◌<◌, ◌⊎◌, inl, inr, List, [], ◌∷◌, ◌++◌, length, get_or, take, drop, slice_get, Some, refl, sym, ◌∙◌, ap, arith, length-drop}
 use Rattle.std.proofs.lemmas.List.{take_all}
 use Rattle.std.proofs.lemmas.Option.{slice_get_within, slice_get_read}
@@ -9,10 +10,7 @@ use Rattle.totem_cert.specs.Progress.{StandsBefore, IsForwardFrom, IsLeastUpTo}
 use Rattle.totem_cert.proofs.Closing.{drop_here, get_drop}
 
 pub one_before : (steps : List Step) (again i : ℕ) (p q : Place) → StandsBefore steps again i p → StandsBefore steps again i q → p ≡ q
-one_before steps again i p q (inl (lt, v, at, is)) (inl (lt', w, at', is')) = let same : v ≡ w = cc in is ∙ ap (λ (u : Step). u.from) same ∙ sym is'
-one_before steps again i p q (inl (lt, v, at, is)) (inr (e, w, at', is')) = absurd (omega arith)
-one_before steps again i p q (inr (e, v, at, is)) (inl (lt, w, at', is')) = absurd (omega arith)
-one_before steps again i p q (inr (e, v, at, is)) (inr (e', w, at', is')) = let same : v ≡ w = cc in is ∙ ap (λ (u : Step). u.from) same ∙ sym is'
+one_before steps again i p q h h2 = grind (arith, common_steps)
 
 pub forward_more : (steps : List Step) (again n i : ℕ) (places next : List Place) (p : Place) (v : Step) → IsForwardFrom steps again n places → i ≡ n - 1 → again < n → i < length steps → StandsBefore steps again i p
     → v ≡ get_or steps i v → next ≡ places ++ (v.from ∷ unless v.to p) → IsForwardFrom steps again i next
