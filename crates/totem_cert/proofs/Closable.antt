@@ -17,10 +17,10 @@ use Rattle.totem_cert.proofs.Lists.{at_index}
 
 -- a certificate of that version has a text, and writes the processes of the run
 pub of_text : (version : Version) → IsOfText (certificate_version version)
-of_text h = grind (arith, common_steps)
+of_text version = grind (arith, common_steps)
 
 process_there : (version : Version) (p : ℕ) → IsProcessIn version p → IsProcessIn (certificate_version version) p
-process_there h p is = grind (arith, common_steps)
+process_there version p is = grind (arith, common_steps)
 
 module _ (version : Version) (run : List Log) (lines : List Numbering) (is_run : IsRunIn version run) (sound : IsSound run lines) (full : IsFull run lines) where
   log_at : (k : ℕ) → k < length lines → (log : Log) × (slice_get run k ≡ Some log)

@@ -80,7 +80,7 @@ pub one_return : (run : List Log) (start : Place) (xs : List Step) (i j : ℕ) (
 one_return run start xs i j v w a b = grind (arith, common_steps)
 
 one_spec : (run : List Log) (k l : SpecNo) (a : List Place) → IsBrokenBy run k a → IsBrokenBy run l a → k ≡ l
-one_spec run k l a h h2 = grind (arith, common_steps)
+one_spec run k l a x y = grind (arith, common_steps)
 
 -- two closed lists whose walks start at one event
 from_one : (run : List Log) (start : Place) (k l : SpecNo) (a b : List Place) (x : IsClosedList run k a) (y : IsClosedList run l b) → x.start ≡ start → y.start ≡ start → (k ≡ l) × (a ≡ b)

@@ -112,7 +112,7 @@ linked_of run [] p first next strict = tt
 linked_of run (v ∷ vs) p first next strict = (strict 0 v refl, first v refl, linked_of run vs v.from (λ w at. next 0 v w refl at) (λ i w u at_w at_u. next (suc i) w u at_w at_u) (λ i w at. strict (suc i) w at))
 
 holds_strict : (run : List Log) (f e : Place) → IsEvent run e → HoldsUp run f e → Strict run f e
-holds_strict run f e event h = grind (arith, common_steps)
+holds_strict run f e event holds = grind (arith, common_steps)
 
 -- if no message has two different deliveries in it, each step is one of the first kind
 no_twins : (run : List Log) (e : Place) (es : List Place) (z : Place) → Chain (IsOrderStep run) e es z → (Somewhere (AreTwinDeliveries run) e es z → ⊥) → Chain (IsStep run) e es z

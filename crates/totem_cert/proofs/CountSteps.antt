@@ -17,7 +17,7 @@ use Rattle.totem_cert.proofs.Lists.{set_here, set_other}
 use Rattle.totem_cert.proofs.Sums.{sum_change, sum_millions}
 
 one_most : (o : Option ℕ) (c : ℕ) → one o c ≤ 1
-one_most h c = grind (arith, common_steps)
+one_most o c = grind (arith, common_steps)
 
 -- a log whose head gets its number
 kept_step : (messages head : ℕ) (entries : List Entry) (row : List ℕ) (c : ℕ) → head < length entries → length entries ≡ length row → kept_in messages head entries row c ≡ kept_in messages (suc head) entries row c + passed messages entries row head c

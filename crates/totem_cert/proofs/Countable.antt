@@ -21,7 +21,7 @@ use Rattle.totem_cert.proofs.Classes.{alone_fed, alone_itself, in_class, class_f
 use Rattle.totem_cert.proofs.Sums.{sum_zero, sum_some}
 
 one_some : (o : Option ℕ) (c : ℕ) → 0 < one o c → o ≡ Some c
-one_some h c some = grind (arith, common_steps)
+one_some o c some = grind (arith, common_steps)
 
 one_self : (c : ℕ) → one (Some c) c ≡ 1
 one_self c = elim (one_cases c c) [ inl (same, is) ↦ is | inr (other, is) ↦ absurd (other refl) ]

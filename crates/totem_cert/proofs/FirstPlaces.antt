@@ -44,7 +44,7 @@ pub notes_nothing : (old : List (Option Place)) (e : Place) → Notes old old No
 notes_nothing old e = record { long = refl; each = λ c. inl (refl, λ h none. cc) }
 
 tested : (t : Bool) (c : ℕ) (o : Option ℕ) → cond t o None ≡ Some c → (t ≡ true) × (o ≡ Some c)
-tested h c o is = grind (arith, common_steps)
+tested t c o is = grind (arith, common_steps)
 
 -- what is wanted is late enough
 pub le_parts : (a b c : ℕ) (o : Option ℕ) → (if nat_le a b then o else None) ≡ Some c → (a ≤ b) × (o ≡ Some c)
@@ -58,7 +58,7 @@ before_or_not k i l j = grind arith
 
 -- what comes before the next entry comes before this one, or is it
 past_more : (k i l j : ℕ) → IsPast k (i + 1) l j → IsPast k i l j ⊎ ((l ≡ k) × (j ≡ i))
-past_more k i l j h = grind (arith, common_steps)
+past_more k i l j past = grind (arith, common_steps)
 
 module _ (run : List Log) (table : Table) (lines : List Numbering) (wanted : Wanted) where
   -- one more entry

@@ -36,7 +36,7 @@ send_feeds y x run g e m c (s, a) (d, b) at_g at_e = let y_is : y ≡ Send m c s
 
 -- all events of the class of a delivery deliver its message
 pub class_delivers : (run : List Log) (e f : Place) (m : MsgId) → InClass run e f → DeliversAt run f m → DeliversAt run e m
-class_delivers run e f m h d = grind (arith, common_steps)
+class_delivers run e f m shares d = grind (arith, common_steps)
 
 module _ (run : List Log) (lines : List Numbering) (rising : Rising run) (fits : Fits run lines) (k i : ℕ) (x : Entry) (a : IsEntryAt run k i x) where
   -- a class that nothing keeps back is ready

@@ -45,7 +45,7 @@ positive lines e k all at = go e.at at
         rw (get_or_from_slice_get (numbers_of lines e.proc) i k 0 h) at p
 
 in_number : (run : List Log) (lines : List Numbering) (e f : Place) → Certified run lines → InClass run e f → number_at lines e ≡ number_at lines f
-in_number run lines e f cert h = grind (arith, common_steps)
+in_number run lines e f cert shares = grind (arith, common_steps)
 
 -- what a class waits for has smaller numbers
 pub waits_below : (run : List Log) (lines : List Numbering) (f g : Place) (k : ℕ) → Certified run lines → number_at lines f ≡ Some k → WaitsFor run f g → IsNumberedBelow lines g k

@@ -35,7 +35,7 @@ use Rattle.totem_cert.proofs.Walking.{led_to}
 use Rattle.totem_cert.proofs.LogHeads.{feeds_send, send_feeds, class_delivers, free_ready, option_cases}
 
 strict_event : (run : List Log) (e f : Place) → Strict run e f → IsEvent run e
-strict_event run e f h = grind (arith, common_steps)
+strict_event run e f strict = grind (arith, common_steps)
 
 module _ (run : List Log) (lines : List Numbering) (sound : IsSound run lines) (none : NoneReady run lines) where
   -- what gets a position has got it already

@@ -13,7 +13,7 @@ use Rattle.totem_cert.proofs.Classmates.{class_sym, class_trans}
 use Rattle.totem_cert.proofs.Lists.{previous, last_at}
 
 pub antisym : (e f : Place) → IsAtMost e f → IsAtMost f e → e ≡ f
-antisym e f h h2 = grind (arith, common_steps)
+antisym e f x y = grind (arith, common_steps)
 
 -- a step by its ends
 pub led_to : (v : Step) (e : Place) → v.to ≡ e → v ≡ record { from = v.from; to = e }

@@ -10,7 +10,7 @@ use Rattle.totem_cert.specs.Progress.{StandsBefore, IsForwardFrom, IsLeastUpTo}
 use Rattle.totem_cert.proofs.Closing.{drop_here, get_drop}
 
 pub one_before : (steps : List Step) (again i : ℕ) (p q : Place) → StandsBefore steps again i p → StandsBefore steps again i q → p ≡ q
-one_before steps again i p q h h2 = grind (arith, common_steps)
+one_before steps again i p q before also = grind (arith, common_steps)
 
 pub forward_more : (steps : List Step) (again n i : ℕ) (places next : List Place) (p : Place) (v : Step) → IsForwardFrom steps again n places → i ≡ n - 1 → again < n → i < length steps → StandsBefore steps again i p
     → v ≡ get_or steps i v → next ≡ places ++ (v.from ∷ unless v.to p) → IsForwardFrom steps again i next

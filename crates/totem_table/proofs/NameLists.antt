@@ -1,5 +1,6 @@
 -- Lists of names in ascending order.
-use Rattle.std.proofs.Common.{◌≡◌, ℕ, zero, suc, ◌+◌, ◌≤◌, inl, inr, List, [], ◌∷◌, length, get_or, slice_get, Some, Bool, false, Result, Ok, Err, refl, sym, ap, ◌∙◌, arith, MatchResult}
+use Rattle.std.proofs.lemmas.Grind.{common_steps}
+use Rattle.std.proofs.Common.{◌≡◌, ℕ, zero, suc, ◌+◌, ◌≤◌, inl, inr, List, [], ◌∷◌, length, get_or, slice_get, Some, Bool, false, Result, Ok, Err, sym, ap, ◌∙◌, arith, MatchResult}
 use Rattle.std.specs.Prelude.{Contains, flat_map}
 use Rattle.std.specs.declared.cmp.Ordering.{Ordering}
 use Rattle.std.specs.declared.cmp.Ordering.TheVariants.{Less, Equal, Greater}
@@ -46,9 +47,7 @@ module _ {X : Type 0} (cmp : X → X → Ordering) where
   }
 
   not_less : (o p : Ordering) → p ≡ ordering_reverse o → o ≡ Less → is_lt p ≡ false
-  not_less Less p e h = rw e refl
-  not_less Equal p e h = absurd cc
-  not_less Greater p e h = absurd cc
+  not_less o p e h = grind (arith, common_steps)
 
   sorted_too : IsTotalOrder cmp → (names : List X) → IsStrictlySortedBy cmp names → IsSortedBy (λ x y. is_lt (cmp x y)) names
   sorted_too total names sorted k d low high =

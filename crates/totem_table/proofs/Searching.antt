@@ -1,6 +1,6 @@
 -- Searching a run, event by event.
 use Rattle.std.proofs.lemmas.Grind.{common_steps}
-use Rattle.std.proofs.Common.{below_more, ◌≡◌, ℕ, ◌+◌, ◌<◌, ◌≤◌, ◌⊎◌, inl, inr, List, [], ◌∷◌, length, slice_get, Some, refl, sym, ◌∙◌, ap, arith, Option, None, Result, Ok, Err, IfOk, MatchOption}
+use Rattle.std.proofs.Common.{below_more, ◌≡◌, ℕ, ◌+◌, ◌<◌, ◌≤◌, ◌⊎◌, inl, inr, List, [], ◌∷◌, length, slice_get, Some, refl, sym, ◌∙◌, ap, arith, Option, Result, IfOk, MatchOption}
 use Rattle.std.proofs.lemmas.Option.{slice_get_within}
 use Rattle.totem_ids.specs.declared.place.Place.{Place}
 use Rattle.totem_evs.specs.declared.entry.Entry.{Entry}
@@ -59,6 +59,4 @@ least_here run H k log places rising at here before = record {
 
 -- the result of a search in another form
 pub reworded : {X F : Type 0} (r : Result (Option X) F) (A B : Type 0) (P Q : X → Type 0) → (A → B) → ((x : X) → P x → Q x) → IfOk r (λ found. MatchOption found A P) → IfOk r (λ found. MatchOption found B Q)
-reworded (Err e) A B P Q f g h = tt
-reworded (Ok None) A B P Q f g h = f h
-reworded (Ok (Some x)) A B P Q f g h = g x h
+reworded r A B P Q f g h = grind (arith, common_steps)
