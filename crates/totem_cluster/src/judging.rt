@@ -14,7 +14,7 @@ use totem_audit::Workers;
 use totem_ids::{Sink, Source};
 use totem_verdicts::Outcome;
 
-/// Does the same as `totem_verdicts::audit_io`, with its fault among all faults.
+/// Does the same as `totem_verdicts::audit_io`, but returns its fault as an `IoFault`.
 pub fn audit_io<T: Threads + Wait + Sync, R: Source, W: Sink>(
     rt: &T,
     alloc: Global,
@@ -31,7 +31,7 @@ pub fn audit_io<T: Threads + Wait + Sync, R: Source, W: Sink>(
     }
 }
 
-/// Does the same as `totem_verdicts::check_io`, with its fault among all faults.
+/// Does the same as `totem_verdicts::check_io`, but returns its fault as an `IoFault`.
 pub fn check_io<R: Source, W: Sink>(
     alloc: Global,
     input: &mut R,

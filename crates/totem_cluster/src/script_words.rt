@@ -24,13 +24,13 @@ fn wanted(kind: ScriptFaultKind) -> &'static str {
             "The members of a ring are in ascending order and in no other ring, and the least is its representative. Other commands name processes of the script, and a cut names each of them once."
         }
         ScriptFaultKind::Place => {
-            "Fewer packets are on their way than this number; or the process that is to return has not crashed, or no further life or ring number is left for it."
+            "This number is greater than the number of packets on their way. Or, for `return`: the process has not crashed, or has no life or ring number left."
         }
         ScriptFaultKind::End => "Nothing follows the line `end`.",
         ScriptFaultKind::Truncated =>
             "Each line ends with a line break, and the last one is `end`.",
         ScriptFaultKind::TooMany => {
-            "A script has at most 32 processes, where each life counts, and 65,536 bytes, and a log at most 1,000,000 entries."
+            "A script has at most 32 processes (each life counts as one) and at most 65,536 bytes, and each log has at most 1,000,000 entries."
         }
         ScriptFaultKind::Read | ScriptFaultKind::Memory => "",
     }

@@ -92,7 +92,7 @@ fn weave_option<'a>(alloc: Global) -> Arg<'a> {
         .long("weave")
         .action(ArgAction::SetTrue)
         .help(
-            "Instead of the run, write whether what the threads did on ring 4.1 fits one schedule: if so, its number of steps and the messages that each member delivered to its node; if not, the call that fits no schedule",
+            "Do not write the run. Look for one order (a schedule) of all steps of the threads on ring 4.1, and write its number of steps and the messages that each member delivered to its node; or, if there is none, the call that fits no schedule",
         )
 }
 

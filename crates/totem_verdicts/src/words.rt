@@ -33,8 +33,8 @@ pub enum Words {
 }
 
 const ENDINGS: &str = "\
-Status: 0 yes, or a run was made or a ring woven; 1 no, or (run --weave) a call fits no schedule; 2 the input was refused, or
-(run) a book is full; 3 out of memory; 4 a stream failed; 64 usage error.";
+Status: 0 the verdict is yes, a run was made, or (run --weave) a schedule was found; 1 the verdict is no, or (run --weave) a call fits
+no schedule; 2 the input was refused, or (run) a node's book of calls is full; 3 out of memory; 4 a stream failed; 64 usage error.";
 
 const AUDIT_EXAMPLE: &str = "\
 A log ends with the line `failed` if its last entry is a failure. Other logs end with `open` or, in version 3 of the run text, with
@@ -46,7 +46,7 @@ const EXPLAIN_EXAMPLE: &str = "Example: totem explain < examples/first-no.run";
 const SIM_EXAMPLE: &str = "Example: totem sim < examples/partition-that-heals.script | totem audit";
 
 const CHECK_EXAMPLE: &str = "\
-The certificate is what the report of `totem audit` has from the line `totem-cert` to the line `end`.
+The certificate is the part of `totem audit`'s report from the line that begins with `totem-cert` to the line `end`.
 Example: totem check < examples/first-yes.checked";
 
 fn workers_option<'a>(alloc: Global) -> Arg<'a> {
@@ -56,7 +56,7 @@ fn workers_option<'a>(alloc: Global) -> Arg<'a> {
         .value_parser(ValueParser::Unsigned(1, 64))
         .default_value("1")
         .help(
-            "Number of threads, from 1 to 64, that share the last pass; the output does not depend on it",
+            "Number of threads, from 1 to 64, that share the last pass; the output is the same for any number",
         )
 }
 
@@ -71,7 +71,9 @@ fn svg_option<'a>(alloc: Global) -> Arg<'a> {
     Arg::new(alloc, "svg")
         .long("svg")
         .action(ArgAction::SetTrue)
-        .help("Draw the verdict as an SVG picture, around the first fault if there is one")
+        .help(
+            "Draw the run as an SVG picture; if there is a fault, only the part around the first one",
+        )
 }
 
 fn script_option<'a>(alloc: Global) -> Arg<'a> {
