@@ -8,9 +8,9 @@ ghost use Rattle.totem_pass_ab.specs.Listed.{ListsFirst};
 ghost use Rattle.totem_audit.specs.Early.{IsEarly, ListsEarly};
 
 use std::alloc::{AllocError, Global};
-use totem_cert::{Certificate, Order, positions};
+use totem_order::{Certificate, Order, positions};
 use totem_evs::{Fault, Run};
-use totem_judge::{View, observe};
+use totem_observer::{View, observe};
 use totem_pass_ab::pass_a_and_b;
 use totem_table::Changes;
 

@@ -6,7 +6,7 @@
 //!   (`Answers`, specs/Certifying);
 //! - it is refused memory only if the lines match the logs and are ascending.
 //!
-//! `rises` (specs/Rising) tests a list of numbers; totem_judge uses it, too. This crate uses no table, pass or search of the audit.
+//! `rises` (specs/Rising) tests a list of numbers; totem_observer uses it, too. This crate uses no table, pass or search of the audit.
 #![tactic(auto)]
 
 mod certificate_fault;

@@ -4,7 +4,7 @@ ghost use Rattle.totem_evs.specs.Answers.{HasCertificate};
 ghost use Rattle.totem_evs.specs.Certificates.{Certified};
 ghost use Rattle.totem_table.specs.Changes.{AreChanges};
 ghost use Rattle.totem_traffic_rules.specs.Traffics.{AreTraffic};
-ghost use Rattle.totem_judge.specs.Judged.{IsView};
+ghost use Rattle.totem_observer.specs.Judged.{IsView};
 ghost use Rattle.totem_check.specs.Checks.{HasPassed, IsEarlyFault, Judges, Checks, RefusesRightly, BeginsWith};
 
 use crate::accepted::Accepted;
@@ -13,7 +13,7 @@ use std::alloc::{AllocError, Global};
 use totem_certificate::Certificate;
 use totem_certificate_check::certified;
 use totem_evs::{Fault, Run};
-use totem_judge::{View, observe};
+use totem_observer::{View, observe};
 use totem_pass_ab::pass_a_and_b;
 use totem_pass_d::{Jobs, pass_d_of, pending_of};
 use totem_run_rules::waiting;

@@ -4,8 +4,11 @@
 //! pending and who waits (`Checks`, specs/Checks); a refusal is right (`RefusesRightly`), and `Broken` names the first fault that the
 //! audit would list (`IsFirstFault`). Out of memory says nothing.
 //!
-//! Where totem_certificate_check and totem_judge say yes, so does `check`. If the judge does not, the passes (totem_pass_ab, totem_pass_d)
-//! are asked what is broken; if they found nothing, the answer would be yes all the same, but no such run is known.
+//! What stands under a yes: `certified` of totem_certificate_check, which compares the certificate with the logs; `observe` of
+//! totem_observer, which gathers the traffic of each configuration along the certificate and compares it with the logs; and the
+//! rules of totem_run_rules and totem_traffic_rules, a module for each specification. No search is among them. If they don't say yes, the
+//! passes (totem_pass_ab, totem_pass_d) are asked what is broken; if they found nothing, the answer would be yes all the same, but no such
+//! run is known.
 #![tactic(auto)]
 
 mod accepted;

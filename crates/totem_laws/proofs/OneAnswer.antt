@@ -8,8 +8,8 @@ use Rattle.totem_evs.specs.declared.pending.Pending.{Pending}
 use Rattle.totem_evs.specs.declared.pending.Waiting.{Waiting}
 use Rattle.totem_evs.specs.Certificates.{Numbering}
 use Rattle.totem_evs.specs.Answers.{Yes, No, IsAnswered, Lists, ListsCycle, HasCertificate, ListsConfigurations, pass_a, pass_b}
-use Rattle.totem_cert.proofs.ClosedOne.{closed_one}
-use Rattle.totem_cert.proofs.Excluded.{excluded}
+use Rattle.totem_order.proofs.ClosedOne.{closed_one}
+use Rattle.totem_order.proofs.Excluded.{excluded}
 use Rattle.totem_laws.specs.OneAnswer.{AnswersAreOne}
 use Rattle.totem_laws.proofs.OneList.{pending_one, waiting_one}
 use Rattle.totem_laws.proofs.OneBreak.{passes_one, configurations_one}

@@ -2,7 +2,7 @@
 use crate::texts::{CERTIFICATE, RUN, read};
 use crate::values::is_told;
 use std::alloc::{AllocError, Global};
-use totem_cert::{Certificate, read_cert, write_cert};
+use totem_order::{Certificate, read_cert, write_cert};
 use totem_evs::{Run, WriteFault, read_run, write_run};
 use totem_ids::{FromRead, Fused, ToWrite};
 

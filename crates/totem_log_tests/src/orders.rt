@@ -1,7 +1,7 @@
 //! The rules of a whole run: each says yes to a good run and no to one that breaks it.
 use crate::values::is_told;
 use std::alloc::{AllocError, Global};
-use totem_cert::{Order, positions};
+use totem_order::{Order, positions};
 use totem_evs::{Run, read_run};
 use totem_ids::FromRead;
 use totem_run_rules::{

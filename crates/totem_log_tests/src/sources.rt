@@ -2,7 +2,7 @@
 use crate::texts::{CERTIFICATE, RUN, certificate_told, push_end, run_told};
 use crate::values::is_told;
 use std::alloc::{AllocError, Global};
-use totem_cert::{CertFault, read_cert};
+use totem_order::{CertFault, read_cert};
 use totem_evs::{Next, Part, RunFault, RunReader, read_run};
 use totem_ids::{Buffered, FromRead, Fused, Source};
 

@@ -1,7 +1,7 @@
 //! Runs and certificates that are read, and texts that are refused.
 use crate::values::{is_told, push_lines, push_log};
 use std::alloc::{AllocError, Global};
-use totem_cert::{Certificate, read_cert};
+use totem_order::{Certificate, read_cert};
 use totem_evs::{Run, RunFault, read_end, read_run};
 use totem_ids::{FromRead, Source};
 

@@ -1,7 +1,7 @@
 //! Values as text, and the comparison of a text with the expected one.
 use std::alloc::AllocError;
 use std::process::Abort;
-use totem_cert::Line;
+use totem_order::Line;
 use totem_evs::{Ending, Log};
 use totem_ids::{Proc, WrittenProc};
 

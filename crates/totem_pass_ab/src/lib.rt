@@ -10,23 +10,23 @@
 //! the judge says no, passes A, B and D name what is broken.
 #![tactic(auto)]
 
-mod configuration;
-mod ends;
+mod configuration_2_3;
+mod ends_2_1;
 mod follow;
 mod followed;
 mod forms;
 mod keys;
 mod kinds;
 mod met;
-mod misplaced;
+mod misplaced_2_2;
 mod neighbours;
 mod origins;
 mod pairs;
 mod pass;
 mod repeats;
 mod sendings;
-mod succession;
-mod twice;
-mod unsent;
+mod succession_2_4;
+mod twice_1_4;
+mod unsent_1_3;
 
 pub use pass::{pass_a, pass_a_and_b, pass_b};

@@ -4,7 +4,7 @@ ghost use Rattle.totem_evs.specs.Answers.{Lists, pass_a, pass_b};
 ghost use Rattle.totem_table.specs.Changes.{AreChanges};
 ghost use Rattle.totem_pass_ab.specs.Listed.{ListsFirst};
 
-use crate::{configuration, ends, misplaced, succession, twice, unsent};
+use crate::{configuration_2_3, ends_2_1, misplaced_2_2, succession_2_4, twice_1_4, unsent_1_3};
 use std::alloc::{AllocError, Global};
 use totem_evs::{Fault, Run, SpecNo};
 use totem_table::{Changes, with_found};
@@ -14,16 +14,16 @@ fn pass_a_over(alloc: Global, run: &Run, changes: &Changes) -> Result<Vec<Fault>
     requires { AreChanges run.now.logs changes.now.rows.items }
     ensures { IfOk result (λ faults. Lists run.now.logs pass_a faults.items) }
 {
-    let once = twice::find(alloc, run)?;
+    let once = twice_1_4::find(alloc, run)?;
     let sends = with_found(Vec::new(alloc), SpecNo::Twice, once)?;
-    let last = with_found(sends, SpecNo::End, ends::find(alloc, run)?)?;
-    let places = with_found(last, SpecNo::Misplaced, misplaced::find(alloc, run)?)?;
+    let last = with_found(sends, SpecNo::End, ends_2_1::find(alloc, run)?)?;
+    let places = with_found(last, SpecNo::Misplaced, misplaced_2_2::find(alloc, run)?)?;
     let forms = with_found(
         places,
         SpecNo::Configuration,
-        configuration::find(alloc, run, changes)?,
+        configuration_2_3::find(alloc, run, changes)?,
     )?;
-    with_found(forms, SpecNo::Turns, succession::find(alloc, run, changes)?)
+    with_found(forms, SpecNo::Turns, succession_2_4::find(alloc, run, changes)?)
 }
 
 /// Pass B, given the changes of the run.
@@ -31,7 +31,7 @@ fn pass_b_over(alloc: Global, run: &Run, changes: &Changes) -> Result<Vec<Fault>
     requires { AreChanges run.now.logs changes.now.rows.items }
     ensures { IfOk result (λ faults. Lists run.now.logs pass_b faults.items) }
 {
-    let unsent = unsent::find(alloc, run, changes)?;
+    let unsent = unsent_1_3::find(alloc, run, changes)?;
     with_found(Vec::new(alloc), SpecNo::Unsent, unsent)
 }
 

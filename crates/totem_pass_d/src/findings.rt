@@ -3,11 +3,11 @@ ghost use Rattle.totem_pass_d.specs.Findings.{AreFindings, AreMet};
 ghost use Rattle.totem_pass_d.specs.KnownStays.{AreKnown};
 
 use crate::events::least_event;
-use crate::installed::Uninstalled;
-use crate::own::Undelivered;
-use crate::safety::Unreached;
+use crate::installed_7_2::Uninstalled;
+use crate::own_3::Undelivered;
+use crate::safety_7_1::Unreached;
 use crate::stays::Stays;
-use crate::{atomicity, causality, gap};
+use crate::{atomicity_4, causality_5, gap_6_3};
 use std::alloc::{AllocError, Global};
 use totem_evs::Places;
 use totem_traffic_rules::Shown;
@@ -56,9 +56,9 @@ pub fn findings_in(alloc: Global, stays: &Stays, shown: &Shown) -> Result<Findin
 {
     Ok(Findings {
         own: least_event(&Undelivered { stays }, alloc, stays, shown.own)?,
-        atomicity: atomicity::find(alloc, stays, shown.atomicity)?,
-        causality: causality::find(alloc, stays, shown.causality)?,
-        gap: gap::find(alloc, stays, shown.gap)?,
+        atomicity: atomicity_4::find(alloc, stays, shown.atomicity)?,
+        causality: causality_5::find(alloc, stays, shown.causality)?,
+        gap: gap_6_3::find(alloc, stays, shown.gap)?,
         safety: least_event(&Unreached { stays }, alloc, stays, shown.safety)?,
         installed: least_event(&Uninstalled { stays }, alloc, stays, shown.installed)?,
     })

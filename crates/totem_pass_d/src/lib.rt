@@ -9,20 +9,20 @@
 //! - `pending_of` and `waiting` list exactly what is pending and who waits, in ascending order (`ArePending`, `AreWaiting`).
 #![tactic(auto)]
 
-mod atomicity;
-mod causality;
+mod atomicity_4;
+mod causality_5;
 mod comings;
 mod events;
 mod findings;
-mod gap;
+mod gap_6_3;
 mod indexes;
-mod installed;
+mod installed_7_2;
 mod jobs;
-mod own;
+mod own_3;
 mod pass;
 mod pendings;
 mod row;
-mod safety;
+mod safety_7_1;
 mod search;
 mod stay;
 mod stays;

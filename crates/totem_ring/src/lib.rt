@@ -19,6 +19,7 @@ mod held;
 mod moves;
 mod order;
 mod outcome;
+mod refusal;
 mod requests;
 mod start;
 mod state;

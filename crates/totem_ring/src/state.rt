@@ -1,4 +1,4 @@
-//! A member's state on its ring, and all its steps except the visit of the token. `refusal` says why a message or a token is refused.
+//! A member's state on its ring, and all its steps except the visit of the token. Module `refusal` says why a message or a token is refused.
 ghost use Rattle.std.specs.Prelude.{◌≡◌, ◌==◌, ◌+◌, ◌<◌, ◌++◌, length, position, take, IfOk, IfSome, OnOk, MatchResult, Ok};
 ghost use Rattle.totem_ring.specs.Rings.{same_ring};
 ghost use Rattle.totem_ring.specs.Steps.{kept_after};
@@ -15,7 +15,6 @@ use totem_ids::{ProcId, RingId};
 use totem_packets::{Body, Message, Number, Packet, Token};
 
 mod act;
-mod refusal;
 mod visit;
 
 /// How many bodies may wait at most.
@@ -24,18 +23,18 @@ pub const MOST_WAITING: usize = 16;
 /// One member's state on its ring (docs/PROTOCOL.md, "The ring"). A call that is refused leaves it as it was.
 #[derive(Debug, Drop)]
 pub struct RingState {
-    me: ProcId,
-    ring: RingId,
-    members: Vec<ProcId>,
-    held: Held,
+    pub(crate) me: ProcId,
+    pub(crate) ring: RingId,
+    pub(crate) members: Vec<ProcId>,
+    pub(crate) held: Held,
     handed: u32,
     /// Safe messages up to this number may be delivered to the node.
     safe_to: u32,
     /// The aru of the token when it last left here.
     sent_aru: u32,
     /// The token_seq of the token taken last.
-    last: u64,
-    waiting: Vec<Body>,
+    pub(crate) last: u64,
+    pub(crate) waiting: Vec<Body>,
     /// The token passed on last, as long as there is no sign that it arrived.
     kept: Option<Token>,
 }

@@ -15,8 +15,8 @@ use Rattle.totem_evs.specs.Events.{ChangesWith, log_of}
 use Rattle.totem_evs.specs.Changes.{ChangesNext, TakesTurns, HasOneOrigin}
 use Rattle.totem_evs.proofs.LogOf.{log_of_cases}
 use Rattle.totem_evs.proofs.Pushing.{stands_before, stands_last}
-use Rattle.totem_run_rules.specs.declared.changes.FirstChange.{FirstChange}
-use Rattle.totem_run_rules.specs.declared.changes.FirstChanges.{FirstChanges}
+use Rattle.totem_run_rules.specs.declared.changes_2_3.FirstChange.{FirstChange}
+use Rattle.totem_run_rules.specs.declared.changes_2_3.FirstChanges.{FirstChanges}
 use Rattle.totem_run_rules.specs.Orderly.{ChangesAgree}
 use Rattle.totem_run_rules.specs.Succession.{IsWrongSuccession}
 use Rattle.totem_run_rules.specs.FirstChanges.{conf_order, first_to, IsLastBefore, ComesFrom, IsMet, Keeps, Meets, IsRight, Enters, AreRight, EntersLog}

@@ -19,8 +19,8 @@ use Rattle.totem_evs.specs.declared.entry.Entry.TheVariants.{Send, Deliver}
 use Rattle.totem_evs.specs.declared.log.Log.{Log}
 use Rattle.totem_evs.specs.Events.{log_of}
 use Rattle.totem_evs.proofs.LogOf.{log_of_cases}
-use Rattle.totem_run_rules.specs.declared.once.Once.{Once}
-use Rattle.totem_run_rules.specs.declared.once.Once.TheVariants as once
+use Rattle.totem_run_rules.specs.declared.once_1_4.Once.{Once}
+use Rattle.totem_run_rules.specs.declared.once_1_4.Once.TheVariants as once
 use Rattle.totem_run_rules.specs.Once.{IsNoSendBetween, RisesByOrder, message_in, message_order, messages_in, sent_in}
 use Rattle.totem_run_rules.specs.Orderly.{DeliveriesAreOnce, SendsAreOnce}
 use Rattle.totem_run_rules.proofs.Decisions.{neither_below}

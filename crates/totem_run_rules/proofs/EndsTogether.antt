@@ -14,7 +14,7 @@ use Rattle.totem_evs.specs.Changes.{SharesEnd, EndsTogether}
 use Rattle.totem_evs.specs.ChangeFaults.{EndsAlone, BreaksEnd}
 use Rattle.totem_evs.specs.Answers.{ComesFirst, IsLeastBreak}
 use Rattle.totem_evs.proofs.LogOf.{Rising, log_of_cases, log_of_at, in_order, less_or_not}
-use Rattle.totem_run_rules.specs.declared.ends.LogEnd.{LogEnd}
+use Rattle.totem_run_rules.specs.declared.ends_2_1.LogEnd.{LogEnd}
 use Rattle.totem_run_rules.specs.Ends.{GoesOn, HasNoChange, StandsLast, IsLast, IsLogEnd, LogShares, IsLogOf, HasNoLog, AllShare, SomeStrays, StraysAt, EndsWithAll}
 use Rattle.totem_evs.proofs.Pushing.{Along, along_more}
 use Rattle.totem_run_rules.proofs.Placed.{same_place}

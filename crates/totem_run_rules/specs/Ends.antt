@@ -9,7 +9,7 @@ use Rattle.totem_evs.specs.Events.{ChangesTo, IsChange}
 use Rattle.totem_evs.specs.Following.{IsLastChange, LastChange, NeverFails}
 use Rattle.totem_evs.specs.Changes.{SharesEnd}
 use Rattle.totem_evs.specs.Missing.{HasLog}
-use Rattle.totem_run_rules.specs.declared.ends.LogEnd.{LogEnd}
+use Rattle.totem_run_rules.specs.declared.ends_2_1.LogEnd.{LogEnd}
 
 -- a change to x
 abbrev pub IsChangeTo : Entry → ConfId → Type 0

@@ -9,8 +9,8 @@ use Rattle.totem_evs.specs.declared.entry.Entry.{Entry}
 use Rattle.totem_evs.specs.declared.log.Log.{Log}
 use Rattle.totem_evs.specs.Events.{ChangesWith, IsChange, IsRegular, IsTransitional}
 use Rattle.totem_evs.specs.Changes.{ChangesNext}
-use Rattle.totem_run_rules.specs.declared.changes.FirstChange.{FirstChange}
-use Rattle.totem_run_rules.specs.declared.changes.FirstChanges.{FirstChanges}
+use Rattle.totem_run_rules.specs.declared.changes_2_3.FirstChange.{FirstChange}
+use Rattle.totem_run_rules.specs.declared.changes_2_3.FirstChanges.{FirstChanges}
 use Rattle.totem_run_rules.specs.Succession.{IsWrongSuccession}
 
 -- the order of configurations

@@ -8,8 +8,8 @@ use Rattle.totem_evs.specs.declared.entry.Entry.{Entry}
 use Rattle.totem_evs.specs.declared.entry.Entry.TheVariants.{Conf, Send, Deliver, Fail}
 use Rattle.totem_evs.specs.declared.log.Log.{Log}
 use Rattle.totem_evs.specs.Events.{IsRegular}
-use Rattle.totem_run_rules.specs.declared.once.Once.{Once}
-use Rattle.totem_run_rules.specs.declared.once.Once.TheVariants as once
+use Rattle.totem_run_rules.specs.declared.once_1_4.Once.{Once}
+use Rattle.totem_run_rules.specs.declared.once_1_4.Once.TheVariants as once
 
 -- the order of messages
 abbrev pub message_order : MsgId → MsgId → Ordering

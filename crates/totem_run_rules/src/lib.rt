@@ -10,23 +10,23 @@
 //! - `waiting` lists exactly who waits in a run that meets 1.4 and 2.2 to 2.4, in ascending order (`AreWaiting`), and `in_order` puts
 //!   what is pending in order.
 //!
-//! The passes of the audit use some of these rules, too: totem_pass_ab and totem_pass_d share this crate with totem_judge.
+//! The passes of the audit use some of these rules, too: totem_pass_ab and totem_pass_d share this crate with totem_observer.
 #![tactic(auto)]
 
-mod changes;
-mod ends;
-mod misplaced;
-mod once;
+mod changes_2_3;
+mod ends_2_1;
+mod misplaced_2_2;
+mod once_1_4;
 mod orderly;
 mod standing;
-mod succession;
+mod succession_2_4;
 mod waitings;
 
-pub use changes::changes_agree;
-pub use ends::{end_together, first_end_alone};
-pub use misplaced::{all_stay_in_place, first_misplaced};
-pub use once::{deliveries_are_once, sends_are_once};
+pub use changes_2_3::changes_agree;
+pub use ends_2_1::{end_together, first_end_alone};
+pub use misplaced_2_2::{all_stay_in_place, first_misplaced};
+pub use once_1_4::{deliveries_are_once, sends_are_once};
 pub use orderly::is_orderly;
 pub use standing::has_failed;
-pub use succession::{is_wrong, walk_to_change};
+pub use succession_2_4::{is_wrong, walk_to_change};
 pub use waitings::{in_order, waiting};

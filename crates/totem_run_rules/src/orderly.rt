@@ -4,9 +4,9 @@ ghost use Rattle.std.specs.Bool.{OnTrue};
 ghost use Rattle.totem_evs.specs.Answers.{HasCertificate};
 ghost use Rattle.totem_run_rules.specs.Orderly.{IsOrderly};
 
-use crate::changes::changes_agree;
-use crate::misplaced::all_stay_in_place;
-use crate::once::sends_are_once;
+use crate::changes_2_3::changes_agree;
+use crate::misplaced_2_2::all_stay_in_place;
+use crate::once_1_4::sends_are_once;
 use std::alloc::{AllocError, Global};
 use totem_evs::Run;
 

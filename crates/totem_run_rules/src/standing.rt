@@ -6,7 +6,7 @@ ghost use Rattle.totem_evs.specs.Unsettled.{EndsIn};
 ghost use Rattle.totem_run_rules.specs.Ends.{GoesOn};
 ghost use Rattle.totem_run_rules.specs.Endings.{HasFailed, IsEnd};
 
-use crate::ends;
+use crate::ends_2_1;
 use totem_evs::Entry;
 use totem_ids::ConfId;
 
@@ -30,7 +30,7 @@ pub fn standing_change(log: &[Entry]) -> Option<usize>
     if has_failed(log) {
         return None;
     }
-    ends::last_change(log)
+    ends_2_1::last_change(log)
 }
 
 /// Returns whether the log ends in the configuration: it has no failure, and its last change, at index `last`, is to it.
@@ -39,7 +39,7 @@ pub fn ends_in(log: &[Entry], last: Option<usize>, conf: &ConfId) -> bool
     ensures { IsTrue result ↔ EndsIn log.now conf.now }
 {
     match last {
-        Some(_) => ends::ends_in(log, last, conf),
+        Some(_) => ends_2_1::ends_in(log, last, conf),
         None => false,
     }
 }

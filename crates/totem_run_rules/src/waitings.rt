@@ -5,7 +5,7 @@ ghost use Rattle.totem_evs.specs.Unsettled.{EndsIn, AreWaiting};
 ghost use Rattle.totem_run_rules.specs.Orderly.{IsOrderly};
 ghost use Rattle.totem_run_rules.specs.Endings.{IsEnd, AreEnds, AreWaitingAt, IsInOrder};
 
-use crate::ends::index_of;
+use crate::ends_2_1::index_of;
 use crate::standing::{ends_in, standing_change};
 use std::alloc::{AllocError, Global};
 use totem_evs::{Entry, Pending, Run, Waiting};

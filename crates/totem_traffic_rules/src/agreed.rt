@@ -2,12 +2,12 @@
 ghost use Rattle.std.specs.Bool.{OnTrue};
 ghost use Rattle.totem_traffic_rules.specs.Clean.{AreShown, IsAllShown, IsNoneShown, ShowsAgreement};
 
-use crate::atomicity::atomicity_is_met;
-use crate::causality::causality_is_met;
-use crate::gap::no_gap_is_left;
-use crate::installed::installed_is_met;
-use crate::own::own_delivery_is_met;
-use crate::safety::safety_is_met;
+use crate::atomicity_4::atomicity_is_met;
+use crate::causality_5::causality_is_met;
+use crate::gap_6_3::no_gap_is_left;
+use crate::installed_7_2::installed_is_met;
+use crate::own_3::own_delivery_is_met;
+use crate::safety_7_1::safety_is_met;
 use crate::traffic::Traffic;
 
 /// For each specification of the last pass, whether the traffic of a configuration shows that the run meets it there. Nothing

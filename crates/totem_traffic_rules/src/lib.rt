@@ -11,30 +11,30 @@
 //! - The operations of `LogSet` are those of sets of logs, by their index in the run (`Has`, specs/LogSets).
 //!
 //! `Shown::by` applies the six rules (`AreShown`). Nothing here reads a log: that the traffic is that of a run is proved in
-//! totem_judge, and totem_pass_d spares the searches for what is shown.
+//! totem_observer, and totem_pass_d spares the searches for what is shown.
 #![tactic(auto)]
 
 mod agreed;
-mod atomicity;
-mod causality;
-mod gap;
-mod installed;
+mod atomicity_4;
+mod causality_5;
+mod gap_6_3;
+mod installed_7_2;
 mod log_set;
 mod observed;
-mod own;
+mod own_3;
 mod pending;
 mod rows;
-mod safety;
+mod safety_7_1;
 mod traffic;
 
 pub use agreed::{Shown, is_agreed};
-pub use atomicity::atomicity_is_met;
-pub use causality::causality_is_met;
-pub use gap::no_gap_is_left;
-pub use installed::installed_is_met;
+pub use atomicity_4::atomicity_is_met;
+pub use causality_5::causality_is_met;
+pub use gap_6_3::no_gap_is_left;
+pub use installed_7_2::installed_is_met;
 pub use log_set::LogSet;
 pub use observed::Observed;
-pub use own::own_delivery_is_met;
+pub use own_3::own_delivery_is_met;
 pub use pending::push_pending;
-pub use safety::safety_is_met;
+pub use safety_7_1::safety_is_met;
 pub use traffic::{Following, Got, MemberLogs, Sent, Traffic};

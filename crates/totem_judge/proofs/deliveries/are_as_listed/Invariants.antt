@@ -1,5 +1,0 @@
-use Rattle.totem_judge.specs.Lists.{AreAsListed}
-use Rattle.totem_judge.proofs.deliveries.are_as_listed.Given as goal
-
-abbrev pub invariant-loop-at : goal.invariant-loop-at
-invariant-loop-at l = AreAsListed l.entries l.numbers l.gathered l.stay l.at l.got

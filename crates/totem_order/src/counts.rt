@@ -1,0 +1,153 @@
+//! Counts the entries that keep each class of a run from being ready: entries of the class after the first entry of their log without a
+//! number, and sends without a number. The classes are numbered as in a table, those of messages before those of configurations.
+ghost use Rattle.std.specs.Prelude.{◌≡◌, ◌+◌, ◌<◌, ◌≤◌, ◌^◌, IfOk, OnOk, Some, length, map, slice_get, slice_index_or};
+ghost use Rattle.totem_table.specs.Tables.{IsTable};
+ghost use Rattle.totem_order.specs.Progress.{empty_line};
+ghost use Rattle.totem_order.specs.Counts.{Adds, AtMost, Counts, CountsTo, HasHead, Pushes, Takes, class_fed, class_in, kept_in, one, passed, shared_by};
+
+use std::alloc::{AllocError, Global};
+use totem_certificate::OpenLine;
+use totem_evs::{Entry, Log, Run};
+use totem_table::Table;
+
+/// Returns the class that a send feeds, or `None` for any other entry.
+pub fn class_fed(entry: &Entry, number: u32) -> Option<usize>
+    ensures { result ≡ class_fed entry.now number }
+{
+    match entry {
+        Entry::Send(_, _, _) => Some(number as usize),
+        _ => None,
+    }
+}
+
+/// Returns the class of an entry, or `None` if it is alone in its class. The table has the given number of `messages`.
+pub fn class_in(messages: usize, entry: &Entry, number: u32) -> Option<usize>
+    requires { messages < 2 ^ 63 }
+    ensures { result ≡ class_in messages entry.now number }
+{
+    match entry {
+        Entry::Conf(_, _) => Some(messages + number as usize),
+        Entry::Deliver(_, _) => Some(number as usize),
+        _ => None,
+    }
+}
+
+/// Adds one to the count of a class.
+#[tactic(auto, using(crate::proofs::CountingOne::adds_one, crate::proofs::CountingOne::adds_past, crate::proofs::CountingOne::adds_nothing))]
+fn add(counts: &mut [u32], class: Option<usize>)
+    requires { AtMost counts.old 100000000 }
+    ensures { Adds counts.old counts.new (one class) }
+{
+    let Some(class) = class else {
+        return;
+    };
+    if class < counts.len() {
+        counts[class] += 1;
+    }
+}
+
+/// Takes one from the count of a class.
+#[tactic(auto, using(crate::proofs::CountingOne::takes_one, crate::proofs::CountingOne::takes_past, crate::proofs::CountingOne::takes_nothing))]
+fn take(counts: &mut [u32], class: Option<usize>)
+    ensures { Takes counts.old counts.new (one class) }
+{
+    let Some(class) = class else {
+        return;
+    };
+    if class < counts.len() {
+        counts[class] = counts[class].saturating_sub(1);
+    }
+}
+
+/// Returns the class of the entry at an index, or `None` if there is no entry or it is alone in its class.
+pub fn class_next(messages: usize, entries: &[Entry], row: &[u32], next: usize) -> Option<usize>
+    requires messages { messages < 2 ^ 63 }
+    requires long { length entries.now ≡ length row.now }
+    ensures { result ≡ shared_by messages (slice_get entries.now next) (slice_index_or row.now next 0) }
+{
+    if next < entries.len() {
+        class_in(messages, &entries[next], row[next])
+    } else {
+        None
+    }
+}
+
+/// Counts the classes that the entries of a log keep from being ready. None of the entries has a number.
+fn count_log(counts: &mut [u32], messages: usize, entries: &[Entry], row: &[u32])
+    requires messages { messages < 2 ^ 63 }
+    requires few { AtMost counts.old 62000000 }
+    requires short { length entries.now ≤ 1000000 }
+    requires long { length entries.now ≡ length row.now }
+    ensures { Adds counts.old counts.new (kept_in messages 0 entries.now row.now) }
+{
+    for (at, entry) in entries.iter().enumerate() {
+        add(counts, class_fed(entry, row[at]));
+        add(counts, class_in(messages, entry, row[at]));
+    }
+    take(counts, class_next(messages, entries, row, 0));
+}
+
+/// Counts the classes that the entries of each log keep from being ready. None of the entries has a number.
+fn count_logs(counts: &mut [u32], run: &Run, table: &Table)
+    requires table { IsTable run.now.logs table.now }
+    requires none { CountsTo run.now.logs table.now (map empty_line run.now.logs) counts.old 0 }
+    ensures { Counts run.now.logs table.now (map empty_line run.now.logs) counts.new }
+{
+    let messages = table.messages.len();
+    for (k, log) in run.logs.as_slice().iter().enumerate() {
+        let row = table.rows[k].as_slice();
+        count_log(counts, messages, log.entries.as_slice(), row);
+    }
+}
+
+/// Returns for each class how many entries keep it from being ready, if no entry has a number.
+pub fn count_all(alloc: Global, run: &Run, table: &Table) -> Result<Vec<u32>, AllocError>
+    requires { IsTable run.now.logs table.now }
+    ensures { IfOk result (λ counts. Counts run.now.logs table.now (map empty_line run.now.logs) counts.items) }
+{
+    let classes = table.messages.len() + table.confs.len();
+    let mut counts = vec![in alloc; 0u32; classes]?;
+    count_logs(&mut counts, run, table);
+    Ok(counts)
+}
+
+/// Updates the counts for the entry at `head`, which gets its number.
+fn advance(counts: &mut [u32], messages: usize, entries: &[Entry], row: &[u32], head: usize)
+    requires messages { messages < 2 ^ 63 }
+    requires head { head < length entries.now }
+    requires long { length entries.now ≡ length row.now }
+    ensures { Takes counts.old counts.new (passed messages entries.now row.now head) }
+{
+    take(counts, class_fed(&entries[head], row[head]));
+    take(counts, class_next(messages, entries, row, head + 1));
+}
+
+/// Gives the head of a log its number.
+pub fn number_head(
+    run: &Run,
+    table: &Table,
+    lines: &mut Vec<OpenLine>,
+    counts: &mut [u32],
+    k: usize,
+    log: &Log,
+    number: u32,
+) -> Result<(), AllocError>
+    requires table { IsTable run.now.logs table.now }
+    requires counts { Counts run.now.logs table.now lines.old.items counts.old }
+    requires log { slice_get run.now.logs k ≡ Some log.now }
+    requires head { HasHead log.now lines.old.items k }
+    ensures pushes { OnOk result (Pushes lines.old.items lines.new.items k number) }
+    ensures counts { OnOk result (Counts run.now.logs table.now lines.new.items counts.new) }
+{
+    let entries = log.entries.as_slice();
+    let head = lines[k].numbers().len();
+    lines[k].push(number)?;
+    advance(
+        counts,
+        table.messages.len(),
+        entries,
+        table.rows[k].as_slice(),
+        head,
+    );
+    Ok(())
+}

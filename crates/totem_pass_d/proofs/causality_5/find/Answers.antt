@@ -1,0 +1,11 @@
+use Rattle.totem_evs.specs.declared.spec.SpecNo.TheVariants as spec
+use Rattle.totem_pass_d.proofs.Facts.{facts_of}
+use Rattle.totem_pass_d.proofs.Searching.{answered}
+use Rattle.totem_pass_d.proofs.CausalityFaults.{causes_begin, causal}
+use Rattle.totem_pass_d.proofs.causality_5.find.Goals as goal
+
+pub least_found-requires-clause-begins : goal.least_found-requires-clause-begins
+least_found-requires-clause-begins c = causes_begin _ _ _ (facts_of c.args.stays.now c.requires.known)
+
+pub returns : goal.returns
+returns c = answered c.least_found.result c.args.stays.now.run.now.logs c.args.stays.now.ring spec.Causality (causal _ _) c.least_found.ensures

@@ -1,6 +1,0 @@
-use Rattle.totem_evs.proofs.Pushing.{Along}
-use Rattle.totem_pass_d.proofs.GapFaults.{IsLast}
-use Rattle.totem_pass_d.proofs.gap.lasts_of.Given as goal
-
-abbrev pub invariant-loop-follower : goal.invariant-loop-follower
-invariant-loop-follower l = Along (IsLast l.stays.run.now.logs l.stays.ring l.leader.proc) l.stays.list.items l.lasts.items l.follower-index

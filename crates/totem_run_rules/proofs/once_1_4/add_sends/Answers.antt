@@ -1,0 +1,12 @@
+use Rattle.std.proofs.Common.{arith}
+use Rattle.std.proofs.lemmas.Grind.{common_steps}
+use Rattle.std.proofs.lemmas.List.Elements.{AllWithin-more, at_read, filter_map-append}
+use Rattle.totem_run_rules.specs.Once.{IsNoSendBetween}
+use Rattle.totem_run_rules.proofs.once_1_4.add_sends.Goals as goal
+
+pub loop-entry-preserved : goal.loop-entry-preserved
+loop-entry-preserved c = (
+  grind (arith, common_steps, filter_map-append),
+  AllWithin-more IsNoSendBetween c.args.entries.now 0 _ c.loop-entry.invariant.1
+      (at_read c.args.entries.now IsNoSendBetween _ c.entry-item.result c.loop-entry-test.true c.entry-item.is (rw c.if-not-is_regular.false at c.is_regular.ensures)),
+)
