@@ -17,7 +17,7 @@ use crate::workers::Workers;
 use std::alloc::{AllocError, Global};
 use std::sync::Wait;
 use std::thread::Threads;
-use totem_order::Certificate;
+use totem_certificate::Certificate;
 use totem_evs::{Fault, Pending, Run};
 use totem_observer::View;
 use totem_pass_d::{Jobs, pass_d_of, pending_of, waiting};

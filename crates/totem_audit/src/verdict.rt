@@ -3,7 +3,7 @@ ghost use Rattle.totem_ids.specs.declared.version.Version.{Version};
 ghost use Rattle.totem_audit.specs.Verdicts.{answer_of, HasVersion};
 
 use std::alloc::{AllocError, Global};
-use totem_order::Certificate;
+use totem_certificate::Certificate;
 use totem_evs::{Fault, Pending, Waiting};
 
 /// The verdict of the audit on a run (docs/SPECIFICATIONS.md, "Passes").

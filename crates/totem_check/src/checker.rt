@@ -1,4 +1,4 @@
-//! The checker of runs and certificates.
+//! The checker of runs and certificates. The crate's root file says what stands under its yes.
 ghost use Rattle.std.specs.Prelude.{IfOk};
 ghost use Rattle.totem_evs.specs.Answers.{HasCertificate};
 ghost use Rattle.totem_evs.specs.Certificates.{Certified};

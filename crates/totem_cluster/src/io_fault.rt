@@ -2,7 +2,7 @@ ghost use Rattle.std.specs.Prelude.{◌≡◌};
 ghost use Rattle.totem_cluster.specs.IoFaults.{io_number, io_name, verdict_io_fault, write_io_fault, threads_io_fault};
 
 use thiserror::Error;
-use totem_order::CertFault;
+use totem_certificate::CertFault;
 use totem_check::CheckFault;
 use totem_evs::{RunFault, WriteFault};
 use totem_script::ScriptFault;

@@ -7,7 +7,7 @@ ghost use Rattle.totem_cluster.specs.declared.io_fault.IoFault.TheVariants.{Book
 ghost use Rattle.totem_cluster.specs.Endings.{script_line, fault_line, script_status, fault_status};
 
 use crate::io_fault::IoFault;
-use totem_order::CertFault;
+use totem_certificate::CertFault;
 use totem_evs::RunFault;
 use totem_ids::{Failed, Sink};
 use totem_script::{ScriptFault, ScriptFaultKind};

@@ -28,7 +28,7 @@ mod messages;
 mod node_core;
 mod outcome;
 mod recovering;
-mod refusal;
+mod refusing;
 mod reporting;
 mod ring_step;
 mod state;

@@ -1,4 +1,6 @@
 //! 2.4: regular and transitional configurations alternate (docs/SPECIFICATIONS.md, "2 Changes of configuration").
+//!
+//! This is the search, which names what breaks it. A yes comes from the rule, totem_run_rules `succession_2_4` and `changes_2_3`.
 ghost use Rattle.std.specs.Prelude.{◌≡◌, ◌↔◌, ℕ, ◌<◌, IsTrue, IfOk, MatchOption, length};
 ghost use Rattle.totem_evs.specs.Events.{log_of, IsChange, IsTransitional};
 ghost use Rattle.totem_evs.specs.ChangeFaults.{BeginsTransitional};

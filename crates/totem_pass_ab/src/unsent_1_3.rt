@@ -1,4 +1,6 @@
 //! 1.3: a message that is delivered was sent for its configuration (docs/SPECIFICATIONS.md, "1 Basic delivery").
+//!
+//! This is the search, which names what breaks it. A yes comes from the rule, totem_observer `deliveries` and `sends`.
 ghost use Rattle.std.specs.Prelude.{◌≡◌, ◌↔◌, ◌<◌, IsTrue, IfOk, MatchOption, length};
 ghost use Rattle.std.specs.Bool.{OnTrue};
 ghost use Rattle.totem_evs.specs.Events.{log_of, WasSentIn};

@@ -19,7 +19,7 @@ mod held;
 mod moves;
 mod order;
 mod outcome;
-mod refusal;
+mod refusing;
 mod requests;
 mod start;
 mod state;

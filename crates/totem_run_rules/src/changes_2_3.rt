@@ -1,4 +1,4 @@
-//! 2.3: each configuration has one list of members, in which each process that changes to it is; and 2.4, by `succession`, on the same
+//! 2.3: each configuration has one list of members, in which each process that changes to it is; and 2.4, by `succession_2_4`, on the same
 //! walk along the changes (docs/SPECIFICATIONS.md, "2 Changes of configuration").
 ghost use Rattle.std.specs.Prelude.{◌≡◌, ◌<◌, IfOk, length};
 ghost use Rattle.std.specs.Bool.{OnTrue};

@@ -1,5 +1,5 @@
 //! 2.4: regular and transitional configurations alternate, the first is regular, and from which ring a log comes to each. That all
-//! logs come to it from one ring is for `changes` to test (docs/SPECIFICATIONS.md, "2 Changes of configuration").
+//! logs come to it from one ring is for `changes_2_3` to test (docs/SPECIFICATIONS.md, "2 Changes of configuration").
 ghost use Rattle.std.specs.Prelude.{◌≡◌, ◌↔◌, ◌<◌, All, Contains, IfSome, IsTrue, length};
 ghost use Rattle.totem_ids.specs.declared.conf.ConfId.TheVariants.{Regular};
 ghost use Rattle.totem_evs.specs.Following.{IsNextOrEnd};

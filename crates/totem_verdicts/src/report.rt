@@ -14,7 +14,7 @@ ghost use Rattle.totem_verdicts.specs.Report.{no_text, report_text, accepted_tex
 use crate::left_open::put_yes;
 use std::alloc::Global;
 use totem_audit::Verdict;
-use totem_order::put_cert;
+use totem_certificate::put_cert;
 use totem_check::Accepted;
 use totem_evs::{Fault, SpecNo, WriteFault};
 use totem_ids::{Failed, Pieces, Place, Sink, Version};

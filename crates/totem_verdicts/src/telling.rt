@@ -5,7 +5,7 @@ ghost use Rattle.totem_ids.specs.Writing.{Writes};
 ghost use Rattle.totem_verdicts.specs.Endings.{Tells, bare, refusal_text, missing_text, run_line, cert_line, check_line, fault_line, fault_status};
 
 use crate::verdict_fault::VerdictFault;
-use totem_order::CertFault;
+use totem_certificate::CertFault;
 use totem_check::CheckFault;
 use totem_evs::RunFault;
 use totem_ids::{Failed, Sink, WrittenProc};

@@ -2,7 +2,7 @@ ghost use Rattle.std.specs.Prelude.{◌≡◌};
 ghost use Rattle.totem_verdicts.specs.VerdictFaults.{run_verdict_fault, cert_verdict_fault, write_verdict_fault};
 
 use thiserror::Error;
-use totem_order::CertFault;
+use totem_certificate::CertFault;
 use totem_check::CheckFault;
 use totem_evs::{RunFault, WriteFault};
 

@@ -1,4 +1,4 @@
-//! Why a member refuses a message or a token (docs/PROTOCOL.md, "The ring").
+//! Decides whether a member refuses a message or a token, and why (docs/PROTOCOL.md, "The ring").
 ghost use Rattle.std.specs.Prelude.{◌≡◌};
 ghost use Rattle.totem_ring.specs.Refusals.{is_none_or_member, is_above};
 
