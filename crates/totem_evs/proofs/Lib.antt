@@ -32,6 +32,7 @@ pub mod SpelledHeads
 pub mod SpelledRun
 pub mod SteadyRun
 pub mod ReaderSteps
+pub mod LineStarting
 pub mod OnlyFaults
 pub mod PartFaults
 pub mod MembersFaults

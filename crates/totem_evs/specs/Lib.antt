@@ -31,6 +31,7 @@ pub mod Examples
 pub mod ExampleClaims
 pub mod Heads
 pub mod RunGrammar
+pub mod LineStarts
 pub mod TextFronts
 pub mod Missing
 pub mod NextLines

@@ -35,6 +35,7 @@ mod part_laws;
 mod part_reader;
 mod pending;
 mod reading;
+mod repeats;
 mod run;
 mod run_fault;
 mod run_reader;

@@ -1,7 +1,9 @@
 //! Reads the parts of a run, one after the other.
-ghost use Rattle.std.specs.Prelude.{◌≡◌, ℕ, ◌↔◌, ◌⊎◌, Contains, Some, IsTrue, IfOk, OnOk};
+ghost use Rattle.std.specs.Prelude.{◌≡◌, ℕ, ◌↔◌, ◌⊎◌, ◌==◌, Contains, Some, IsTrue, IfOk, OnOk, nat_lt};
 ghost use Rattle.totem_ids.specs.Sources.{Reads, seen};
 ghost use Rattle.totem_evs.specs.Endings.{writes_quiet};
+ghost use Rattle.totem_evs.specs.NextLines.{FollowsIn};
+ghost use Rattle.totem_evs.specs.RunGrammar.{line_at};
 ghost use Rattle.totem_evs.specs.Parts.{begun_at, within_at, part_at};
 ghost use Rattle.totem_evs.specs.ReadState.{ComesBetween, ComesWithin, MayCome};
 
@@ -11,6 +13,7 @@ use crate::form::RunText;
 use crate::heads::read_head;
 use crate::lines::{Line, read_line};
 use crate::part::Part;
+use crate::repeats::Repeats;
 use crate::run_fault::RunFault;
 use crate::stage::{OpenLog, Stage};
 use crate::unlogged::Unlogged;
@@ -40,6 +43,28 @@ fn read_between<S: Source>(
     }
 }
 
+// Reads the next line of a log that has not ended, at once if it repeats.
+fn read_next<S: Source>(
+    alloc: Global,
+    source: &mut S,
+    version: Version,
+    log: OpenLog,
+    repeats: &mut Repeats,
+) -> Result<Line, ReadError>
+    ensures read { Reads (seen S.remaining S.failures source.old)
+        (seen S.remaining S.failures source.new) result (line_at version (log.entries == 1000000) (nat_lt 0 log.entries) log.failed) }
+    ensures follows { IfOk result (FollowsIn (writes_quiet version) log) }
+{
+    if log.is_full() {
+        return read_line(alloc, source, version, log);
+    }
+    if let Some(entry) = repeats.take(source) {
+        return Ok(Line::Entry(entry));
+    }
+    repeats.note(alloc, source.at_hand())?;
+    read_line(alloc, source, version, log)
+}
+
 // Reads the next line of a log that has not ended: an entry, or its end.
 #[tactic(auto, using(crate::proofs::ReaderSteps::reader_steps), unfolding(crate::specs::Parts::within_at))]
 fn read_within<S: Source>(
@@ -47,12 +72,13 @@ fn read_within<S: Source>(
     source: &mut S,
     version: Version,
     log: OpenLog,
+    repeats: &mut Repeats,
 ) -> Result<Option<Part>, ReadError>
     ensures read { Reads (seen S.remaining S.failures source.old)
         (seen S.remaining S.failures source.new) result (within_at version log.entries log.failed) }
     ensures comes { IfOk result (ComesWithin (writes_quiet version) log.entries log.failed) }
 {
-    let line = read_line(alloc, source, version, log)?;
+    let line = read_next(alloc, source, version, log, repeats)?;
     match line {
         Line::Close(ending) => Ok(Some(Part::Close(ending))),
         Line::Entry(entry) => Ok(Some(Part::Entry(entry))),
@@ -64,6 +90,7 @@ fn read_part<S: Source>(
     alloc: Global,
     source: &mut S,
     stage: Stage,
+    repeats: &mut Repeats,
 ) -> Result<Option<Part>, ReadError>
     ensures read { Reads (seen S.remaining S.failures source.old)
         (seen S.remaining S.failures source.new) result (part_at stage) }
@@ -71,16 +98,17 @@ fn read_part<S: Source>(
 {
     match stage.log {
         None => read_between(source, stage.version, stage.logs, stage.last),
-        Some(log) => read_within(alloc, source, stage.version, log),
+        Some(log) => read_within(alloc, source, stage.version, log, repeats),
     }
 }
 
-/// How far a run has been read, the processes whose logs have begun, and the members that have no log yet.
+/// How far a run has been read, the processes whose logs have begun, the members that have no log yet, and how lines repeat.
 #[derive(Drop)]
 pub struct PartReader {
     pub stage: Stage,
     pub begun: Vec<Proc>,
     pub waiting: Unlogged,
+    pub repeats: Repeats,
 }
 
 impl Model for PartReader {
@@ -124,6 +152,7 @@ impl PartReader {
             stage: Stage::first(version),
             begun: Vec::new(alloc),
             waiting: Unlogged::new(alloc),
+            repeats: Repeats::new(alloc),
         }
     }
 
@@ -186,7 +215,7 @@ impl PartReader {
             (seen S.remaining S.failures source.new) self.old self.new result }
         ensures limits { IfOk result (λ part. IsReadState self.new) }
     {
-        match read_part(alloc, source, self.stage)? {
+        match read_part(alloc, source, self.stage, &mut self.repeats)? {
             None => match self.waiting.least() {
                 None => Ok(None),
                 Some(proc) => Err(RunFault::MissingLog(proc.written(self.stage.version))),

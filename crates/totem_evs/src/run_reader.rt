@@ -73,6 +73,7 @@ impl fmt::Debug for RunReader {
             stage,
             begun,
             waiting,
+            repeats: _,
         } = &self.parts;
         write!(f, "RunReader({stage:?}, {begun:?}, {waiting:?})")
     }

@@ -63,7 +63,7 @@ pub use process_laws::{
     life_fits, life_order, life_spelling, place_fits, place_spelling, service_spelling,
 };
 pub use processes::{read_place, read_process, read_process_to};
-pub use reading::{next, number, number_to, read_proc, word};
+pub use reading::{next, number, number_to, number_within, read_proc, word};
 pub use refused::{ListFault, Refused};
 pub use ring::RingId;
 pub use services::read_service;

@@ -79,9 +79,10 @@ fn begins_number(byte: u8) -> bool
     is_digit(byte) && byte != b'0'
 }
 
-// Returns the number from 1 to `max` that these bytes begin with, the byte after it, and how many bytes the two take. Returns
-// `None` if the bytes begin with no such number, or end before it does.
-fn number_within(bytes: &[u8], max: u32) -> Option<(u32, u8, usize)>
+/// Returns the number from 1 to `max` with which these bytes begin, the byte after it, and how many bytes the two take. Returns
+/// `None` if the bytes begin with no such number, or end before it does.
+#[inline]
+pub fn number_within(bytes: &[u8], max: u32) -> Option<(u32, u8, usize)>
     requires { 9 ≤ max }
     ensures number { IfSome result (λ n. Settles (number_at max) (take n.2 bytes.now) (n.0, n.1)) }
     ensures count { IfSome result (λ n. n.2 ≤ length bytes.now) }
