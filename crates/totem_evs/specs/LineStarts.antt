@@ -1,16 +1,40 @@
--- What the line of a delivery begins with (docs/SPECIFICATIONS.md, "Run text").
-use Rattle.std.specs.Prelude.{List, ℕ, codes, Ok}
+-- What the line of a send or a delivery has before the number of its message (docs/SPECIFICATIONS.md, "Run text").
+use Rattle.std.specs.Prelude.{List, ℕ, codes, Ok, Err, ◌==◌, if◌then◌else◌}
 use Rattle.totem_ids.specs.declared.fault.TextFault.TheVariants as faults
-use Rattle.totem_ids.specs.declared.conf.ConfId.{ConfId}
-use Rattle.totem_ids.specs.Names.{RingName}
 use Rattle.totem_ids.specs.Sources.{Parsed, ◌>>=◌}
-use Rattle.totem_ids.specs.Numbers.{word_at}
+use Rattle.totem_ids.specs.Numbers.{byte_at, word_at}
 use Rattle.totem_ids.specs.Parsers.{conf_at, ring_at}
+use Rattle.totem_ids.specs.Services.{service_at}
+use Rattle.totem_evs.specs.declared.entry.Entry.{Entry}
+use Rattle.totem_evs.specs.declared.entry.Entry.TheVariants as entries
+use Rattle.totem_evs.specs.declared.repeats.Said.{Said}
+use Rattle.totem_evs.specs.declared.repeats.Said.TheVariants.{Send, Deliver}
 
--- all before the number of the message
-unfoldable pub start_at : List ℕ → Parsed (ConfId × RingName)
-start_at bytes = do
-  w ← word_at faults.Word (codes "dlv ") bytes
+-- a send, after its first letter
+unfoldable pub send_start : List ℕ → Parsed Said
+send_start bytes = do
+  w ← word_at faults.Word (codes "end ") bytes
+  x ← conf_at 32 w.1
+  service ← service_at x.1
+  space ← word_at faults.Word (codes " ") service.1
+  ring ← ring_at 35 space.1
+  Ok (Send x.0 service.0 ring.0, ring.1)
+
+-- a delivery, after its first letter
+unfoldable pub delivery_start : List ℕ → Parsed Said
+delivery_start bytes = do
+  w ← word_at faults.Word (codes "lv ") bytes
   x ← conf_at 32 w.1
   ring ← ring_at 35 x.1
-  Ok ((x.0, ring.0), ring.1)
+  Ok (Deliver x.0 ring.0, ring.1)
+
+-- one or the other
+unfoldable pub start_at : List ℕ → Parsed Said
+start_at bytes = do
+  b ← byte_at bytes
+  if b.0 == 115 then send_start b.1 else if b.0 == 100 then delivery_start b.1 else Err faults.Word
+
+-- the entry of such a line, with the number of its message
+abbrev pub entry_of : Said → ℕ → Entry
+entry_of (Send x service ring) n = entries.Send (record { ring = ring; number = n }) x service
+entry_of (Deliver x ring) n = entries.Deliver (record { ring = ring; number = n }) x

@@ -1,58 +1,103 @@
-//! Lines of deliveries that differ from the one before only in the number of their message, as most lines of a log do. They are read at
-//! once, by what they begin with.
-ghost use Rattle.std.specs.Prelude.{◌≤◌, Ok, Bool, IfSome, MatchOption, false, length, take};
+//! Lines of sends and deliveries that differ from the one before only in the number of their message, as most lines of a log do. They are
+//! read at once, by what they begin with.
+ghost use Rattle.std.specs.Prelude.{◌≡◌, ◌<◌, ◌≤◌, Ok, Bool, IfSome, MatchOption, false, length, take};
 ghost use Rattle.totem_ids.specs.Sources.{Comes, Reads, Settles, seen};
 ghost use Rattle.totem_ids.specs.declared.version.Version.{Version};
-ghost use Rattle.totem_evs.specs.declared.entry.Entry.TheVariants as entries;
 ghost use Rattle.totem_evs.specs.declared.lines.Line.TheVariants as lines;
 ghost use Rattle.totem_evs.specs.RunGrammar.{line_at};
-ghost use Rattle.totem_evs.specs.LineStarts.{start_at};
+ghost use Rattle.totem_evs.specs.LineStarts.{start_at, send_start, delivery_start, entry_of};
 
 use crate::entry::Entry;
 use std::alloc::{AllocError, Global};
 use totem_ids::{
-    ConfId, FromRead, MsgId, ReadError, RingId, Source, TextFault, number_within, read_conf,
-    read_ring, word,
+    ConfId, FromRead, MsgId, ReadError, RingId, Service, Source, TextFault, next, number_within,
+    read_conf, read_ring, read_service, word,
 };
 
 /// How many bytes a start has at most.
 const LONGEST: usize = 48;
 
-/// What the line of a delivery has before the number of its message, as in `dlv r4.1 4.1#`.
-#[derive(Drop)]
-struct Start {
-    conf: ConfId,
-    ring: RingId,
-    text: Vec<u8>,
-    ghost spelled: { Settles start_at text.items (conf, ring) },
+/// What the line of a send or a delivery says before the number of its message.
+#[derive(Clone, Copy)]
+enum Said {
+    Send(ConfId, Service, RingId),
+    Deliver(ConfId, RingId),
 }
 
-// Reads the start of a delivery's line.
+/// What the line of a send or a delivery has before the number of its message, as in `dlv r4.1 4.1#`.
+#[derive(Drop)]
+struct Start {
+    said: Said,
+    text: Vec<u8>,
+    ghost spelled: { Settles start_at text.items said },
+}
+
+#[tactic(auto, using(crate::proofs::ReaderSteps::reader_steps), unfolding(crate::specs::LineStarts::send_start))]
+fn read_send<S: Source>(source: &mut S) -> Result<Said, ReadError>
+    ensures { Reads (seen S.remaining S.failures source.old)
+        (seen S.remaining S.failures source.new) result send_start }
+{
+    word(source, b"end ", TextFault::Word)?;
+    let conf = read_conf(source, b' ')?;
+    let service = read_service(source)?;
+    word(source, b" ", TextFault::Word)?;
+    let ring = read_ring(source, b'#')?;
+    Ok(Said::Send(conf, service, ring))
+}
+
+#[tactic(auto, using(crate::proofs::ReaderSteps::reader_steps), unfolding(crate::specs::LineStarts::delivery_start))]
+fn read_delivery<S: Source>(source: &mut S) -> Result<Said, ReadError>
+    ensures { Reads (seen S.remaining S.failures source.old)
+        (seen S.remaining S.failures source.new) result delivery_start }
+{
+    word(source, b"lv ", TextFault::Word)?;
+    let conf = read_conf(source, b' ')?;
+    let ring = read_ring(source, b'#')?;
+    Ok(Said::Deliver(conf, ring))
+}
+
+// Reads what a line has before the number of its message.
 #[tactic(auto, using(crate::proofs::ReaderSteps::reader_steps), unfolding(crate::specs::LineStarts::start_at))]
-fn read_start<S: Source>(source: &mut S) -> Result<(ConfId, RingId), ReadError>
+fn read_start<S: Source>(source: &mut S) -> Result<Said, ReadError>
     ensures { Reads (seen S.remaining S.failures source.old)
         (seen S.remaining S.failures source.new) result start_at }
 {
-    word(source, b"dlv ", TextFault::Word)?;
-    let conf = read_conf(source, b' ')?;
-    let ring = read_ring(source, b'#')?;
-    Ok((conf, ring))
+    let letter = next(source)?;
+    if letter == b's' {
+        return read_send(source);
+    }
+    if letter == b'd' {
+        return read_delivery(source);
+    }
+    Err(ReadError::Text(TextFault::Word))
 }
 
-// Returns the bytes up to the first `#`, if they may be the start of a delivery's line.
+// Returns the bytes up to the first `#`, if they may be the start of a send or a delivery.
 fn start_in(bytes: &[u8]) -> Option<&[u8]> {
-    if !bytes.starts_with(b"dlv ") {
+    let (Some(b's') | Some(b'd')) = bytes.first() else {
         return None;
-    }
+    };
     let at = bytes.iter().take(LONGEST).position(|byte| *byte == b'#')?;
     bytes.get(..=at)
+}
+
+impl Said {
+    fn entry(self, number: u32) -> Entry
+        requires { 0 < number }
+        ensures { result ≡ entry_of self number }
+    {
+        match self {
+            Said::Send(conf, service, ring) => Entry::Send(MsgId { ring, number }, conf, service),
+            Said::Deliver(conf, ring) => Entry::Deliver(MsgId { ring, number }, conf),
+        }
+    }
 }
 
 impl Start {
     /// Returns the start that these bytes are, or `None` if they are none.
     fn of(alloc: Global, bytes: &[u8]) -> Result<Option<Start>, AllocError> {
         let mut source = FromRead::new(bytes);
-        let Ok((conf, ring)) = read_start(&mut source) else {
+        let Ok(said) = read_start(&mut source) else {
             return Ok(None);
         };
         let Ok(None) = source.byte() else {
@@ -60,15 +105,15 @@ impl Start {
         };
         let mut text = Vec::new(alloc);
         text.extend_from_slice(bytes)?;
-        Ok(Some(Start { conf, ring, text }))
+        Ok(Some(Start { said, text }))
     }
 
-    /// Returns the message of the delivery with whose line these bytes begin, and how many bytes the line takes. Returns `None` if
-    /// the line has another start, or the bytes end before it does.
-    fn message(&self, bytes: &[u8]) -> Option<(MsgId, usize)>
-        ensures settles { IfSome result (λ m. (version : Version) (some failed : Bool)
-            → Settles (line_at version false some failed) (take m.1 bytes.now) (lines.Entry (entries.Deliver m.0 self.now.conf))) }
-        ensures count { IfSome result (λ m. m.1 ≤ length bytes.now) }
+    /// Returns the entry with whose line these bytes begin, and how many bytes the line takes. Returns `None` if the line has another
+    /// start, or the bytes end before it does.
+    fn entry(&self, bytes: &[u8]) -> Option<(Entry, usize)>
+        ensures settles { IfSome result (λ e. (version : Version) (some failed : Bool)
+            → Settles (line_at version false some failed) (take e.1 bytes.now) (lines.Entry e.0)) }
+        ensures count { IfSome result (λ e. e.1 ≤ length bytes.now) }
     {
         let text = self.text.as_slice();
         let begins = bytes.starts_with(text);
@@ -79,31 +124,63 @@ impl Start {
         if byte != b'\n' {
             return None;
         }
-        let ring = self.ring;
-        Some((MsgId { ring, number }, text.len() + count))
+        Some((self.said.entry(number), text.len() + count))
     }
 }
 
-/// The start with which lines of deliveries repeat.
+/// The start with which lines of one kind repeat.
 #[derive(Drop)]
-pub struct Repeats {
-    /// The start of the last line that was not taken at once.
+struct Repeat {
+    /// The start of the last line that was not read at once.
     last: Vec<u8>,
     /// The start that came twice.
     start: Option<Start>,
+}
+
+impl Repeat {
+    fn new(alloc: Global) -> Repeat {
+        Repeat {
+            last: Vec::new(alloc),
+            start: None,
+        }
+    }
+
+    fn note(&mut self, alloc: Global, start: &[u8]) -> Result<(), AllocError> {
+        if self.last.as_slice() == start {
+            self.start = Start::of(alloc, start)?;
+            return Ok(());
+        }
+        self.last.clear();
+        self.last.extend_from_slice(start)
+    }
+}
+
+/// The starts with which the lines of a run repeat.
+#[derive(Drop)]
+pub struct Repeats {
+    sends: Repeat,
+    deliveries: Repeat,
 }
 
 impl Repeats {
     /// Returns what is known before the first line.
     pub fn new(alloc: Global) -> Repeats {
         Repeats {
-            last: Vec::new(alloc),
-            start: None,
+            sends: Repeat::new(alloc),
+            deliveries: Repeat::new(alloc),
         }
     }
 
-    /// Takes the next line if it is that of a delivery with the start that came twice, and all of it is at hand. Otherwise it
-    /// takes nothing.
+    // Returns the start that the line with which these bytes begin may have.
+    fn start_for(&self, bytes: &[u8]) -> Option<&Start> {
+        match bytes.first() {
+            Some(b'd') => self.deliveries.start.as_ref(),
+            Some(b's') => self.sends.start.as_ref(),
+            _ => None,
+        }
+    }
+
+    /// Takes the next line if it repeats and all of it is at hand, and returns its entry. Otherwise takes nothing.
     pub fn take<S: Source>(&self, source: &mut S) -> Option<Entry>
         ensures { (version : Version) (some failed : Bool) →
             let old = seen S.remaining S.failures source.old in
@@ -111,25 +188,24 @@ impl Repeats {
             let line = line_at version false some failed in
             MatchOption result (Comes old new line line) (λ e. Comes old new line (λ more. Ok (lines.Entry e, more))) }
     {
-        let start = self.start.as_ref()?;
-        let (message, count) = start.message(source.at_hand())?;
+        let bytes = source.at_hand();
+        let start = self.start_for(bytes)?;
+        let (entry, count) = start.entry(bytes)?;
         let skipped = source.skip(count);
         if !skipped {
             return None;
         }
-        Some(Entry::Deliver(message, start.conf))
+        Some(entry)
     }
 
-    /// Notes the start of the line with which these bytes begin, if it is that of a delivery.
+    /// Notes the start of the line with which these bytes begin.
     pub fn note(&mut self, alloc: Global, bytes: &[u8]) -> Result<(), AllocError> {
         let Some(start) = start_in(bytes) else {
             return Ok(());
         };
-        if self.last.as_slice() == start {
-            self.start = Start::of(alloc, start)?;
-            return Ok(());
+        match start.first() {
+            Some(b's') => self.sends.note(alloc, start),
+            _ => self.deliveries.note(alloc, start),
         }
-        self.last.clear();
-        self.last.extend_from_slice(start)
     }
 }

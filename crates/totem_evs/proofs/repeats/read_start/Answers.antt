@@ -1,20 +1,11 @@
-use Rattle.std.proofs.lemmas.Result.{err_from_is_err_and}
 use Rattle.totem_evs.specs.LineStarts.{start_at}
-use Rattle.totem_ids.proofs.Readers.{begins, called, failed}
+use Rattle.totem_ids.proofs.Readers.{begins, called, handed, picks, skips}
 use Rattle.totem_evs.proofs.repeats.read_start.Goals as goal
 
-pub returns-in_err-conf : goal.returns-in_err-conf
+pub returns-then-letter-eq115 : goal.returns-then-letter-eq115
 unfolding start_at
-returns-in_err-conf g c =
-    let p = err_from_is_err_and c.from_residual-in_err-conf.result c.from_residual-in_err-conf.ensures.1 in
-    rw (p.1, p.2) (failed _ _ _ _ _ _ _ (called _ _ _ _ _ _ _ (begins _ _) c.in_ok-word.ensures.read) c.in_err-conf.ensures.read)
+returns-then-letter-eq115 g c = handed _ _ _ _ _ _ (picks _ _ _ _ _ _ _ (called _ _ _ _ _ _ _ (begins _ _) c.in_ok-letter.ensures.read) c.if-letter-eq115.true) c.read_send.ensures
 
-pub returns-in_err-ring : goal.returns-in_err-ring
+pub returns-then-letter-eq100 : goal.returns-then-letter-eq100
 unfolding start_at
-returns-in_err-ring g c =
-    let p = err_from_is_err_and c.from_residual-in_err-ring.result c.from_residual-in_err-ring.ensures.1 in
-    rw (p.1, p.2) (failed _ _ _ _ _ _ _ (called _ _ _ _ _ _ _ (called _ _ _ _ _ _ _ (begins _ _) c.in_ok-word.ensures.read) c.in_ok-conf.ensures.read) c.in_err-ring.ensures.read)
-
-pub returns : goal.returns
-unfolding start_at
-returns g c = called _ _ _ _ _ _ _ (called _ _ _ _ _ _ _ (called _ _ _ _ _ _ _ (begins _ _) c.in_ok-word.ensures.read) c.in_ok-conf.ensures.read) c.in_ok-ring.ensures.read
+returns-then-letter-eq100 g c = handed _ _ _ _ _ _ (picks _ _ _ _ _ _ _ (skips _ _ _ _ _ _ _ (called _ _ _ _ _ _ _ (begins _ _) c.in_ok-letter.ensures.read) c.if-letter-eq115.false) c.if-letter-eq100.true) c.read_delivery.ensures
