@@ -2,13 +2,15 @@
 use Rattle.totem_ids.specs.declared.life.WrittenProc.{WrittenProc}
 use Rattle.totem_evs.specs.RunRecord.{RunRecord}
 use Rattle.totem_evs.specs.Runs.{IsRunOf}
-use Rattle.std.specs.Io.KnownBytes.{Consumes}
+use Rattle.std.specs.Io.KnownBytes.{Consumes, Keeps}
+use Rattle.std.proofs.KnownBytes.{Consumes-trans}
 use Rattle.std.proofs.lemmas.List.{append-nil}
-use Rattle.std.proofs.Common.{◌≡◌, [], subst, ℕ, List, ◌++◌, Some, None, Ok, Err, refl, sym, ap, ◌∙◌}
+use Rattle.std.proofs.Common.{◌≡◌, [], subst, ℕ, List, ◌++◌, Some, None, Ok, Err, refl, sym, ap, ◌∙◌, append_assoc}
 use Rattle.totem_ids.specs.declared.fault.TextFault.TheVariants as text
 use Rattle.totem_ids.specs.declared.fault.ReadError.TheVariants as errors
 use Rattle.totem_ids.specs.Sources.{Seen, Parsed, Comes, ◌>>=◌}
-use Rattle.totem_ids.proofs.Readers.{called, failed, same_left, begins, breaks_at}
+use Rattle.totem_ids.proofs.AtHand.{kept_none}
+use Rattle.totem_ids.proofs.Readers.{called, failed, same_left, begins, breaks_at, wants_rest}
 use Rattle.totem_evs.specs.declared.part.Part.{Part}
 use Rattle.totem_evs.specs.declared.run_fault.RunFault.{RunFault}
 use Rattle.totem_evs.specs.declared.run_fault.RunFault.TheVariants as faults
@@ -65,6 +67,21 @@ first_folded a c s begun gathers = record {
 follows : (a b : Seen) (s : ReadState) (g : GatheredLogs) → Folded a b s g → Comes a b run_at (λ more. part_at s.stage more >>= λ x. behind s.stage g x.0 x.1)
 follows a b s g h = same_left a b run_at (rest_at s.stage g) (λ more. part_at s.stage more >>= λ x. behind s.stage g x.0 x.1) h.so_far
     (step s.stage g h.gathers.few (limits s g h.gathers).0 (limits s g h.gathers).1)
+
+-- nothing was read
+pub folded_still : (a b c : Seen) (s t : ReadState) (g : GatheredLogs) → Folded a b s g → Keeps b.remaining c.remaining → c.failures ≡ b.failures → t ≡ s → Folded a c t g
+folded_still a b c s t g h keeps failures same =
+    let none = kept_none b c (rest_at s.stage g) keeps failures in
+    rw same (record {
+      so_far = record {
+        read = h.so_far.read ++ none.read;
+        taken = Consumes-trans a.remaining b.remaining c.remaining h.so_far.read none.read h.so_far.taken none.taken;
+        failures = none.failures ∙ h.so_far.failures;
+        left = λ more. ap run_at (append_assoc h.so_far.read none.read more) ∙ h.so_far.left (none.read ++ more) ∙ none.left more;
+        before = wants_rest a b run_at (rest_at s.stage g) none.read h.so_far none.before;
+      };
+      gathers = h.gathers;
+    })
 
 -- a part was read
 pub part_folded : (a b c : Seen) (s t : ReadState) (g : GatheredLogs) (part : Part) → Folded a b s g → HasPart b c s part t → Folded a c t (gathered g part)

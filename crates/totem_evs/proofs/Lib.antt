@@ -33,6 +33,7 @@ pub mod SpelledRun
 pub mod SteadyRun
 pub mod ReaderSteps
 pub mod LineStarting
+pub mod Repeating
 pub mod OnlyFaults
 pub mod PartFaults
 pub mod MembersFaults

@@ -87,15 +87,15 @@ by_letter {P = P} version some failed (b ∷ bytes) same other = go (b == 115) r
 line_after : (version : Version) (some failed : Bool) (bytes : List ℕ) (s : Said × List ℕ) → start_at bytes ≡ Ok s → line_at version false some failed bytes ≡ rest_at s.0 s.1
 line_after version some failed bytes s e =
     by_letter version some failed bytes
-        (λ same. same ∙ ap (λ (r : Parsed Said). r >>= λ t. rest_at t.0 t.1) e)
-        (λ other. absurd (let h = sym other ∙ e in cc))
+    (λ same. same ∙ ap (λ (r : Parsed Said). r >>= λ t. rest_at t.0 t.1) e)
+    (λ other. absurd (let h = sym other ∙ e in cc))
 
 -- a start that is too short begins a line that is
 line_short : (version : Version) (some failed : Bool) (bytes : List ℕ) → start_at bytes ≡ Err faults.Truncated → line_at version false some failed bytes ≡ Err faults.Truncated
 line_short version some failed bytes e =
     by_letter version some failed bytes
-        (λ same. same ∙ ap (λ (r : Parsed Said). r >>= λ t. rest_at t.0 t.1) e)
-        (λ other. absurd (let h = sym other ∙ e in cc))
+    (λ same. same ∙ ap (λ (r : Parsed Said). r >>= λ t. rest_at t.0 t.1) e)
+    (λ other. absurd (let h = sym other ∙ e in cc))
 
 -- a start, a number and the end of the line are a line
 pub line_settles : (version : Version) (some failed : Bool) (start number : List ℕ) (said : Said) (n : ℕ)

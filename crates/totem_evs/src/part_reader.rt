@@ -1,5 +1,6 @@
 //! Reads the parts of a run, one after the other.
-ghost use Rattle.std.specs.Prelude.{◌≡◌, ℕ, ◌↔◌, ◌⊎◌, ◌==◌, Contains, Some, IsTrue, IfOk, OnOk, nat_lt};
+ghost use Rattle.std.specs.Prelude.{◌≡◌, ℕ, ◌↔◌, ◌⊎◌, ◌==◌, Contains, Some, IsTrue, IfNone, IfOk, IfSome, OnOk, nat_lt};
+ghost use Rattle.std.specs.Io.KnownBytes.{Keeps};
 ghost use Rattle.totem_ids.specs.Sources.{Reads, seen};
 ghost use Rattle.totem_evs.specs.Endings.{writes_quiet};
 ghost use Rattle.totem_evs.specs.NextLines.{FollowsIn};
@@ -43,7 +44,7 @@ fn read_between<S: Source>(
     }
 }
 
-// Reads the next line of a log that has not ended, at once if it repeats.
+// Reads the next line of a log that has not ended, and notes how it begins.
 fn read_next<S: Source>(
     alloc: Global,
     source: &mut S,
@@ -55,12 +56,6 @@ fn read_next<S: Source>(
         (seen S.remaining S.failures source.new) result (line_at version (log.entries == 1000000) (nat_lt 0 log.entries) log.failed) }
     ensures follows { IfOk result (FollowsIn (writes_quiet version) log) }
 {
-    if log.is_full() {
-        return read_line(alloc, source, version, log);
-    }
-    if let Some(entry) = repeats.take(source) {
-        return Ok(Line::Entry(entry));
-    }
     repeats.note(alloc, source.at_hand())?;
     read_line(alloc, source, version, log)
 }
@@ -140,7 +135,7 @@ fn wait_for(waiting: &mut Unlogged, begun: &[Proc], members: &[Proc]) -> Result<
 
 impl PartReader {
     ghost use Rattle.totem_evs.specs.ReadState.{IsFirst, IsReadState, Goes};
-    ghost use Rattle.totem_evs.specs.Reading.{ReadsPart};
+    ghost use Rattle.totem_evs.specs.Reading.{HasPart, ReadsPart};
     ghost use Rattle.totem_evs.specs.declared.part.Part.TheVariants as parts;
 
     /// Returns the reader after the first line of a run of this version.
@@ -201,6 +196,25 @@ impl PartReader {
                 Ok(())
             }
         }
+    }
+
+    /// Takes the next entry if its line repeats and all of it is at hand. Otherwise takes nothing.
+    pub fn take_repeat<S: Source>(&mut self, source: &mut S) -> Option<Entry>
+        requires { IsReadState self.old }
+        ensures taken { IfSome result (λ e. HasPart (seen S.remaining S.failures source.old)
+            (seen S.remaining S.failures source.new) self.old (parts.Entry e) self.new) }
+        ensures kept { IfNone result (Keeps (S.remaining source.old) (S.remaining source.new)
+            × (S.failures source.new ≡ S.failures source.old) × (self.new ≡ self.old)) }
+        ensures limits { IsReadState self.new }
+    {
+        let log = self.stage.log?;
+        if log.is_full() {
+            return None;
+        }
+        let entry = self.repeats.take(source)?;
+        entry.keeps_its_rule();
+        self.stage = self.stage.with_entry(&entry);
+        Some(entry)
     }
 
     /// Reads the next part, or returns `None` once it has read the last line. A member without a log is found only then. After

@@ -105,6 +105,10 @@ pub fn read_run<S: Source>(alloc: Global, source: &mut S) -> Result<Run, RunFaul
     let mut parts = PartReader::new(alloc, version);
     let mut logs = Gathered::new(alloc);
     'parts: loop {
+        if let Some(entry) = parts.take_repeat(source) {
+            logs.add(alloc, Part::Entry(entry))?;
+            continue 'parts;
+        }
         match parts.next(alloc, source)? {
             None => return Ok(logs.into_run(version)),
             Some(part) => logs.add(alloc, part)?,

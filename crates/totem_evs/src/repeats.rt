@@ -1,9 +1,11 @@
 //! Lines of sends and deliveries that differ from the one before only in the number of their message, as most lines of a log do. They are
 //! read at once, by what they begin with.
-ghost use Rattle.std.specs.Prelude.{◌≡◌, ◌<◌, ◌≤◌, Ok, Bool, IfSome, MatchOption, false, length, take};
+ghost use Rattle.std.specs.Prelude.{◌≡◌, ◌<◌, ◌≤◌, [], Ok, Bool, IfNone, IfSome, false, length, take};
+ghost use Rattle.std.specs.Io.KnownBytes.{Keeps};
 ghost use Rattle.totem_ids.specs.Sources.{Comes, Reads, Settles, seen};
 ghost use Rattle.totem_ids.specs.declared.version.Version.{Version};
 ghost use Rattle.totem_evs.specs.declared.lines.Line.TheVariants as lines;
+ghost use Rattle.totem_evs.specs.Missing.{members_of};
 ghost use Rattle.totem_evs.specs.RunGrammar.{line_at};
 ghost use Rattle.totem_evs.specs.LineStarts.{start_at, send_start, delivery_start, entry_of};
 
@@ -84,7 +86,8 @@ fn start_in(bytes: &[u8]) -> Option<&[u8]> {
 impl Said {
     fn entry(self, number: u32) -> Entry
         requires { 0 < number }
-        ensures { result ≡ entry_of self number }
+        ensures entry { result ≡ entry_of self number }
+        ensures members { members_of result ≡ [] }
     {
         match self {
             Said::Send(conf, service, ring) => Entry::Send(MsgId { ring, number }, conf, service),
@@ -113,6 +116,7 @@ impl Start {
     fn entry(&self, bytes: &[u8]) -> Option<(Entry, usize)>
         ensures settles { IfSome result (λ e. (version : Version) (some failed : Bool)
             → Settles (line_at version false some failed) (take e.1 bytes.now) (lines.Entry e.0)) }
+        ensures members { IfSome result (λ e. members_of e.0 ≡ []) }
         ensures count { IfSome result (λ e. e.1 ≤ length bytes.now) }
     {
         let text = self.text.as_slice();
@@ -182,11 +186,11 @@ impl Repeats {
 
     /// Takes the next line if it repeats and all of it is at hand, and returns its entry. Otherwise takes nothing.
     pub fn take<S: Source>(&self, source: &mut S) -> Option<Entry>
-        ensures { (version : Version) (some failed : Bool) →
-            let old = seen S.remaining S.failures source.old in
-            let new = seen S.remaining S.failures source.new in
-            let line = line_at version false some failed in
-            MatchOption result (Comes old new line line) (λ e. Comes old new line (λ more. Ok (lines.Entry e, more))) }
+        ensures taken { (version : Version) (some failed : Bool) → IfSome result (λ e. Comes (seen S.remaining S.failures source.old)
+            (seen S.remaining S.failures source.new) (line_at version false some failed) (λ more. Ok (lines.Entry e, more))) }
+        ensures members { IfSome result (λ e. members_of e ≡ []) }
+        ensures kept { IfNone result (Keeps (S.remaining source.old) (S.remaining source.new)
+            × (S.failures source.new ≡ S.failures source.old)) }
     {
         let bytes = source.at_hand();
         let start = self.start_for(bytes)?;

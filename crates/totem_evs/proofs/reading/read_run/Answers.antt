@@ -1,8 +1,10 @@
 use Rattle.std.proofs.Common.{◌∙◌, ap}
+use Rattle.totem_evs.specs.declared.part.Part.TheVariants as parts
 use Rattle.totem_evs.specs.declared.stage.Stage.{Stage}
+use Rattle.totem_evs.specs.ReadState.{ReadState}
 use Rattle.totem_evs.proofs.Folding.{version_kept}
 use Rattle.std.proofs.lemmas.Result.{err_from_is_err_and}
-use Rattle.totem_evs.proofs.FoldedRun.{first_fault, first_folded, part_folded, end_folded, next_fault}
+use Rattle.totem_evs.proofs.FoldedRun.{first_fault, first_folded, part_folded, end_folded, next_fault, folded_still}
 use Rattle.totem_evs.proofs.PassedOn.{header_fault}
 use Rattle.totem_evs.proofs.Gathers.{first_gathers, may_gather, each_has, falls}
 use Rattle.totem_evs.proofs.reading.read_run.Goals as goal
@@ -21,36 +23,55 @@ parts-init g c = (
 
 pub returns-in_err-next : goal.returns-in_err-next
 returns-in_err-next g c =
+    let kept = c.in_default.ensures.kept in
+    let folded = folded_still _ _ _ _ c.take_repeat.new.self _ c.parts.invariant.0 kept.0 kept.1 kept.2 in
     let p = err_from_is_err_and c.from_residual-in_err-next.result c.from_residual-in_err-next.ensures.1 in
-    rw (p.1, p.2) (next_fault _ _ _ c.parts.parts c.next.new.self _ _ c.parts.invariant.0 c.in_err-next.ensures.read)
+    rw (p.1, p.2) (next_fault _ _ _ c.take_repeat.new.self c.next.new.self _ _ folded c.in_err-next.ensures.read)
 
 pub into_run-requires : goal.into_run-requires
 into_run-requires g c =
+    let kept = c.in_default.ensures.kept in
+    let folded = folded_still _ _ _ _ c.take_repeat.new.self _ c.parts.invariant.0 kept.0 kept.1 kept.2 in
     let fits = rw c.in-None.is at c.in_ok-next.ensures.read in
-    rw c.parts.invariant.2 at (end_folded _ _ _ c.parts.parts _ c.parts.invariant.0 fits.0).is
+    rw (ap (λ (s : ReadState). s.stage.version) kept.2 ∙ c.parts.invariant.2) at (end_folded _ _ _ c.take_repeat.new.self _ folded fits.0).is
 
 pub returns-in-None : goal.returns-in-None
 returns-in-None g c =
+    let kept = c.in_default.ensures.kept in
+    let folded = folded_still _ _ _ _ c.take_repeat.new.self _ c.parts.invariant.0 kept.0 kept.1 kept.2 in
     let fits = rw c.in-None.is at c.in_ok-next.ensures.read in
-    rw c.into_run.ensures (rw c.parts.invariant.2 at (end_folded _ _ _ c.parts.parts _ c.parts.invariant.0 fits.0), each_has c.parts.parts _ c.parts.invariant.0.gathers fits.0.comes fits.1)
+    rw c.into_run.ensures (rw (ap (λ (s : ReadState). s.stage.version) kept.2 ∙ c.parts.invariant.2) at (end_folded _ _ _ c.take_repeat.new.self _ folded fits.0), each_has c.take_repeat.new.self _ folded.gathers fits.0.comes fits.1)
 
-pub add-requires : goal.add-requires
-add-requires g c =
-    let fits = rw c.in-Some.is at c.in_ok-next.ensures.read in
-    may_gather c.parts.parts _ _ c.parts.invariant.0.gathers fits.comes
+pub add-requires-in-Some-2 : goal.add-requires-in-Some-2
+add-requires-in-Some-2 g c =
+    let kept = c.in_default.ensures.kept in
+    let folded = folded_still _ _ _ _ c.take_repeat.new.self _ c.parts.invariant.0 kept.0 kept.1 kept.2 in
+    let fits = rw c.in-Some-2.is at c.in_ok-next.ensures.read in
+    may_gather c.take_repeat.new.self _ _ folded.gathers fits.comes
 
-pub returns-in_err-add-in-Some : goal.returns-in_err-add-in-Some
-returns-in_err-add-in-Some g c =
-    let fits = rw c.in-Some.is at c.in_ok-next.ensures.read in
-    let p = err_from_is_err_and c.from_residual-in_err-add-in-Some.result c.from_residual-in_err-add-in-Some.ensures.1 in
-    rw (p.1, p.2) (fits.taken.failures ∙ c.parts.invariant.0.so_far.failures)
+pub returns-in_err-add-in-Some-2 : goal.returns-in_err-add-in-Some-2
+returns-in_err-add-in-Some-2 g c =
+    let kept = c.in_default.ensures.kept in
+    let folded = folded_still _ _ _ _ c.take_repeat.new.self _ c.parts.invariant.0 kept.0 kept.1 kept.2 in
+    let fits = rw c.in-Some-2.is at c.in_ok-next.ensures.read in
+    let p = err_from_is_err_and c.from_residual-in_err-add-in-Some-2.result c.from_residual-in_err-add-in-Some-2.ensures.1 in
+    rw (p.1, p.2) (fits.taken.failures ∙ folded.so_far.failures)
 
 pub parts-smaller : goal.parts-smaller
 parts-smaller g c =
-    let fits = rw c.in-Some.is at c.in_ok-next.ensures.read in
-    falls c.parts.parts _ _ _ c.parts.invariant.0.gathers fits.comes fits.goes
+    let kept = c.in_default.ensures.kept in
+    let folded = folded_still _ _ _ _ c.take_repeat.new.self _ c.parts.invariant.0 kept.0 kept.1 kept.2 in
+    let fits = rw c.in-Some-2.is at c.in_ok-next.ensures.read in
+    rw kept.2 at (falls c.take_repeat.new.self _ _ _ folded.gathers fits.comes fits.goes)
 
 pub parts-preserved : goal.parts-preserved
 parts-preserved g c =
-    let fits = rw c.in-Some.is at c.in_ok-next.ensures.read in
-    (rw c.in_ok-add-in-Some.ensures (part_folded _ _ _ c.parts.parts _ _ _ c.parts.invariant.0 fits), c.in_ok-next.ensures.limits, ap (λ (s : Stage). s.version) fits.goes.stage ∙ version_kept _ _ ∙ c.parts.invariant.2)
+    let kept = c.in_default.ensures.kept in
+    let folded = folded_still _ _ _ _ c.take_repeat.new.self _ c.parts.invariant.0 kept.0 kept.1 kept.2 in
+    let fits = rw c.in-Some-2.is at c.in_ok-next.ensures.read in
+    (rw c.in_ok-add-in-Some-2.ensures (part_folded _ _ _ c.take_repeat.new.self _ _ _ folded fits), c.in_ok-next.ensures.limits, ap (λ (s : Stage). s.version) fits.goes.stage ∙ version_kept _ _ ∙ ap (λ (s : ReadState). s.stage.version) kept.2 ∙ c.parts.invariant.2)
+
+pub parts-preserved-in-Some : goal.parts-preserved-in-Some
+parts-preserved-in-Some g c =
+    let fits = c.in-Some.ensures.taken in
+    (rw c.in_ok-add.ensures (part_folded _ _ _ c.parts.parts c.take_repeat.new.self _ _ c.parts.invariant.0 fits), c.in-Some.ensures.limits, ap (λ (s : Stage). s.version) fits.goes.stage ∙ version_kept c.parts.parts.stage (parts.Entry c.in-Some.entry) ∙ c.parts.invariant.2)
