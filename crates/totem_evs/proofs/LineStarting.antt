@@ -6,13 +6,11 @@ use Rattle.std.proofs.Math.Seq.{take-append-add, take-length}
 use Rattle.std.proofs.lemmas.Bool.{eqb-true}
 use Rattle.std.proofs.lemmas.Bool.Decides.{Decides-eqb}
 use Rattle.std.proofs.lemmas.Slice.Eq.{starts_is}
-use Rattle.totem_ids.specs.declared.conf.ConfId.{ConfId}
 use Rattle.totem_ids.specs.declared.fault.TextFault.TheVariants as faults
-use Rattle.totem_ids.specs.declared.message.Service.{Service}
 use Rattle.totem_ids.specs.declared.version.Version.{Version}
 use Rattle.totem_ids.specs.Names.{RingName, MessageName}
 use Rattle.totem_ids.specs.Sources.{Parsed, Settles, ◌>>=◌}
-use Rattle.totem_ids.specs.Numbers.{byte_at, word_at, number_at, number_to}
+use Rattle.totem_ids.specs.Numbers.{word_at, number_at, number_to}
 use Rattle.totem_ids.specs.Parsers.{conf_at, ring_at, message_at}
 use Rattle.totem_ids.specs.Services.{service_at}
 use Rattle.totem_ids.proofs.Readers.{wants_both, gives}

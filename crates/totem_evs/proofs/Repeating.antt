@@ -6,12 +6,11 @@ use Rattle.totem_ids.specs.declared.version.Version.{Version}
 use Rattle.totem_ids.proofs.Readers.{begins, called}
 use Rattle.totem_evs.specs.declared.entry.Entry.{Entry}
 use Rattle.totem_evs.specs.declared.lines.Line.TheVariants as lines
-use Rattle.totem_evs.specs.declared.part.Part.{Part}
 use Rattle.totem_evs.specs.declared.part.Part.TheVariants as parts
 use Rattle.totem_evs.specs.declared.stage.OpenLog.{OpenLog}
 use Rattle.totem_evs.specs.declared.stage.Stage.{Stage}
 use Rattle.totem_evs.specs.Missing.{members_of}
-use Rattle.totem_evs.specs.Parts.{next_at, next_stage, within_at, part_at}
+use Rattle.totem_evs.specs.Parts.{next_at, next_stage, within_at}
 use Rattle.totem_evs.specs.ReadState.{ReadState, IsReadState, ComesIn, MayCome}
 use Rattle.totem_evs.specs.Reading.{HasPart}
 use Rattle.totem_evs.specs.RunGrammar.{by_line, line_at}
