@@ -2,6 +2,7 @@
 ghost use Rattle.std.specs.Prelude.{◌≡◌, OnOk};
 ghost use Rattle.totem_ids.specs.Sources.{seen};
 ghost use Rattle.totem_evs.specs.Gathered.{none_gathered, gathered, MayGather};
+ghost use Rattle.totem_evs.specs.declared.part.Part.TheVariants as parts;
 ghost use Rattle.totem_evs.specs.Reading.{ReadsRun, ReadsEnd};
 ghost use Rattle.totem_evs.specs.Runs.{IsRunOf};
 
@@ -48,6 +49,14 @@ impl Gathered {
         }
     }
 
+    /// Adds the next entry.
+    fn add_entry(&mut self, entry: Entry) -> Result<(), AllocError>
+        ensures { OnOk result (self.new ≡ gathered self.old (parts.Entry entry)) }
+    {
+        self.entries.push(entry)?;
+        Ok(())
+    }
+
     /// Adds the next part.
     fn add(&mut self, alloc: Global, part: Part) -> Result<(), AllocError>
         requires { MayGather self.old part }
@@ -58,9 +67,7 @@ impl Gathered {
                 self.proc = Some(proc);
                 self.entries = Vec::new(alloc);
             }
-            Part::Entry(entry) => {
-                self.entries.push(entry)?;
-            }
+            Part::Entry(entry) => self.add_entry(entry)?,
             Part::Close(ending) => {
                 let entries = mem::replace(&mut self.entries, Vec::new(alloc));
                 if let Some(proc) = self.proc {
@@ -106,7 +113,7 @@ pub fn read_run<S: Source>(alloc: Global, source: &mut S) -> Result<Run, RunFaul
     let mut logs = Gathered::new(alloc);
     'parts: loop {
         if let Some(entry) = parts.take_repeat(source) {
-            logs.add(alloc, Part::Entry(entry))?;
+            logs.add_entry(entry)?;
             continue 'parts;
         }
         match parts.next(alloc, source)? {

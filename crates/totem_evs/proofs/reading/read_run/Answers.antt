@@ -42,8 +42,8 @@ returns-in-None g c =
     let fits = rw c.in-None.is at c.in_ok-next.ensures.read in
     rw c.into_run.ensures (rw (ap (λ (s : ReadState). s.stage.version) kept.2 ∙ c.parts.invariant.2) at (end_folded _ _ _ c.take_repeat.new.self _ folded fits.0), each_has c.take_repeat.new.self _ folded.gathers fits.0.comes fits.1)
 
-pub add-requires-in-Some-2 : goal.add-requires-in-Some-2
-add-requires-in-Some-2 g c =
+pub add-requires : goal.add-requires
+add-requires g c =
     let kept = c.in_default.ensures.kept in
     let folded = folded_still _ _ _ _ c.take_repeat.new.self _ c.parts.invariant.0 kept.0 kept.1 kept.2 in
     let fits = rw c.in-Some-2.is at c.in_ok-next.ensures.read in
@@ -74,4 +74,4 @@ parts-preserved g c =
 pub parts-preserved-in-Some : goal.parts-preserved-in-Some
 parts-preserved-in-Some g c =
     let fits = c.in-Some.ensures.taken in
-    (rw c.in_ok-add.ensures (part_folded _ _ _ c.parts.parts c.take_repeat.new.self _ _ c.parts.invariant.0 fits), c.in-Some.ensures.limits, ap (λ (s : Stage). s.version) fits.goes.stage ∙ version_kept c.parts.parts.stage (parts.Entry c.in-Some.entry) ∙ c.parts.invariant.2)
+    (rw c.in_ok-add_entry.ensures (part_folded _ _ _ c.parts.parts c.take_repeat.new.self _ _ c.parts.invariant.0 fits), c.in-Some.ensures.limits, ap (λ (s : Stage). s.version) fits.goes.stage ∙ version_kept c.parts.parts.stage (parts.Entry c.in-Some.entry) ∙ c.parts.invariant.2)
