@@ -5,9 +5,9 @@ use std::fmt::Display;
 use totem_ids::{
     ConfId, Failed, FromRead, MsgId, Place, Proc, ProcId, ReadError, RingId, Service, TextFault,
     Version, conf_fits, conf_order, conf_spelling, message_fits, message_order, message_spelling,
-    next, number, number_spelling, number_to, place_fits, place_order, place_spelling,
-    process_fits, process_spelling, read_conf, read_message, read_place, read_proc, read_ring,
-    ring_fits, ring_order, ring_spelling, word,
+    next, number, number_spelling, number_to, number_within, place_fits, place_order,
+    place_spelling, process_fits, process_spelling, read_conf, read_message, read_place, read_proc,
+    read_ring, ring_fits, ring_order, ring_spelling, word,
 };
 
 pub(crate) fn ring(seq: u32, rep: u16) -> RingId {
@@ -155,6 +155,14 @@ fn read(alloc: Global, kind: &str, text: &mut Text) -> Result<String, AllocError
     }
 }
 
+/// Returns the number up to 99 with which the text begins, the byte after it, and the length of both.
+fn within(alloc: Global, text: &str) -> Result<String, AllocError> {
+    match number_within(text.as_bytes(), 99) {
+        None => String::from_str(alloc, "none"),
+        Some((number, byte, count)) => format!(in alloc; "{number} {byte} {count}"),
+    }
+}
+
 /// Returns what is made, written or read, as text.
 pub(crate) fn answer(alloc: Global, words: &str) -> Result<String, AllocError> {
     let (kind, text) = words.split_once(' ').unwrap_or((words, ""));
@@ -162,11 +170,12 @@ pub(crate) fn answer(alloc: Global, words: &str) -> Result<String, AllocError> {
         "new" => made(alloc, text),
         "names" => written_names(alloc),
         "services" => written_words(alloc),
+        "within" => within(alloc, text),
         _ => read(alloc, kind, &mut memory(text)),
     }
 }
 
-pub(crate) const NAMES: [Case; 62] = [
+pub(crate) const NAMES: [Case; 66] = [
     // a process gives its number
     ("new number 1", "1"),
     ("new number 7", "7"),
@@ -199,6 +208,10 @@ pub(crate) const NAMES: [Case; 62] = [
     ),
     ("words exit", "Text(Header)"),
     ("to_nine 10,", "Text(Number)"),
+    ("within 99 1", "99 32 3"),
+    ("within 100 ", "none"),
+    ("within 09 ", "none"),
+    ("within 9", "none"),
     // rings with another spelling
     ("ring 0.1 ", "Text(Number)"),
     ("ring 04.1 ", "Text(Number)"),
