@@ -1,7 +1,8 @@
-//! What a client asks for, and the crash.
+//! Decides whether a client's message is refused, and queues one that is not; and the crash (docs/PROTOCOL.md, "The node").
 ghost use Rattle.std.specs.Prelude.{◌≡◌, Ok, Err, IfSome, false};
+ghost use Rattle.totem_ids.specs.declared.message.Service.{Service};
 ghost use Rattle.totem_node.specs.Table.{on_submit, on_crash};
-ghost use Rattle.totem_node.specs.Refusals.{IsTaken};
+ghost use Rattle.totem_node.specs.Refusals.{IsTaken, Tells};
 ghost use Rattle.totem_node.specs.Answers.{IsStep};
 
 use crate::fault::NodeFault;
@@ -12,8 +13,25 @@ use std::alloc::Global;
 use totem_evs::Entry;
 use totem_ids::{ConfId, Service};
 use totem_packets::{Body, Payload};
+use totem_ring::MOST_WAITING;
+
+/// The greatest length of a payload in bytes.
+const LONGEST: usize = 1024;
 
 impl NodeCore {
+    /// Returns why the node would refuse a client's message: its payload is too long, or 16 messages wait.
+    pub(crate) fn submit_refusal(&self, payload: &Bytes) -> Option<NodeFault>
+        ensures { (service : Service) → Tells result false (on_submit self.now service payload.now) }
+    {
+        if payload.len() > LONGEST {
+            return Some(NodeFault::Range);
+        }
+        if self.waiting.len() >= MOST_WAITING {
+            return Some(NodeFault::Full);
+        }
+        None
+    }
+
     /// Queues a client's message, which is not refused, for the next visit.
     #[tactic(auto, using(crate::proofs::Passing::payload_fits, crate::proofs::Passing::message_waits))]
     pub(crate) fn on_submit(

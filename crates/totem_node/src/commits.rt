@@ -1,26 +1,102 @@
-//! How a node takes commit tokens.
+//! Decides whether a commit token is refused, and takes one that is not (docs/PROTOCOL.md, "The node").
 ghost use Rattle.std.specs.Prelude.{◌≡◌, ◌<◌, length, Err, IfOk, IfSome, MatchOption, false};
 ghost use Rattle.totem_packets.specs.declared.commit.CommitToken.{CommitToken};
 ghost use Rattle.totem_packets.specs.declared.packet.Packet.TheVariants as packet;
+ghost use Rattle.totem_member.specs.Shown.{view_of, own_report};
 ghost use Rattle.totem_recover.specs.Exchange.{IsReady};
-ghost use Rattle.totem_node.specs.Nodes.{Operational};
+ghost use Rattle.totem_node.specs.Nodes.{Operational, commit_view, report};
 ghost use Rattle.totem_node.specs.Outcomes.{Fails};
-ghost use Rattle.totem_node.specs.Table.{filling, recovering, entering, commit_taken, on_commit_in, on_packet};
-ghost use Rattle.totem_node.specs.Refusals.{IsTaken};
+ghost use Rattle.totem_node.specs.Table.{filling, recovering, entering, commit_taken, starting, on_commit_in, on_packet};
+ghost use Rattle.totem_node.specs.Refusals.{start_refused, act_refused, IsTaken, Tells};
 ghost use Rattle.totem_node.specs.Transitions.{IsTransition, IsCommitTransition, Makes};
+ghost use Rattle.totem_node.specs.Answers.{IsStep};
 
 use crate::fault::NodeFault;
 use crate::gathering::commit_passed_on;
+use crate::leaving::visit_first;
 use crate::node_core::NodeCore;
+use crate::outcome::StepOut;
+use crate::reporting::greater;
 use crate::state::{Recovering, State};
+use crate::tokens::refused_by_new;
 use crate::transition::Transition;
 use std::alloc::{AllocError, Global};
-use totem_member::{Act, Gather, Phase, on_commit};
+use totem_member::{Act, Gather, MemberFault, Phase, Shown, commit_act, on_commit};
 use totem_packets::{CommitToken, Number};
 use totem_recover::Recovery;
-use totem_ring::RingState;
+use totem_ring::{RingState, first_token};
 
 impl NodeCore {
+    /// Returns the gathering of the ring that the node is to form, the phase of that, and whether the ring's first token was taken
+    /// here. `None` in Operational.
+    fn forming(&self) -> Option<(&Gather, Phase, bool)>
+        ensures { MatchOption result (self.now.state ≡ Operational) (λ f. (token : CommitToken) → on_commit_in self.now token self.now.state ≡ commit_taken self.now f.0.now f.1 f.2 token) }
+    {
+        match &self.state {
+            State::Operational => None,
+            State::Gathering(gather) => Some((gather, Phase::Gather, false)),
+            State::Committing(gather) => Some((gather, Phase::Commit, false)),
+            State::InRecovery(x) => Some((&x.gather, Phase::Recovery, x.started)),
+        }
+    }
+
+    /// Returns a borrowed view of what the node shows when it takes a commit token.
+    fn shown<'a>(&'a self, phase: Phase, gather: &'a Gather, started: bool) -> Shown<'a>
+        ensures view { view_of result ≡ commit_view self.now phase gather.now started }
+        ensures report { own_report result ≡ report self.now }
+    {
+        Shown {
+            me: self.me,
+            processes: gather.processes(),
+            failed: gather.failed(),
+            seq: greater(self.seq, gather.seq()),
+            filled: self.filled,
+            phase,
+            started,
+            life: self.life,
+            ring: self.installed.ring(),
+            aru: self.installed.my_aru(),
+            delivered: self.installed.handed(),
+            obligation: &self.obligation,
+        }
+    }
+
+    /// Returns why the node would refuse to take the first token of the new ring.
+    fn start_refused(&self, alloc: Global) -> Option<NodeFault>
+        ensures { result ≡ start_refused self.now.state }
+    {
+        match &self.state {
+            State::Operational => Some(NodeFault::Stale),
+            State::Gathering(_) => Some(NodeFault::Stale),
+            State::Committing(_) => Some(NodeFault::Stale),
+            State::InRecovery(x) => refused_by_new(x, &first_token(alloc, x.ring.ring())),
+        }
+    }
+
+    /// Returns why the node would refuse a token whose act or refusal by the member is this.
+    fn act_refused(&self, alloc: Global, act: Result<Act, MemberFault>) -> Option<NodeFault>
+        ensures { result ≡ act_refused self.now act }
+    {
+        match act {
+            Ok(Act::Filled) => None,
+            Ok(Act::Entered) => None,
+            Ok(Act::Started) => self.start_refused(alloc),
+            Err(fault) => Some(fault.into()),
+        }
+    }
+
+    /// Returns why the node would refuse a commit token.
+    #[tactic(auto, using(crate::proofs::Foretelling::taken_tells))]
+    pub(crate) fn commit_refusal(&self, alloc: Global, token: &CommitToken) -> Option<NodeFault>
+        ensures { Tells result false (on_commit_in self.now token.now self.now.state) }
+    {
+        let Some((gather, phase, started)) = self.forming() else {
+            return Some(NodeFault::Stale);
+        };
+        let act = commit_act(token, &self.shown(phase, gather, started));
+        self.act_refused(alloc, act)
+    }
+
     /// Returns the transition in which the node fills in its report, passes the token on and waits for it in Commit.
     fn filling(
         &self,
@@ -106,22 +182,9 @@ impl NodeCore {
         }
     }
 
-    /// Returns the gathering of the ring that the node is to form, the phase of that, and whether the ring's first token was taken
-    /// here. `None` in Operational.
-    pub(crate) fn forming(&self) -> Option<(&Gather, Phase, bool)>
-        ensures { MatchOption result (self.now.state ≡ Operational) (λ f. (token : CommitToken) → on_commit_in self.now token self.now.state ≡ commit_taken self.now f.0.now f.1 f.2 token) }
-    {
-        match &self.state {
-            State::Operational => None,
-            State::Gathering(gather) => Some((gather, Phase::Gather, false)),
-            State::Committing(gather) => Some((gather, Phase::Commit, false)),
-            State::InRecovery(x) => Some((&x.gather, Phase::Recovery, x.started)),
-        }
-    }
-
     /// Returns the transition that this commit token causes, which is not refused, or `None` if the first token of the new ring is to
     /// be taken.
-    pub(crate) fn commit_transition(
+    fn commit_transition(
         &self,
         alloc: Global,
         token: &CommitToken,
@@ -133,5 +196,36 @@ impl NodeCore {
             unreachable!();
         };
         self.commit_taken(alloc, gather, phase, started, token)
+    }
+
+    /// Takes the first token of the new ring at once, because the commit token has come back.
+    fn start_ring(&mut self, alloc: Global) -> Result<StepOut, NodeFault>
+        requires { IsTaken false (starting self.old self.old.state) }
+        ensures { IsStep self.old self.new result (starting self.old self.old.state) }
+    {
+        match &mut self.state {
+            State::Operational => unreachable!(),
+            State::Gathering(_) => unreachable!(),
+            State::Committing(_) => unreachable!(),
+            State::InRecovery(x) => {
+                let visit = visit_first(alloc, &self.installed, x)?;
+                Ok(self.note_visit(alloc, visit))
+            }
+        }
+    }
+
+    /// Takes a commit token that is not refused.
+    pub(crate) fn on_commit(
+        &mut self,
+        alloc: Global,
+        token: &CommitToken,
+    ) -> Result<StepOut, NodeFault>
+        requires { IsTaken false (on_packet self.old (packet.Commit token.now)) }
+        ensures { IsStep self.old self.new result (on_packet self.old (packet.Commit token.now)) }
+    {
+        if let Some(transition) = self.commit_transition(alloc, token)? {
+            return Ok(self.apply(alloc, transition));
+        }
+        self.start_ring(alloc)
     }
 }

@@ -2,6 +2,7 @@
 ghost use Rattle.std.specs.Prelude.{◌≡◌};
 ghost use Rattle.totem_node.specs.declared.fault.NodeFault.TheVariants.{Memory};
 ghost use Rattle.totem_node.specs.Faults.{fault_number, fault_name, of_ring, of_member};
+ghost use Rattle.totem_node.specs.Refusals.{of_its_ring};
 
 use std::alloc::{AllocError, AllocFailed};
 use thiserror::Error;
@@ -103,5 +104,15 @@ impl From<MemberFault> for NodeFault {
             MemberFault::Range => NodeFault::Range,
             MemberFault::Memory => NodeFault::Memory,
         }
+    }
+}
+
+/// Returns a ring's refusal as the node's.
+pub(crate) fn of_its_ring(refusal: Option<RingFault>) -> Option<NodeFault>
+    ensures { result ≡ of_its_ring refusal }
+{
+    match refusal {
+        None => None,
+        Some(fault) => Some(fault.into()),
     }
 }

@@ -1,14 +1,15 @@
-//! How a node begins to gather, and what it does at consensus (docs/PROTOCOL.md, "The node").
+//! Whether a node may begin to gather, how it begins, and what it does at consensus (docs/PROTOCOL.md, "The node").
 ghost use Rattle.std.specs.Prelude.{◌≡◌, ◌≤◌, length, IfOk, IsTrue};
 ghost use Rattle.std.specs.Option.{option_copied};
 ghost use Rattle.totem_packets.specs.Sets.{is_least, with_process};
-ghost use Rattle.totem_member.specs.Gathers.{gathered, new_gather};
+ghost use Rattle.totem_member.specs.Gathers.{gathered, is_stranger, new_gather};
+ghost use Rattle.totem_node.specs.Crowds.{crowd_of};
 ghost use Rattle.totem_node.specs.Gathering.{join_broadcast, commit_passed_on, commit_begun, at_consensus, look_at_consensus, taking, gather_base, gathering_anew, to_gather};
 ghost use Rattle.totem_node.specs.Outcomes.{Gives};
-ghost use Rattle.totem_node.specs.Refusals.{IsTaken, begins_at_the_end};
+ghost use Rattle.totem_node.specs.Refusals.{begun_by, IsTaken, begins_at_the_end, Tells};
 ghost use Rattle.totem_node.specs.Transitions.{IsTransition};
 
-use crate::crowd::{Part, set_of};
+use crate::crowd::{Part, is_crowded, is_crowded_with, set_of};
 use crate::fault::NodeFault;
 use crate::node_core::NodeCore;
 use crate::state::State;
@@ -38,6 +39,17 @@ pub fn commit_passed_on(
     Ok((To::One(next), Packet::Commit(token)))
 }
 
+/// Returns whether a new gathering of `me` and this crowd, which includes `me`, would refuse this Join.
+fn is_stranger(crowd: &[Part<'_>], me: ProcId, join: &Join) -> bool
+    ensures { result ≡ is_stranger (begun_by me (crowd_of crowd.now)) join.now }
+{
+    join.sender == me
+        || !join.processes.contains(join.sender)
+        || join.failed.contains(join.sender)
+        || !join.failed.is_within(&join.processes)
+        || is_crowded_with(crowd, &Part::all(join.processes.as_slice()))
+}
+
 /// Returns the gathering after the Join that caused it, if there is one.
 fn taking(alloc: Global, mut gather: Gather, cause: Option<&Join>) -> Result<Gather, NodeFault>
     ensures { Gives result (taking gather (option_copied cause.entry)) }
@@ -49,6 +61,30 @@ fn taking(alloc: Global, mut gather: Gather, cause: Option<&Join>) -> Result<Gat
 }
 
 impl NodeCore {
+    /// Returns why the node would not begin to gather, with the processes `extra` and because of the Join `cause`.
+    #[tactic(auto, using(crate::proofs::Foretelling::base_with_me, crate::proofs::Foretelling::gather_tells))]
+    pub(crate) fn gather_refusal(&self, extra: &[ProcId], cause: Option<&Join>) -> Option<NodeFault>
+        ensures { Tells result (begins_at_the_end self.now extra.now (option_copied cause.entry)) (to_gather self.now extra.now (option_copied cause.entry)) }
+    {
+        let me = [self.me];
+        let crowd = [
+            Part::all(self.installed.members()),
+            Part::all(extra),
+            self.committed(),
+            Part::all(&me),
+        ];
+        if is_crowded(&crowd) {
+            return Some(NodeFault::Stranger);
+        }
+        let Some(join) = cause else {
+            return None;
+        };
+        if is_stranger(&crowd, self.me, join) {
+            return Some(NodeFault::Stranger);
+        }
+        None
+    }
+
     /// Returns the transition in which the least member makes the commit token and sends it on.
     fn commit_begun(
         &self,

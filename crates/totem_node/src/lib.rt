@@ -28,7 +28,6 @@ mod messages;
 mod node_core;
 mod outcome;
 mod recovering;
-mod refusing;
 mod reporting;
 mod ring_step;
 mod state;

@@ -1,22 +1,29 @@
-//! How a node takes messages.
-ghost use Rattle.std.specs.Prelude.{◌≡◌, Err, IfOk, IfSome};
+//! Decides whether a message is refused, and takes one that is not (docs/PROTOCOL.md, "The node").
+ghost use Rattle.std.specs.Prelude.{◌≡◌, Err, IfOk, IfSome, false};
 ghost use Rattle.totem_ids.specs.declared.conf.ConfId.TheVariants.{Regular};
 ghost use Rattle.totem_recover.specs.Finish.{deliveries};
 ghost use Rattle.totem_node.specs.Nodes.{Operational};
 ghost use Rattle.totem_node.specs.Visiting.{message_steps, message_told, message_on_installed};
-ghost use Rattle.totem_node.specs.Table.{message_in_operational, on_message};
-ghost use Rattle.totem_node.specs.Refusals.{IsTaken, message_at_the_end};
+ghost use Rattle.totem_node.specs.Table.{message_in_operational, message_in_gather, message_in_recovery, on_message};
+ghost use Rattle.totem_node.specs.Refusals.{refused_by, IsTaken, message_at_the_end, Tells};
 ghost use Rattle.totem_node.specs.Answers.{IsTold, IsStep};
 
-use crate::fault::NodeFault;
+use crate::fault::{NodeFault, of_its_ring};
 use crate::node_core::NodeCore;
 use crate::outcome::StepOut;
 use crate::recovering::message_on_new;
-use crate::state::State;
+use crate::state::{Recovering, State};
 use crate::told::{deliveries_on, one_step};
 use std::alloc::{AllocError, Global};
-use totem_packets::Message;
+use totem_packets::{Message, is_among};
 use totem_ring::{Act, RingOut, RingState, is_same_ring};
+
+/// Returns why the ring would refuse this message.
+fn refused_by(ring: &RingState, message: &Message) -> Option<NodeFault>
+    ensures { result ≡ refused_by ring.now message.now }
+{
+    of_its_ring(ring.message_refusal(message))
+}
 
 /// Returns what a node reports of a message that a ring took.
 pub fn tell(
@@ -51,6 +58,56 @@ fn message_told(alloc: Global, ring: &mut RingState, message: Message) -> Result
 }
 
 impl NodeCore {
+    /// Returns why the node would refuse a message in Operational.
+    #[tactic(auto, using(crate::proofs::Foretelling::on_ring_tells))]
+    fn refusal_in_operational(&self, message: &Message) -> Option<NodeFault>
+        ensures { Tells result (message_at_the_end self.now message.now Operational) (message_in_operational self.now message.now) }
+    {
+        if is_same_ring(message.ring, self.installed.ring()) {
+            return refused_by(&self.installed, message);
+        }
+        if is_among(self.installed.members(), message.sender) {
+            return Some(NodeFault::OtherRing);
+        }
+        self.gather_refusal(&[message.sender], None)
+    }
+
+    /// Returns why the node would refuse a message in Gather.
+    #[tactic(auto, using(crate::proofs::Foretelling::on_ring_tells))]
+    fn refusal_in_gather(&self, message: &Message) -> Option<NodeFault>
+        ensures { Tells result false (message_in_gather self.now message.now) }
+    {
+        if is_same_ring(message.ring, self.installed.ring()) && self.filled.is_none() {
+            return refused_by(&self.installed, message);
+        }
+        Some(NodeFault::OtherRing)
+    }
+
+    /// Returns why the node would refuse a message in Recovery.
+    #[tactic(auto, using(crate::proofs::Foretelling::on_ring_tells))]
+    fn refusal_in_recovery(&self, x: &Recovering, message: &Message) -> Option<NodeFault>
+        ensures { Tells result false (message_in_recovery self.now x.now message.now) }
+    {
+        if is_same_ring(message.ring, self.installed.ring())
+            || !is_same_ring(message.ring, x.ring.ring())
+        {
+            return Some(NodeFault::OtherRing);
+        }
+        refused_by(&x.ring, message)
+    }
+
+    /// Returns why the node would refuse a message.
+    pub(crate) fn message_refusal(&self, message: &Message) -> Option<NodeFault>
+        ensures { Tells result (message_at_the_end self.now message.now self.now.state) (on_message self.now message.now self.now.state) }
+    {
+        match &self.state {
+            State::Operational => self.refusal_in_operational(message),
+            State::Gathering(_) => self.refusal_in_gather(message),
+            State::Committing(_) => Some(NodeFault::OtherRing),
+            State::InRecovery(x) => self.refusal_in_recovery(x, message),
+        }
+    }
+
     /// Takes a message of the installed ring.
     fn message_on_installed(
         &mut self,

@@ -1,79 +1,45 @@
-//! The step of a node, which forwards each input to its module.
-ghost use Rattle.std.specs.Prelude.{◌≡◌, Err, IfSome, false};
-ghost use Rattle.totem_packets.specs.declared.packet.Packet.TheVariants as packet;
-ghost use Rattle.totem_node.specs.Table.{starting, on_token, on_packet, step};
+//! Decides whether a step is refused, and takes one that is not: the module of its input does both.
+ghost use Rattle.std.specs.Prelude.{◌≡◌, Err, IfSome};
+ghost use Rattle.totem_node.specs.Table.{on_packet, step};
 ghost use Rattle.totem_node.specs.declared.fault.NodeFault.TheVariants.{Memory};
-ghost use Rattle.totem_node.specs.Refusals.{join_at_the_end, packet_at_the_end, is_at_the_end, IsTaken};
+ghost use Rattle.totem_node.specs.Refusals.{packet_at_the_end, is_at_the_end, IsTaken, Tells};
 ghost use Rattle.totem_node.specs.Answers.{IsStep};
 
 use crate::fault::NodeFault;
 use crate::input::Input;
-use crate::leaving::{visit_first, visit_with_next};
 use crate::node_core::NodeCore;
 use crate::outcome::StepOut;
-use crate::state::State;
 use std::alloc::Global;
-use totem_packets::{CommitToken, Join, Packet, Token};
+use totem_packets::Packet;
 
 impl NodeCore {
-    /// Takes a token that is not refused.
-    fn on_token(&mut self, alloc: Global, token: &Token) -> Result<StepOut, NodeFault>
-        requires { IsTaken false (on_token self.old token.now self.old.state) }
-        ensures { IsStep self.old self.new result (on_token self.old token.now self.old.state) }
+    /// Returns why the node would refuse a packet.
+    fn packet_refusal(&self, alloc: Global, packet: &Packet) -> Option<NodeFault>
+        ensures { Tells result (packet_at_the_end self.now packet.now) (on_packet self.now packet.now) }
     {
-        match &mut self.state {
-            State::Operational => self.visit_installed(alloc, token),
-            State::Gathering(_) => unreachable!(),
-            State::Committing(_) => unreachable!(),
-            State::InRecovery(x) => {
-                let visit = visit_with_next(
-                    alloc,
-                    &x.recovery,
-                    &self.installed,
-                    &mut x.ring,
-                    token,
-                )?;
-                Ok(self.note_visit(alloc, visit))
-            }
+        match packet {
+            Packet::Message(message) => self.message_refusal(message),
+            Packet::Token(token) => self.token_refusal(token),
+            Packet::Join(join) => self.join_refusal(join),
+            Packet::Commit(token) => self.commit_refusal(alloc, token),
         }
     }
 
-    /// Takes the first token of the new ring at once, because the commit token has come back.
-    fn start_ring(&mut self, alloc: Global) -> Result<StepOut, NodeFault>
-        requires { IsTaken false (starting self.old self.old.state) }
-        ensures { IsStep self.old self.new result (starting self.old self.old.state) }
+    /// Returns why `step` would refuse this input, or `None` if it would take it. Doesn't allocate. Whether a gathering
+    /// reaches consensus is not known before its sets are made. So if one does, and is refused as `Range` because no
+    /// number is left for its ring, the answer is `None` too. Only a foreign message, a Join or a timer can lead there.
+    pub fn refusal(&self, alloc: Global, input: &Input) -> Option<NodeFault>
+        ensures { Tells result (is_at_the_end self.now input.now) (step self.now input.now) }
     {
-        match &mut self.state {
-            State::Operational => unreachable!(),
-            State::Gathering(_) => unreachable!(),
-            State::Committing(_) => unreachable!(),
-            State::InRecovery(x) => {
-                let visit = visit_first(alloc, &self.installed, x)?;
-                Ok(self.note_visit(alloc, visit))
-            }
+        if self.crashed {
+            return Some(NodeFault::Stopped);
         }
-    }
-
-    /// Takes a Join that is not refused.
-    fn on_join(&mut self, alloc: Global, join: &Join) -> Result<StepOut, NodeFault>
-        requires { IsTaken (join_at_the_end self.old join.now self.old.state) (on_packet self.old (packet.Join join.now)) }
-        ensures { IsStep self.old self.new result (on_packet self.old (packet.Join join.now)) }
-    {
-        match self.join_transition(alloc, join) {
-            Ok(transition) => Ok(self.apply(alloc, transition)),
-            Err(fault) => Err(fault),
+        match input {
+            Input::Submit { payload, .. } => self.submit_refusal(payload),
+            Input::Packet(packet) => self.packet_refusal(alloc, packet),
+            Input::Timer => self.timer_refusal(),
+            Input::Crash => None,
         }
-    }
-
-    /// Takes a commit token that is not refused.
-    fn on_commit(&mut self, alloc: Global, token: &CommitToken) -> Result<StepOut, NodeFault>
-        requires { IsTaken false (on_packet self.old (packet.Commit token.now)) }
-        ensures { IsStep self.old self.new result (on_packet self.old (packet.Commit token.now)) }
-    {
-        if let Some(transition) = self.commit_transition(alloc, token)? {
-            return Ok(self.apply(alloc, transition));
-        }
-        self.start_ring(alloc)
     }
 
     /// Takes a packet that is not refused.

@@ -1,7 +1,7 @@
-//! How a node takes timers.
+//! Decides whether a timer is refused, and takes one that is not (docs/PROTOCOL.md, "The node").
 ghost use Rattle.std.specs.Prelude.{◌≡◌, IfOk};
 ghost use Rattle.totem_node.specs.Table.{late, is_quiet, on_timer};
-ghost use Rattle.totem_node.specs.Refusals.{IsTaken, timer_at_the_end};
+ghost use Rattle.totem_node.specs.Refusals.{IsTaken, timer_at_the_end, Tells};
 ghost use Rattle.totem_node.specs.Transitions.{IsTransition, IsTimerTransition, IsCounting};
 ghost use Rattle.totem_node.specs.Answers.{IsStep};
 
@@ -22,6 +22,27 @@ const QUIET: u8 = 2;
 const PATIENCE: u8 = 1;
 
 impl NodeCore {
+    /// Returns whether so many timers were counted that the next one makes the node gather, unless it gathers already.
+    fn is_quiet(&self) -> bool
+        ensures { result ≡ is_quiet self.now }
+    {
+        self.quiet >= QUIET
+    }
+
+    /// Returns why the node would refuse a timer, of which only one that makes it gather may be refused.
+    #[tactic(auto, using(crate::proofs::Foretelling::gathers_on))]
+    pub(crate) fn timer_refusal(&self) -> Option<NodeFault>
+        ensures { Tells result (timer_at_the_end self.now self.now.state) (on_timer self.now self.now.state) }
+    {
+        if let State::Gathering(_) = &self.state {
+            return None;
+        }
+        if !self.is_quiet() {
+            return None;
+        }
+        self.gather_refusal(&[], None)
+    }
+
     /// Returns the transition in which a gathering gives up those that did not agree in time.
     fn late(&self, alloc: Global, gather: &Gather) -> Result<Transition, NodeFault>
         ensures { IsTransition result self.now (late self.now gather.now) }
@@ -31,13 +52,6 @@ impl NodeCore {
         let mut packets = Vec::new(alloc);
         packets.push(join_broadcast(alloc, &next)?)?;
         self.look_at_consensus(alloc, 0, next, out.members, packets)
-    }
-
-    /// Returns whether so many timers were counted that the next one makes the node gather, unless it gathers already.
-    pub(crate) fn is_quiet(&self) -> bool
-        ensures { result ≡ is_quiet self.now }
-    {
-        self.quiet >= QUIET
     }
 
     /// Returns the transition that this timer causes, which is not refused, or `None` if it is only counted.
