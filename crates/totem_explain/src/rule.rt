@@ -6,7 +6,7 @@ pub fn rule_of(spec: SpecNo) -> &'static str {
     match spec {
         SpecNo::Cycle => "No event comes before itself.",
         SpecNo::Unsent => {
-            "What is delivered was sent in the regular configuration of the delivery, or in the one just before."
+            "A message is delivered only in the regular configuration in which it was sent, or in the transitional one right after it."
         }
         SpecNo::Twice => {
             "A message is sent once, in a regular configuration, and each process delivers it at most once."

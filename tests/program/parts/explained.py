@@ -58,7 +58,7 @@ def try_long_picture(program):
     came = told_by(program, ('--svg',), long_run())
     text = came.output.decode()
     parts = (
-        "<title id='title'>No: the run breaks specification 1.3. It requires: What is delivered was sent",
+        "<title id='title'>No: the run breaks specification 1.3. It requires: A message is delivered only",
         '>1: 2@202, process 2 delivered 4.1#999 in r4.1</text>',
         '>.. 198</text>',
         '<title>2@199: process 2 delivered 4.1#198 in r4.1</title>',
