@@ -40,7 +40,7 @@ const OPTIONS: [NumberOption; 6] = [
         least: 1,
         most: 1_000_000,
         default: "4000",
-        help: "Length of the run in ticks, from 1 to 1000000. At every eighth tick one node's timer expires and its client sends; the nodes take turns. Needs 4 KB of memory for each tick and node",
+        help: "Length of the run in ticks, from 1 to 1000000. At every eighth tick one node's timer expires and its client sends; the nodes take turns. Needs 4 KB of memory times ticks times nodes",
     },
     NumberOption {
         name: "seed",
@@ -48,7 +48,7 @@ const OPTIONS: [NumberOption; 6] = [
         least: 0,
         most: u64::MAX,
         default: "1",
-        help: "Seed for packet loss, duplication and reordering",
+        help: "Seed for packet loss, duplication and reordering. The timing of the threads varies, so the same seed may give another run",
     },
     NumberOption {
         name: "lose",
@@ -92,7 +92,7 @@ fn weave_option<'a>(alloc: Global) -> Arg<'a> {
         .long("weave")
         .action(ArgAction::SetTrue)
         .help(
-            "Do not write the run. Look for one order (a schedule) of all steps of the threads on ring 4.1, and write its number of steps and the messages that each member delivered to its node; or, if there is none, the call that fits no schedule",
+            "Do not write the run. Look for a schedule: one order of all steps of the nodes on ring 4.1, in which each packet is taken after it was sent. Write how many steps it has, and the messages that the ring passed to each node; if there is none, write a call that fits no schedule",
         )
 }
 

@@ -33,8 +33,13 @@ pub enum Words {
 }
 
 const ENDINGS: &str = "\
-Status: 0 the verdict is yes, a run was made, or (run --weave) a schedule was found; 1 the verdict is no, or (run --weave) a call fits
-no schedule; 2 the input was refused, or (run) a node's book of calls is full; 3 out of memory; 4 a stream failed; 64 usage error.";
+Exit status:
+  0   the verdict is yes; a run was made; with run --weave: a schedule was found
+  1   the verdict is no; with run --weave: a call fits no schedule
+  2   the input was refused; with run: a node's book of calls is full
+  3   out of memory
+  4   a stream failed
+  64  usage error";
 
 const AUDIT_EXAMPLE: &str = "\
 A log ends with the line `failed` if its last entry is a failure. Other logs end with `open` or, in version 3 of the run text, with
@@ -56,7 +61,7 @@ fn workers_option<'a>(alloc: Global) -> Arg<'a> {
         .value_parser(ValueParser::Unsigned(1, 64))
         .default_value("1")
         .help(
-            "Number of threads, from 1 to 64, that share the last pass; the output is the same for any number",
+            "Number of threads, from 1 to 64, that search the run's configurations for faults; the output is the same for any number",
         )
 }
 
@@ -81,7 +86,7 @@ fn script_option<'a>(alloc: Global) -> Arg<'a> {
         .long("script")
         .action(ArgAction::SetTrue)
         .help(
-            "Take a script: write the run that it makes, as sim does, or show the line at which it is refused",
+            "Read a script instead of a run. Write the run that it makes, as sim does; if it is refused, show the line",
         )
 }
 
