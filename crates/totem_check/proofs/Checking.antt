@@ -9,7 +9,7 @@ use Rattle.totem_pass_ab.specs.Listed.{ListsFirst}
 use Rattle.totem_evs.proofs.Synchronous.{meets_passes, meets_configurations, synchronous, sound}
 use Rattle.totem_certificate_check.specs.declared.certificate_fault.CertificateFault.{CertificateFault}
 use Rattle.totem_certificate_check.specs.declared.certificate_fault.CertificateFault.TheVariants as certificate
-use Rattle.totem_check.specs.declared.accepted.Accepted.{Accepted}
+use Rattle.totem_check.specs.declared.checker.Accepted.{Accepted}
 use Rattle.totem_check.specs.declared.check_fault.CheckFault.{CheckFault}
 use Rattle.totem_check.specs.declared.check_fault.CheckFault.TheVariants as faults
 use Rattle.totem_check.specs.CheckFaults.{check_fault}

@@ -7,7 +7,7 @@ use Rattle.totem_evs.specs.Unsettled.{ArePending, AreWaiting}
 use Rattle.totem_evs.specs.Faults.{Breaks}
 use Rattle.totem_evs.specs.Answers.{No, Lists, IsAnswered, pass_a, pass_b}
 use Rattle.totem_evs.specs.Certificates.{Numbering, Matches, Certified}
-use Rattle.totem_check.specs.declared.accepted.Accepted.{Accepted}
+use Rattle.totem_check.specs.declared.checker.Accepted.{Accepted}
 use Rattle.totem_certificate_check.specs.declared.certificate_fault.CertificateFault.TheVariants as certificate
 use Rattle.totem_check.specs.declared.check_fault.CheckFault.{CheckFault}
 use Rattle.totem_check.specs.declared.check_fault.CheckFault.TheVariants as faults

@@ -1,5 +1,13 @@
-//! The checker of runs and certificates. The crate's root file says what stands under its yes.
-ghost use Rattle.std.specs.Prelude.{IfOk};
+//! The checker of runs and certificates.
+//!
+//! What stands under a yes: `certified` of totem_certificate_check, which compares the certificate with the logs; `observe` of
+//! totem_observer, which gathers the traffic of each configuration along the certificate and compares it with the logs; and the
+//! rules of totem_run_rules and totem_traffic_rules, a module for each specification; over what runs and certificates are (totem_ids,
+//! totem_evs, totem_certificate). No search is among them. totem_verdicts reads the two texts and prints the answer.
+//!
+//! If these don't say yes, the passes (totem_pass_ab, totem_pass_d) are asked what is broken; if they found nothing, the answer would be
+//! yes all the same, but no such run is known.
+ghost use Rattle.std.specs.Prelude.{◌≡◌, IfOk};
 ghost use Rattle.totem_evs.specs.Answers.{HasCertificate};
 ghost use Rattle.totem_evs.specs.Certificates.{Certified};
 ghost use Rattle.totem_table.specs.Changes.{AreChanges};
@@ -7,18 +15,37 @@ ghost use Rattle.totem_traffic_rules.specs.Traffics.{AreTraffic};
 ghost use Rattle.totem_observer.specs.Judged.{IsView};
 ghost use Rattle.totem_check.specs.Checks.{HasPassed, IsEarlyFault, Judges, Checks, RefusesRightly, BeginsWith};
 
-use crate::accepted::Accepted;
 use crate::check_fault::CheckFault;
 use std::alloc::{AllocError, Global};
 use totem_certificate::Certificate;
 use totem_certificate_check::certified;
-use totem_evs::{Fault, Run};
+use totem_evs::{Fault, Pending, Run, Waiting};
 use totem_observer::{View, observe};
 use totem_pass_ab::pass_a_and_b;
 use totem_pass_d::{Jobs, pass_d_of, pending_of};
 use totem_run_rules::waiting;
 use totem_table::Changes;
 use totem_traffic_rules::Observed;
+
+/// What the checker accepts: the certificate certifies the run, the run meets the specifications, and these ascending lists
+/// have what is pending and which processes wait.
+#[derive(Debug, Drop)]
+pub struct Accepted {
+    pub pending: Vec<Pending>,
+    pub waiting: Vec<Waiting>,
+}
+
+impl Accepted {
+    pub fn try_clone(&self, alloc: Global) -> Result<Accepted, AllocError>
+        ensures pending { IfOk result (λ a. a.pending.items ≡ self.now.pending.items) }
+        ensures waiting { IfOk result (λ a. a.waiting.items ≡ self.now.waiting.items) }
+    {
+        Ok(Accepted {
+            pending: self.pending.to_vec(alloc)?,
+            waiting: self.waiting.to_vec(alloc)?,
+        })
+    }
+}
 
 fn first_of(mut faults: Vec<Fault>) -> Option<Fault>
     ensures { BeginsWith faults.items result }

@@ -23,7 +23,11 @@ fn pass_a_over(alloc: Global, run: &Run, changes: &Changes) -> Result<Vec<Fault>
         SpecNo::Configuration,
         configuration_2_3::find(alloc, run, changes)?,
     )?;
-    with_found(forms, SpecNo::Turns, succession_2_4::find(alloc, run, changes)?)
+    with_found(
+        forms,
+        SpecNo::Turns,
+        succession_2_4::find(alloc, run, changes)?,
+    )
 }
 
 /// Pass B, given the changes of the run.

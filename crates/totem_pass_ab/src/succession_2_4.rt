@@ -17,7 +17,7 @@ use crate::origins::Origins;
 use std::alloc::{AllocError, Global};
 use totem_evs::{Entry, Places, Run, SpecNo};
 use totem_ids::{ConfId, Place, Proc, RingId};
-use totem_run_rules::is_wrong;
+use totem_run_rules::is_wrong_succession;
 use totem_table::{Changes, Relation, begin_at, enter_changes, least, places_of};
 
 /// Returns whether a change is before this index of a log. Walks back to the last one.
@@ -117,7 +117,7 @@ impl Relation for Turns<'_> {
         let Some(succession) = succession_at(log, at) else {
             return Ok(None);
         };
-        if is_wrong(
+        if is_wrong_succession(
             succession.conf,
             succession.members,
             succession.next,

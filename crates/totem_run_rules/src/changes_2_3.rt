@@ -1,5 +1,7 @@
 //! 2.3: each configuration has one list of members, in which each process that changes to it is; and 2.4, by `succession_2_4`, on the same
 //! walk along the changes (docs/SPECIFICATIONS.md, "2 Changes of configuration").
+//!
+//! This is the rule, which says yes. The search, which names what breaks it, is totem_pass_ab `configuration_2_3`.
 ghost use Rattle.std.specs.Prelude.{◌≡◌, ◌<◌, IfOk, length};
 ghost use Rattle.std.specs.Bool.{OnTrue};
 ghost use Rattle.totem_run_rules.specs.Orderly.{ChangesAgree};

@@ -28,5 +28,5 @@ pub use misplaced_2_2::{all_stay_in_place, first_misplaced};
 pub use once_1_4::{deliveries_are_once, sends_are_once};
 pub use orderly::is_orderly;
 pub use standing::has_failed;
-pub use succession_2_4::{is_wrong, walk_to_change};
+pub use succession_2_4::{is_wrong_succession, walk_to_change};
 pub use waitings::{in_order, waiting};

@@ -1,4 +1,6 @@
 //! 2.2: each entry is where it is allowed (docs/SPECIFICATIONS.md, "2 Changes of configuration").
+//!
+//! This is the rule, which says yes. The search, which names what breaks it, is totem_pass_ab `misplaced_2_2`.
 ghost use Rattle.std.specs.Prelude.{◌≡◌, ℕ, ◌<◌, ◌↔◌, IsTrue, IfSome, IfNone, Some};
 ghost use Rattle.std.specs.Bool.{OnTrue};
 ghost use Rattle.totem_evs.specs.Changes.{StaysInPlace};

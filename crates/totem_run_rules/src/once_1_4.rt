@@ -1,5 +1,7 @@
 //! 1.4: each message is sent once, in a regular configuration, and each log delivers it once (docs/SPECIFICATIONS.md, "1 Basic
 //! delivery").
+//!
+//! This is the rule, which says yes. The search, which names what breaks it, is totem_pass_ab `twice_1_4`.
 ghost use Rattle.std.specs.Prelude.{◌≡◌, ◌≢◌, ◌++◌, ◌+◌, ◌<◌, ℕ, IfOk, OnOk, length, slice_index_or};
 ghost use Rattle.std.specs.Bool.{OnTrue};
 ghost use Rattle.std.specs.Ordering.{is_lt};

@@ -1,5 +1,7 @@
 //! 2.4: regular and transitional configurations alternate, the first is regular, and from which ring a log comes to each. That all
 //! logs come to it from one ring is for `changes_2_3` to test (docs/SPECIFICATIONS.md, "2 Changes of configuration").
+//!
+//! This is the rule, which says yes. The search, which names what breaks it, is totem_pass_ab `succession_2_4`.
 ghost use Rattle.std.specs.Prelude.{◌≡◌, ◌↔◌, ◌<◌, All, Contains, IfSome, IsTrue, length};
 ghost use Rattle.totem_ids.specs.declared.conf.ConfId.TheVariants.{Regular};
 ghost use Rattle.totem_evs.specs.Following.{IsNextOrEnd};
@@ -24,7 +26,12 @@ fn contains_all(members: &Members, others: &Members) -> bool
 }
 
 /// Returns whether the succession is wrong: the second change may not be the next after the first.
-pub fn is_wrong(conf: &ConfId, members: &Members, next: &ConfId, next_members: &Members) -> bool
+pub fn is_wrong_succession(
+    conf: &ConfId,
+    members: &Members,
+    next: &ConfId,
+    next_members: &Members,
+) -> bool
     ensures { IsTrue result ↔ IsWrongSuccession conf.now members.now next.now next_members.now }
 {
     match (conf, next) {
@@ -63,7 +70,7 @@ pub fn came_from<'a>(
     let Entry::Conf(before, before_members) = &log[at] else {
         return None;
     };
-    if is_wrong(before, before_members, conf, members) {
+    if is_wrong_succession(before, before_members, conf, members) {
         return None;
     }
     match conf {

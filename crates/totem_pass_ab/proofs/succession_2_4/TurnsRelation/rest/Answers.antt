@@ -10,27 +10,27 @@ pub returns-in_default : goal.returns-in_default
 returns-in_default c =
     none_without_succession _ _ _ (begins_not c.args.self.now.run.now.logs _ _ _ _ c.requires.log c.if-begins_transitional.false c.begins_transitional.ensures) (rw c.requires.log at c.in_default.ensures.none)
 
-pub returns-then-is_wrong : goal.returns-then-is_wrong
-returns-then-is_wrong c =
-    rw (c.in_ok-begin_at.ensures, c.new-then-is_wrong.ensures.items)
-    (wrong_here _ _ _ _ _ _ _ _ (begins_not c.args.self.now.run.now.logs _ _ _ _ c.requires.log c.if-begins_transitional.false c.begins_transitional.ensures) (rw c.requires.log at c.in-Some.ensures.found) (c.if-is_wrong.ensures.0 refl))
+pub returns-then-is_wrong_succession : goal.returns-then-is_wrong_succession
+returns-then-is_wrong_succession c =
+    rw (c.in_ok-begin_at.ensures, c.new-then-is_wrong_succession.ensures.items)
+    (wrong_here _ _ _ _ _ _ _ _ (begins_not c.args.self.now.run.now.logs _ _ _ _ c.requires.log c.if-begins_transitional.false c.begins_transitional.ensures) (rw c.requires.log at c.in-Some.ensures.found) (c.if-is_wrong_succession.ensures.0 refl))
 
 pub returns-in_default-conf : goal.returns-in_default-conf
 returns-in_default-conf c =
-    none_after_right _ _ _ _ _ _ _ _ (begins_not c.args.self.now.run.now.logs _ _ _ _ c.requires.log c.if-begins_transitional.false c.begins_transitional.ensures) (rw c.requires.log at c.in-Some.ensures.found) (λ h. let t = c.if-is_wrong.ensures.1 h in cc) (λ ring is. absurd (c.in_default-conf.not-Regular ring is))
+    none_after_right _ _ _ _ _ _ _ _ (begins_not c.args.self.now.run.now.logs _ _ _ _ c.requires.log c.if-begins_transitional.false c.begins_transitional.ensures) (rw c.requires.log at c.in-Some.ensures.found) (λ h. let t = c.if-is_wrong_succession.ensures.1 h in cc) (λ ring is. absurd (c.in_default-conf.not-Regular ring is))
 
 pub returns-then-is_only : goal.returns-then-is_only
 returns-then-is_only c =
-    none_after_right _ _ _ _ _ _ _ _ (begins_not c.args.self.now.run.now.logs _ _ _ _ c.requires.log c.if-begins_transitional.false c.begins_transitional.ensures) (rw c.requires.log at c.in-Some.ensures.found) (λ h. let t = c.if-is_wrong.ensures.1 h in cc)
+    none_after_right _ _ _ _ _ _ _ _ (begins_not c.args.self.now.run.now.logs _ _ _ _ c.requires.log c.if-begins_transitional.false c.begins_transitional.ensures) (rw c.requires.log at c.in-Some.ensures.found) (λ h. let t = c.if-is_wrong_succession.ensures.1 h in cc)
     (λ ring is. others_of_ring _ _ _ _ _ _ c.in-Regular.is is (none_known _ c.args.self.now.known (λ known. one_origin _ c.args.self.now.run.now.logs _ _ _ _ known (c.if-is_only.ensures.0 refl))))
 
 pub returns-in-None : goal.returns-in-None
 returns-in-None c =
-    none_after_right _ _ _ _ _ _ _ _ (begins_not c.args.self.now.run.now.logs _ _ _ _ c.requires.log c.if-begins_transitional.false c.begins_transitional.ensures) (rw c.requires.log at c.in-Some.ensures.found) (λ h. let t = c.if-is_wrong.ensures.1 h in cc)
+    none_after_right _ _ _ _ _ _ _ _ (begins_not c.args.self.now.run.now.logs _ _ _ _ c.requires.log c.if-begins_transitional.false c.begins_transitional.ensures) (rw c.requires.log at c.in-Some.ensures.found) (λ h. let t = c.if-is_wrong_succession.ensures.1 h in cc)
     (λ ring is. others_of_ring _ _ _ _ _ _ c.in-Regular.is is (none_of_all _ _ (others_begin c.args.self.now.run.now.logs _ _ _) (rw c.in-None.is at c.in_ok-least.ensures)))
 
 pub returns-in_ok-begin_at-in-Some-2 : goal.returns-in_ok-begin_at-in-Some-2
 returns-in_ok-begin_at-in-Some-2 c =
     rw c.in_ok-begin_at-in-Some-2.ensures
-    (some_after_right c.args.self.now.run.now.logs _ _ _ _ _ _ _ _ _ (begins_not c.args.self.now.run.now.logs _ _ _ _ c.requires.log c.if-begins_transitional.false c.begins_transitional.ensures) (rw c.requires.log at c.in-Some.ensures.found) (λ h. let t = c.if-is_wrong.ensures.1 h in cc) c.in-Regular.is
+    (some_after_right c.args.self.now.run.now.logs _ _ _ _ _ _ _ _ _ (begins_not c.args.self.now.run.now.logs _ _ _ _ c.requires.log c.if-begins_transitional.false c.begins_transitional.ensures) (rw c.requires.log at c.in-Some.ensures.found) (λ h. let t = c.if-is_wrong_succession.ensures.1 h in cc) c.in-Regular.is
     (least_of_all _ _ c.in-Some-2.rest.items (others_begin c.args.self.now.run.now.logs _ _ _) (rw c.in-Some-2.is at c.in_ok-least.ensures)))

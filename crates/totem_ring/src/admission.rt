@@ -1,4 +1,5 @@
-//! Decides whether a member refuses a message or a token, and why (docs/PROTOCOL.md, "The ring").
+//! Which messages and tokens a member takes on its ring, and why it refuses the others (docs/PROTOCOL.md, "The ring"). Whether a node refuses
+//! a message or a token depends on its state, too: that is decided in totem_node, `messages` and `tokens`.
 ghost use Rattle.std.specs.Prelude.{◌≡◌};
 ghost use Rattle.totem_ring.specs.Refusals.{is_none_or_member, is_above};
 
