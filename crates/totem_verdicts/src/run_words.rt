@@ -40,7 +40,7 @@ const OPTIONS: [NumberOption; 6] = [
         least: 1,
         most: 1_000_000,
         default: "4000",
-        help: "Length of the run in ticks, from 1 to 1000000. At every eighth tick one node's timer expires and its client sends; the nodes take turns. Needs 4 KB of memory times ticks times nodes",
+        help: "Length of the run in ticks, from 1 to 1000000. At every eighth tick one node's timer expires and its client sends; the nodes take turns. Needs 4 KB of memory for each tick of each node",
     },
     NumberOption {
         name: "seed",
@@ -64,7 +64,7 @@ const OPTIONS: [NumberOption; 6] = [
         least: 0,
         most: 100,
         default: "0",
-        help: "Percentage of packets duplicated; together with those dropped at most 100",
+        help: "Percentage of packets duplicated; this and the percentage of packets dropped may add up to at most 100",
     },
     NumberOption {
         name: "hold",

@@ -86,7 +86,7 @@ fn script_option<'a>(alloc: Global) -> Arg<'a> {
         .long("script")
         .action(ArgAction::SetTrue)
         .help(
-            "Read a script instead of a run. Write the run that it makes, as sim does; if it is refused, show the line",
+            "Read a script instead of a run, and write the run that the script makes, as sim does; if the script is refused, show the line",
         )
 }
 
