@@ -13,9 +13,10 @@
 //! Nothing is claimed about several rings that follow each other, nor that anything is ever delivered.
 #![tactic(auto)]
 
-mod admission;
 mod departure;
 mod fault;
+mod fitting;
+mod fitting;
 mod held;
 mod moves;
 mod order;

@@ -35,7 +35,7 @@ pub enum Words {
 const ENDINGS: &str = "\
 Exit status:
   0   the verdict is yes; a run was made; with run --weave: a schedule was found
-  1   the verdict is no; with run --weave: a call fits no schedule
+  1   the verdict is no; with run --weave: there is no schedule
   2   the input was refused; with run: a node's book of calls is full
   3   out of memory
   4   a stream failed
