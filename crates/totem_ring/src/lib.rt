@@ -16,7 +16,6 @@
 mod departure;
 mod fault;
 mod fitting;
-mod fitting;
 mod held;
 mod moves;
 mod order;
