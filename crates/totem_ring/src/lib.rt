@@ -13,9 +13,9 @@
 //! Nothing is claimed about several rings that follow each other, nor that anything is ever delivered.
 #![tactic(auto)]
 
+mod belonging;
 mod departure;
 mod fault;
-mod fitting;
 mod held;
 mod moves;
 mod order;
