@@ -92,7 +92,7 @@ fn weave_option<'a>(alloc: Global) -> Arg<'a> {
         .long("weave")
         .action(ArgAction::SetTrue)
         .help(
-            "Do not write the run. Look for a schedule: one order of all steps of the nodes on ring 4.1, in which each packet is taken after it was sent. Write how many steps it has, and the messages that the ring passed to each node; if there is none, write a call of a node that fits no schedule",
+            "Do not write the run. Look for a schedule: one order of all steps of the nodes on ring 4.1, in which each packet is taken after it was sent. If there is one, write how many steps it has, and the messages that the ring passed to each node; if not, write a call of a node that fits no schedule, whatever the order of the other calls",
         )
 }
 
