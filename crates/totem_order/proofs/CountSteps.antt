@@ -77,9 +77,6 @@ kept_most messages (suc given) (x ∷ xs) (n ∷ ns) c = let rest = kept_most me
 pub at_most_more : (counts : List ℕ) (a b : ℕ) → AtMost counts a → a ≤ b → AtMost counts b
 at_most_more counts a b few le = record { each = λ c. (let h = few.each c in omega arith) }
 
-pub adds_few : (old new : List ℕ) (class : Option ℕ) → AtMost old 90000000 → Adds old new (one class) → AtMost new 100000000
-adds_few old new class few adds = grind (arith, common_steps)
-
 -- no count is greater than twice the number of entries before
 pub behind_few : (messages : ℕ) (entries : List Entry) (row old new : List ℕ) (i : ℕ) → AtMost old 62000000 → length entries ≤ 1000000 → CountsBehind messages entries row old new i → AtMost new 90000000
 behind_few messages entries row old new i few short so_far = record { each = λ c. each c (less_or_not c (length new)) }

@@ -39,6 +39,13 @@ class_fed (Send m x s) n = Some n
 class_fed (Deliver m x) n = None
 class_fed (Fail x) n = None
 
+-- the class that an entry behind the head of its log keeps: the one that a send feeds, or its own
+abbrev pub class_kept : ℕ → Entry → ℕ → Option ℕ
+class_kept messages (Conf x ms) n = Some (messages + n)
+class_kept messages (Send m x s) n = Some n
+class_kept messages (Deliver m x) n = Some n
+class_kept messages (Fail x) n = None
+
 -- 1 for the given class, 0 for any other
 abbrev pub one : Option ℕ → ℕ → ℕ
 one None c = 0

@@ -2,6 +2,7 @@
 ghost use Rattle.std.specs.Prelude.{IfOk, IfSome, IfNone, OnOk};
 ghost use Rattle.totem_table.specs.Tables.{IsTable};
 ghost use Rattle.totem_order.specs.Counts.{Counts};
+ghost use Rattle.totem_order.specs.Heads.{IsHead};
 ghost use Rattle.totem_order.specs.Progress.{IsGiven, IsNextHead, IsNextIn, IsSound, NoneReady};
 
 use crate::counts::{count_all, number_head};
@@ -12,18 +13,24 @@ use totem_certificate::OpenLine;
 use totem_evs::Run;
 use totem_table::Table;
 
-/// Returns the index of the first log whose head is ready.
-fn first_counted(run: &Run, table: &Table, lines: &[OpenLine], counts: &[u32]) -> Option<usize>
+/// Returns the index of the first log whose head is ready, and what the head is.
+fn first_counted(
+    run: &Run,
+    table: &Table,
+    lines: &[OpenLine],
+    counts: &[u32],
+) -> Option<(usize, Head)>
     requires table { IsTable run.now.logs table.now }
     requires sound { IsSound run.now.logs lines.now }
     requires counts { Counts run.now.logs table.now lines.now counts.now }
-    ensures found { IfSome result (λ k. IsNextHead run.now.logs lines.now k) }
+    ensures found { IfSome result (λ r. IsNextHead run.now.logs lines.now r.0) }
+    ensures head { IfSome result (λ r. IsHead run.now.logs table.now lines.now r.0 r.1) }
     ensures none { IfNone result (NoneReady run.now.logs lines.now) }
 {
     for (k, log) in run.logs.as_slice().iter().enumerate() {
         let head = head_of(run, table, lines, k, log);
         if is_unkept(counts, head) {
-            return Some(k);
+            return Some((k, head));
         }
     }
     None
@@ -61,17 +68,19 @@ fn give_class(
     lines: &mut Vec<OpenLine>,
     counts: &mut [u32],
     k: usize,
+    head: Head,
     number: u32,
 ) -> Result<(), AllocError>
     requires table { IsTable run.now.logs table.now }
     requires counts { Counts run.now.logs table.now lines.old.items counts.old }
     requires sound { IsSound run.now.logs lines.old.items }
     requires next { IsNextHead run.now.logs lines.old.items k }
+    requires head { IsHead run.now.logs table.now lines.old.items k head }
     ensures given { OnOk result (IsGiven run.now.logs lines.old.items lines.new.items number) }
     ensures counts { OnOk result (Counts run.now.logs table.now lines.new.items counts.new) }
 {
     let log = &run.logs.as_slice()[k];
-    match head_of(run, table, lines, k, log) {
+    match head {
         Head::Class(class) => give_heads(run, table, lines, counts, class, number),
         Head::Alone => number_head(run, table, lines, counts, k, log, number),
         Head::End => Ok(()),
@@ -91,9 +100,9 @@ pub fn number_by_counts(
     let mut lines = started(alloc, run.logs.as_slice())?;
     let mut counts = count_all(alloc, run, table)?;
     let mut number = 0;
-    while let Some(k) = first_counted(run, table, &lines, &counts) {
+    while let Some((k, head)) = first_counted(run, table, &lines, &counts) {
         number += 1;
-        give_class(run, table, &mut lines, &mut counts, k, number)?;
+        give_class(run, table, &mut lines, &mut counts, k, head, number)?;
     }
     Ok(lines)
 }

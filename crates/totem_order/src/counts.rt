@@ -3,7 +3,7 @@
 ghost use Rattle.std.specs.Prelude.{◌≡◌, ◌+◌, ◌<◌, ◌≤◌, ◌^◌, IfOk, OnOk, Some, length, map, slice_get, slice_index_or};
 ghost use Rattle.totem_table.specs.Tables.{IsTable};
 ghost use Rattle.totem_order.specs.Progress.{empty_line};
-ghost use Rattle.totem_order.specs.Counts.{Adds, AtMost, Counts, CountsTo, HasHead, Pushes, Takes, class_fed, class_in, kept_in, one, passed, shared_by};
+ghost use Rattle.totem_order.specs.Counts.{Adds, AtMost, Counts, CountsTo, HasHead, Pushes, Takes, class_fed, class_in, class_kept, kept_in, one, passed, shared_by};
 
 use std::alloc::{AllocError, Global};
 use totem_certificate::OpenLine;
@@ -29,6 +29,18 @@ pub fn class_in(messages: usize, entry: &Entry, number: u32) -> Option<usize>
         Entry::Conf(_, _) => Some(messages + number as usize),
         Entry::Deliver(_, _) => Some(number as usize),
         _ => None,
+    }
+}
+
+/// Returns the class that an entry behind the head of its log keeps from being ready: the one that a send feeds, or its own.
+fn class_kept(messages: usize, entry: &Entry, number: u32) -> Option<usize>
+    requires { messages < 2 ^ 63 }
+    ensures { result ≡ class_kept messages entry.now number }
+{
+    match entry {
+        Entry::Conf(_, _) => Some(messages + number as usize),
+        Entry::Send(_, _, _) | Entry::Deliver(_, _) => Some(number as usize),
+        Entry::Fail(_) => None,
     }
 }
 
@@ -81,8 +93,7 @@ fn count_log(counts: &mut [u32], messages: usize, entries: &[Entry], row: &[u32]
     ensures { Adds counts.old counts.new (kept_in messages 0 entries.now row.now) }
 {
     for (at, entry) in entries.iter().enumerate() {
-        add(counts, class_fed(entry, row[at]));
-        add(counts, class_in(messages, entry, row[at]));
+        add(counts, class_kept(messages, entry, row[at]));
     }
     take(counts, class_next(messages, entries, row, 0));
 }

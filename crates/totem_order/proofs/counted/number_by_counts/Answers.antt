@@ -16,3 +16,6 @@ loop-k-preserved c = record {
   so_far = so_far_more _ _ _ _ c.loop-k.invariant.so_far c.in_ok-give_class.ensures.given;
   counts = (let same : take c.loop-k.counts.len (c.give_class.new.counts ++ drop (length c.give_class.new.counts) c.loop-k.counts.items) ≡ c.give_class.new.counts = grind (arith, common_steps) in rw same c.in_ok-give_class.ensures.counts);
 }
+
+pub give_class-requires-clause-head : goal.give_class-requires-clause-head
+give_class-requires-clause-head c = rw c.deref.ensures.value at c.in-Some.ensures.head
