@@ -1,6 +1,6 @@
 -- The first entries of logs without a number, by the numbers of their classes.
 use Rattle.std.proofs.lemmas.Grind.{common_steps}
-use Rattle.std.proofs.Common.{◌≡◌, ℕ, suc, ◌<◌, List, length, get_or, slice_get, Some, None, Bool, IsTrue, ◌↔◌, refl, sym, ap, arith}
+use Rattle.std.proofs.Common.{◌≡◌, ℕ, suc, ◌<◌, List, [], length, get_or, slice_get, Some, None, Bool, IsTrue, ◌↔◌, refl, sym, ap, arith}
 use Rattle.std.proofs.lemmas.Option.{slice_get_within, slice_get_read}
 use Rattle.totem_ids.specs.declared.place.Place.{Place}
 use Rattle.totem_evs.specs.declared.entry.Entry.{Entry}
@@ -9,12 +9,12 @@ use Rattle.totem_evs.specs.Events.{IsEvent}
 use Rattle.totem_evs.specs.Certificates.{Numbering}
 use Rattle.totem_evs.proofs.LogOf.{Rising}
 use Rattle.totem_table.specs.declared.table.Table.{Table}
-use Rattle.totem_table.specs.Tables.{IsTable, IsEntryAt}
+use Rattle.totem_table.specs.Tables.{IsTable, IsEntryAt, number_at}
 use Rattle.totem_order.specs.declared.heads.Head.{Head}
 use Rattle.totem_order.specs.declared.heads.Head.TheVariants.{End, Alone, Class}
 use Rattle.totem_order.specs.Search.{place}
-use Rattle.totem_order.specs.Counts.{class_at, count_of, given_at, Counts, HasHead}
-use Rattle.totem_order.specs.Heads.{IsHead, IsWithin, IsUnkept}
+use Rattle.totem_order.specs.Counts.{class_at, class_fed, class_in, count_of, fed_by, given_at, Counts, HasHead}
+use Rattle.totem_order.specs.Heads.{FeedsAlone, IsHead, IsWithin, IsUnkept}
 use Rattle.totem_order.specs.Progress.{Fits, IsNext, IsNextHead, IsNextIn, IsReady}
 use Rattle.totem_order.proofs.Lists.{at_index}
 use Rattle.totem_order.proofs.Classes.{class_within}
@@ -36,6 +36,19 @@ pub head_is : (run : List Log) (table : Table) (lines : List Numbering) (k c : �
 head_is run table lines k c End y is b in_c = absurd (let lt = is (given_at lines k) y b in omega arith)
 head_is run table lines k c Alone y (x, a, alone) b in_c = absurd (let one : x ≡ y = one_entry run k (given_at lines k) x y a b in let h : class_at table k (given_at lines k) y ≡ None = rw one at alone in cc)
 head_is run table lines k c (Class d) y (x, a, in_d) b in_c = let one : x ≡ y = one_entry run k (given_at lines k) x y a b in let h : class_at table k (given_at lines k) y ≡ Some d = rw one at in_d in cc
+
+-- an entry in a class with others feeds none
+shared_feeds : (messages : ℕ) (x : Entry) (n c : ℕ) → class_in messages x n ≡ Some c → class_fed x n ≡ None
+shared_feeds messages x n c in_c = grind (arith, common_steps)
+
+pub head_feeds : (run : List Log) (table : Table) (lines : List Numbering) (k : ℕ) (h : Head) (log : Log) (entries : List Entry) (row : List ℕ) (at : ℕ) → IsHead run table lines k h → slice_get run k ≡ Some log → entries ≡ log.entries
+    → row ≡ get_or table.rows.items k [] → at ≡ given_at lines k → FeedsAlone h (fed_by (slice_get entries at) (get_or row at 0))
+head_feeds run table lines k End log entries row at is log_at entries_is row_is at_is = tt
+head_feeds run table lines k Alone log entries row at is log_at entries_is row_is at_is = tt
+head_feeds run table lines k (Class c) log entries row at (x, a, in_c) log_at entries_is row_is at_is =
+    let one : a.log ≡ log = (let h = a.is_log in cc) in
+    let entry : slice_get entries at ≡ Some x = rw (entries_is, at_is, ← one) a.is_entry in
+    rw (entry, row_is, at_is) (shared_feeds (length table.messages.items) x (number_at table k (given_at lines k)) c in_c)
 
 pub has_head : (run : List Log) (lines : List Numbering) (k : ℕ) (log : Log) (x : Entry) → Fits run lines → slice_get run k ≡ Some log → IsEntryAt run k (given_at lines k) x → HasHead log lines k
 has_head run lines k log x fits log_at a =

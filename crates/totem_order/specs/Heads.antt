@@ -1,5 +1,5 @@
 -- The first entries of logs without a number.
-use Rattle.std.specs.Prelude.{◌≡◌, ℕ, ◌<◌, List, slice_index_or, Some, None}
+use Rattle.std.specs.Prelude.{◌≡◌, ℕ, ◌<◌, List, slice_index_or, Option, Some, None}
 use Rattle.totem_evs.specs.declared.entry.Entry.{Entry}
 use Rattle.totem_evs.specs.declared.log.Log.{Log}
 use Rattle.totem_evs.specs.Certificates.{Numbering}
@@ -14,6 +14,12 @@ abbrev pub IsHead : List Log → Table → List Numbering → ℕ → Head → T
 IsHead run table lines k End = (i : ℕ) (entry : Entry) → IsEntryAt run k i entry → i < given_at lines k
 IsHead run table lines k Alone = (entry : Entry) × IsEntryAt run k (given_at lines k) entry × (class_at table k (given_at lines k) entry ≡ None)
 IsHead run table lines k (Class c) = (entry : Entry) × IsEntryAt run k (given_at lines k) entry × (class_at table k (given_at lines k) entry ≡ Some c)
+
+-- a head that is in a class with others feeds none
+abbrev pub FeedsAlone : Head → Option ℕ → Type 0
+FeedsAlone End fed = Unit {0}
+FeedsAlone Alone fed = Unit {0}
+FeedsAlone (Class c) fed = fed ≡ None
 
 -- the head's class is one of the first n
 abbrev pub IsWithin : Head → ℕ → Type 0

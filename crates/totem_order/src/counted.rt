@@ -55,7 +55,7 @@ fn give_heads(
     for (k, log) in run.logs.as_slice().iter().enumerate() {
         let head = head_of(run, table, lines, k, log);
         if is_in_class(head, class) {
-            number_head(run, table, lines, counts, k, log, number)?;
+            number_head(run, table, lines, counts, k, log, head, number)?;
         }
     }
     Ok(())
@@ -82,7 +82,7 @@ fn give_class(
     let log = &run.logs.as_slice()[k];
     match head {
         Head::Class(class) => give_heads(run, table, lines, counts, class, number),
-        Head::Alone => number_head(run, table, lines, counts, k, log, number),
+        Head::Alone => number_head(run, table, lines, counts, k, log, head, number),
         Head::End => Ok(()),
     }
 }

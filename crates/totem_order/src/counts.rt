@@ -3,8 +3,10 @@
 ghost use Rattle.std.specs.Prelude.{◌≡◌, ◌+◌, ◌<◌, ◌≤◌, ◌^◌, IfOk, OnOk, Some, length, map, slice_get, slice_index_or};
 ghost use Rattle.totem_table.specs.Tables.{IsTable};
 ghost use Rattle.totem_order.specs.Progress.{empty_line};
-ghost use Rattle.totem_order.specs.Counts.{Adds, AtMost, Counts, CountsTo, HasHead, Pushes, Takes, class_fed, class_in, class_kept, kept_in, one, passed, shared_by};
+ghost use Rattle.totem_order.specs.Counts.{Adds, AtMost, Counts, CountsTo, HasHead, Pushes, Takes, class_fed, class_in, class_kept, fed_by, kept_in, one, passed, shared_by};
+ghost use Rattle.totem_order.specs.Heads.{FeedsAlone, IsHead};
 
+use crate::heads::Head;
 use std::alloc::{AllocError, Global};
 use totem_certificate::OpenLine;
 use totem_evs::{Entry, Log, Run};
@@ -25,9 +27,11 @@ pub fn class_in(messages: usize, entry: &Entry, number: u32) -> Option<usize>
     requires { messages < 2 ^ 63 }
     ensures { result ≡ class_in messages entry.now number }
 {
+    if let Entry::Deliver(_, _) = entry {
+        return Some(number as usize);
+    }
     match entry {
         Entry::Conf(_, _) => Some(messages + number as usize),
-        Entry::Deliver(_, _) => Some(number as usize),
         _ => None,
     }
 }
@@ -37,10 +41,12 @@ fn class_kept(messages: usize, entry: &Entry, number: u32) -> Option<usize>
     requires { messages < 2 ^ 63 }
     ensures { result ≡ class_kept messages entry.now number }
 {
+    if let Entry::Send(_, _, _) | Entry::Deliver(_, _) = entry {
+        return Some(number as usize);
+    }
     match entry {
         Entry::Conf(_, _) => Some(messages + number as usize),
-        Entry::Send(_, _, _) | Entry::Deliver(_, _) => Some(number as usize),
-        Entry::Fail(_) => None,
+        _ => None,
     }
 }
 
@@ -122,18 +128,38 @@ pub fn count_all(alloc: Global, run: &Run, table: &Table) -> Result<Vec<u32>, Al
     Ok(counts)
 }
 
-/// Updates the counts for the entry at `head`, which gets its number.
-fn advance(counts: &mut [u32], messages: usize, entries: &[Entry], row: &[u32], head: usize)
-    requires messages { messages < 2 ^ 63 }
-    requires head { head < length entries.now }
-    requires long { length entries.now ≡ length row.now }
-    ensures { Takes counts.old counts.new (passed messages entries.now row.now head) }
+/// Takes one from the count of the class that the entry feeds. The entry feeds none if it is in a class of its kind.
+#[tactic(auto, using(crate::proofs::CountingOne::takes_nothing))]
+fn take_fed(counts: &mut [u32], head: Head, entry: &Entry, number: u32)
+    requires { FeedsAlone head (class_fed entry.now number) }
+    ensures { Takes counts.old counts.new (one (class_fed entry.now number)) }
 {
-    take(counts, class_fed(&entries[head], row[head]));
-    take(counts, class_next(messages, entries, row, head + 1));
+    match head {
+        Head::Class(_) => {}
+        _ => take(counts, class_fed(entry, number)),
+    }
 }
 
-/// Gives the head of a log its number.
+/// Updates the counts for the entry at `at`, the head of its log, which gets its number.
+fn advance(
+    counts: &mut [u32],
+    messages: usize,
+    entries: &[Entry],
+    row: &[u32],
+    head: Head,
+    at: usize,
+)
+    requires messages { messages < 2 ^ 63 }
+    requires within { at < length entries.now }
+    requires long { length entries.now ≡ length row.now }
+    requires feeds { FeedsAlone head (fed_by (slice_get entries.now at) (slice_index_or row.now at 0)) }
+    ensures { Takes counts.old counts.new (passed messages entries.now row.now at) }
+{
+    take_fed(counts, head, &entries[at], row[at]);
+    take(counts, class_next(messages, entries, row, at + 1));
+}
+
+/// Gives the head of the k-th log its number.
 pub fn number_head(
     run: &Run,
     table: &Table,
@@ -141,17 +167,19 @@ pub fn number_head(
     counts: &mut [u32],
     k: usize,
     log: &Log,
+    head: Head,
     number: u32,
 ) -> Result<(), AllocError>
     requires table { IsTable run.now.logs table.now }
     requires counts { Counts run.now.logs table.now lines.old.items counts.old }
     requires log { slice_get run.now.logs k ≡ Some log.now }
-    requires head { HasHead log.now lines.old.items k }
+    requires more { HasHead log.now lines.old.items k }
+    requires head { IsHead run.now.logs table.now lines.old.items k head }
     ensures pushes { OnOk result (Pushes lines.old.items lines.new.items k number) }
     ensures counts { OnOk result (Counts run.now.logs table.now lines.new.items counts.new) }
 {
     let entries = log.entries.as_slice();
-    let head = lines[k].numbers().len();
+    let at = lines[k].numbers().len();
     lines[k].push(number)?;
     advance(
         counts,
@@ -159,6 +187,7 @@ pub fn number_head(
         entries,
         table.rows[k].as_slice(),
         head,
+        at,
     );
     Ok(())
 }

@@ -9,8 +9,8 @@ use Rattle.totem_order.proofs.counted.give_class.Goals as goal
 pub give_heads-requires-clause-next : goal.give_heads-requires-clause-next
 give_heads-requires-clause-next c = next_in _ _ _ _ _ (rw c.in-Class.is at c.requires.head) c.requires.next
 
-pub number_head-requires-clause-head : goal.number_head-requires-clause-head
-number_head-requires-clause-head c =
+pub number_head-requires-clause-more : goal.number_head-requires-clause-more
+number_head-requires-clause-more c =
     let at = read_at _ _ _ _ c.index-as_slice-k.result (c.as_slice.ensures.value ∙ ap (λ (r : RunRecord). r.logs) c.run.view_is) c.requires.next.log_at c.index-as_slice-k.is in
     has_head _ _ _ _ _ c.requires.sound.fits at (rw c.in-Alone.is at c.requires.head).1
 

@@ -21,6 +21,9 @@ loop-k-preserved c =
       })
     ]
 
+pub number_head-requires-clause-head : goal.number_head-requires-clause-head
+number_head-requires-clause-head c = rw c.deref.ensures.value at c.head_of-head.ensures
+
 pub returns-clause-given : goal.returns-clause-given
 returns-clause-given c =
     let runs = ap (λ (r : RunRecord). r.logs) c.run.view_is in
