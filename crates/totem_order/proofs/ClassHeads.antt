@@ -1,6 +1,6 @@
 -- The first entries of logs without a number, by the numbers of their classes.
 use Rattle.std.proofs.lemmas.Grind.{common_steps}
-use Rattle.std.proofs.Common.{◌≡◌, ℕ, suc, ◌<◌, List, [], length, get_or, slice_get, Some, None, Bool, IsTrue, ◌↔◌, refl, sym, ap, arith}
+use Rattle.std.proofs.Common.{◌≡◌, ℕ, suc, ◌<◌, List, [], length, get_or, slice_get, Some, None, Bool, IsTrue, ◌↔◌, refl, sym, ◌∙◌, ap, arith}
 use Rattle.std.proofs.lemmas.Option.{slice_get_within, slice_get_read}
 use Rattle.totem_ids.specs.declared.place.Place.{Place}
 use Rattle.totem_evs.specs.declared.entry.Entry.{Entry}
@@ -26,6 +26,12 @@ pub one_entry : (run : List Log) (k i : ℕ) (x y : Entry) → IsEntryAt run k i
 one_entry run k i x y a b = grind (arith, common_steps)
 
 -- ---- heads
+
+-- how many entries of a log have a number, as the code reads it
+pub given_read : (run : List Log) (lines : List Numbering) (k : ℕ) (log : Log) (read : Numbering) (numbers : List ℕ) → Fits run lines → slice_get run k ≡ Some log → read ≡ get_or lines k read → numbers ≡ read.numbers → length numbers ≡ given_at lines k
+given_read run lines k log read numbers fits log_at read_is is =
+    let at = slice_get_read lines _ k read refl (let lt = slice_get_within run k log log_at in let c = fits.count in omega arith) read_is in
+    ap length is ∙ sym (ap count_of at)
 
 -- the head, as the code reads it
 pub head_entry : (run : List Log) (lines : List Numbering) (k : ℕ) (log : Log) (entries : List Entry) (head : ℕ) (x : Entry) → slice_get run k ≡ Some log → head ≡ given_at lines k → entries ≡ log.entries → head < length entries → x ≡ get_or entries head x

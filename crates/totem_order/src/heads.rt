@@ -2,9 +2,9 @@
 ghost use Rattle.std.specs.Prelude.{◌≡◌, ◌↔◌, IsTrue, Some, length, slice_get};
 ghost use Rattle.totem_table.specs.Tables.{IsTable};
 ghost use Rattle.totem_order.specs.Heads.{IsHead, IsUnkept, IsWithin};
+ghost use Rattle.totem_order.specs.Progress.{Fits};
 
 use crate::counts::class_in;
-use crate::firsts::given_at;
 use totem_certificate::OpenLine;
 use totem_evs::{Log, Run};
 use totem_table::Table;
@@ -23,11 +23,12 @@ pub enum Head {
 /// Returns what the head of the k-th log is.
 pub fn head_of(run: &Run, table: &Table, lines: &[OpenLine], k: usize, log: &Log) -> Head
     requires table { IsTable run.now.logs table.now }
+    requires fits { Fits run.now.logs lines.now }
     requires log { slice_get run.now.logs k ≡ Some log.now }
     ensures { IsHead run.now.logs table.now lines.now k result }
 {
     let entries = log.entries.as_slice();
-    let head = given_at(lines, k);
+    let head = lines[k].numbers().len();
     if entries.len() <= head {
         return Head::End;
     }
