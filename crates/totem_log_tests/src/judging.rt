@@ -2,10 +2,10 @@
 use crate::values::is_told;
 use std::alloc::{AllocError, Global};
 use std::process::Abort;
-use totem_order::{Order, positions};
 use totem_evs::{Pending, Run, read_run};
 use totem_ids::{FromRead, MsgId, Proc, ProcId, RingId};
 use totem_observer::observe;
+use totem_order::{Order, positions};
 use totem_run_rules::{in_order, walk_to_change};
 
 /// Adds the judge's answer on a run, with the certificate that the auditor makes of it.

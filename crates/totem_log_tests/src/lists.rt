@@ -1,9 +1,9 @@
 //! Numbers, lines, certificates and members: each constructor, each copy, and what is refused.
 use crate::values::{push_lines, push_processes};
 use std::alloc::{AllocError, Global};
-use totem_order::{Certificate, Line, Lines, Numbers};
 use totem_evs::{Members, Refused};
 use totem_ids::{Proc, ProcId};
+use totem_order::{Certificate, Line, Lines, Numbers};
 
 /// Returns the first life of this identifier.
 pub fn proc(number: u16) -> Proc {

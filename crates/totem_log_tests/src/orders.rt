@@ -1,9 +1,9 @@
 //! The rules of a whole run: each says yes to a good run and no to one that breaks it.
 use crate::values::is_told;
 use std::alloc::{AllocError, Global};
-use totem_order::{Order, positions};
 use totem_evs::{Run, read_run};
 use totem_ids::FromRead;
+use totem_order::{Order, positions};
 use totem_run_rules::{
     all_stay_in_place, changes_agree, end_together, is_orderly, sends_are_once, waiting,
 };
