@@ -27,25 +27,39 @@ pub fn class_in(messages: usize, entry: &Entry, number: u32) -> Option<usize>
     requires { messages < 2 ^ 63 }
     ensures { result ≡ class_in messages entry.now number }
 {
-    if let Entry::Deliver(_, _) = entry {
-        return Some(number as usize);
-    }
     match entry {
         Entry::Conf(_, _) => Some(messages + number as usize),
+        Entry::Deliver(_, _) => Some(number as usize),
+        _ => None,
+    }
+}
+
+/// Returns the class of an entry whose number stands at an index of a row. Reads the number only of an entry that has a class.
+pub fn class_by_row(messages: usize, entry: &Entry, row: &[u32], at: usize) -> Option<usize>
+    requires messages { messages < 2 ^ 63 }
+    requires within { at < length row.now }
+    ensures { result ≡ class_in messages entry.now (slice_index_or row.now at 0) }
+{
+    if let Entry::Deliver(_, _) = entry {
+        return Some(row[at] as usize);
+    }
+    match entry {
+        Entry::Conf(_, _) => Some(messages + row[at] as usize),
         _ => None,
     }
 }
 
 /// Returns the class that an entry behind the head of its log keeps from being ready: the one that a send feeds, or its own.
-fn class_kept(messages: usize, entry: &Entry, number: u32) -> Option<usize>
-    requires { messages < 2 ^ 63 }
-    ensures { result ≡ class_kept messages entry.now number }
+fn class_kept(messages: usize, entry: &Entry, row: &[u32], at: usize) -> Option<usize>
+    requires messages { messages < 2 ^ 63 }
+    requires within { at < length row.now }
+    ensures { result ≡ class_kept messages entry.now (slice_index_or row.now at 0) }
 {
     if let Entry::Send(_, _, _) | Entry::Deliver(_, _) = entry {
-        return Some(number as usize);
+        return Some(row[at] as usize);
     }
     match entry {
-        Entry::Conf(_, _) => Some(messages + number as usize),
+        Entry::Conf(_, _) => Some(messages + row[at] as usize),
         _ => None,
     }
 }
@@ -84,7 +98,7 @@ pub fn class_next(messages: usize, entries: &[Entry], row: &[u32], next: usize) 
     ensures { result ≡ shared_by messages (slice_get entries.now next) (slice_index_or row.now next 0) }
 {
     if next < entries.len() {
-        class_in(messages, &entries[next], row[next])
+        class_by_row(messages, &entries[next], row, next)
     } else {
         None
     }
@@ -99,7 +113,7 @@ fn count_log(counts: &mut [u32], messages: usize, entries: &[Entry], row: &[u32]
     ensures { Adds counts.old counts.new (kept_in messages 0 entries.now row.now) }
 {
     for (at, entry) in entries.iter().enumerate() {
-        add(counts, class_kept(messages, entry, row[at]));
+        add(counts, class_kept(messages, entry, row, at));
     }
     take(counts, class_next(messages, entries, row, 0));
 }
@@ -128,7 +142,7 @@ pub fn count_all(alloc: Global, run: &Run, table: &Table) -> Result<Vec<u32>, Al
     Ok(counts)
 }
 
-/// Takes one from the count of the class that the entry feeds. The entry feeds none if it is in a class of its kind.
+/// Takes one from the count of the class that the entry feeds, a log's head. A head that is in a class with others feeds none.
 #[tactic(auto, using(crate::proofs::CountingOne::takes_nothing))]
 fn take_fed(counts: &mut [u32], head: Head, entry: &Entry, number: u32)
     requires { FeedsAlone head (class_fed entry.now number) }

@@ -4,7 +4,7 @@ ghost use Rattle.totem_table.specs.Tables.{IsTable};
 ghost use Rattle.totem_order.specs.Heads.{IsHead, IsUnkept, IsWithin};
 ghost use Rattle.totem_order.specs.Progress.{Fits};
 
-use crate::counts::class_in;
+use crate::counts::class_by_row;
 use totem_certificate::OpenLine;
 use totem_evs::{Log, Run};
 use totem_table::Table;
@@ -33,7 +33,7 @@ pub fn head_of(run: &Run, table: &Table, lines: &[OpenLine], k: usize, log: &Log
         return Head::End;
     }
     let row = table.rows[k].as_slice();
-    match class_in(table.messages.len(), &entries[head], row[head]) {
+    match class_by_row(table.messages.len(), &entries[head], row, head) {
         None => Head::Alone,
         Some(class) => Head::Class(class),
     }
