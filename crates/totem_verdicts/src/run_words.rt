@@ -40,7 +40,7 @@ const OPTIONS: [NumberOption; 6] = [
         least: 1,
         most: 1_000_000,
         default: "4000",
-        help: "Length of the run in ticks, from 1 to 1000000. At every eighth tick the timer of one node expires, and its client gives it a message to send; the nodes take turns. Needs 4 KB of memory times ticks times nodes",
+        help: "Length of the run in ticks, from 1 to 1000000. At every eighth tick the timer of one node expires, and its client gives it a message to send; the nodes take turns. Needs 4 KB of memory for each tick of each node: 4 KB times ticks times nodes",
     },
     NumberOption {
         name: "seed",
@@ -92,7 +92,7 @@ fn weave_option<'a>(alloc: Global) -> Arg<'a> {
         .long("weave")
         .action(ArgAction::SetTrue)
         .help(
-            "Do not write the run. Look for a schedule: one order of all steps of the nodes on ring 4.1, in which each packet is taken after it was sent. If there is one, write how many steps it has, and the messages that the ring passed to each node; if not, write a call of a node that fits no schedule, whatever the order of the other calls",
+            "Do not write the run. Look for a schedule: one order of all steps of the nodes on ring 4.1, in which each packet is taken after it was sent. If there is one, write how many steps it has, and the messages that the ring passed to each node; if there is no schedule, write a node's call that has no place in any order of the others",
         )
 }
 
