@@ -3,10 +3,10 @@
 //! What stands under a yes: `certified` of totem_certificate_check, which compares the certificate with the logs; `observe` of
 //! totem_observer, which gathers the traffic of each configuration along the certificate and compares it with the logs; and the
 //! rules of totem_run_rules and totem_traffic_rules, a module for each specification; over what runs and certificates are (totem_ids,
-//! totem_evs, totem_certificate). No search is among them. totem_verdicts reads the two texts and prints the answer.
+//! totem_evs, totem_certificate). totem_verdicts reads the two texts and prints the answer.
 //!
-//! If these don't say yes, the passes (totem_pass_ab, totem_pass_d) are asked what is broken; if they found nothing, the answer would be
-//! yes all the same, but no such run is known.
+//! If a rule says no, the passes (totem_pass_ab, totem_pass_d) search for what is broken. If they found nothing, the answer would be yes all
+//! the same, and they would stand under it too; but no such run is known.
 ghost use Rattle.std.specs.Prelude.{◌≡◌, IfOk};
 ghost use Rattle.totem_evs.specs.Answers.{HasCertificate};
 ghost use Rattle.totem_evs.specs.Certificates.{Certified};
@@ -123,7 +123,7 @@ fn settle(
     search_last(alloc, run, changes, view.observed)
 }
 
-/// Judges a certified run. The judge says yes if it can; otherwise a search finds what is broken.
+/// Judges a certified run: by the rules if the run can be observed, and otherwise by the searches.
 fn judged(alloc: Global, run: &Run, certificate: &Certificate) -> Result<Accepted, CheckFault>
     requires { Certified run.now.logs certificate.now.lines }
     ensures { Judges run.now.logs result }

@@ -1,12 +1,16 @@
 -- What the line of a send or a delivery has before the number of its message (docs/SPECIFICATIONS.md, "Run text").
-use Rattle.std.specs.Prelude.{List, ℕ, codes, Ok, Err, ◌==◌, if◌then◌else◌}
+use Rattle.std.specs.Prelude.{List, [], ℕ, codes, Ok, Err, Bool, false, ◌≡◌, ◌≤◌, ◌==◌, if◌then◌else◌, length, take}
 use Rattle.totem_ids.specs.declared.fault.TextFault.TheVariants as faults
-use Rattle.totem_ids.specs.Sources.{Parsed, ◌>>=◌}
+use Rattle.totem_ids.specs.declared.version.Version.{Version}
+use Rattle.totem_ids.specs.Sources.{Parsed, Settles, ◌>>=◌}
 use Rattle.totem_ids.specs.Numbers.{byte_at, word_at}
 use Rattle.totem_ids.specs.Parsers.{conf_at, ring_at}
 use Rattle.totem_ids.specs.Services.{service_at}
 use Rattle.totem_evs.specs.declared.entry.Entry.{Entry}
 use Rattle.totem_evs.specs.declared.entry.Entry.TheVariants as entries
+use Rattle.totem_evs.specs.declared.lines.Line.TheVariants as lines
+use Rattle.totem_evs.specs.Missing.{members_of}
+use Rattle.totem_evs.specs.RunGrammar.{line_at}
 use Rattle.totem_evs.specs.declared.repeats.Said.{Said}
 use Rattle.totem_evs.specs.declared.repeats.Said.TheVariants.{Send, Deliver}
 
@@ -38,3 +42,9 @@ start_at bytes = do
 abbrev pub entry_of : Said → ℕ → Entry
 entry_of (Send x service ring) n = entries.Send (record { ring = ring; number = n }) x service
 entry_of (Deliver x ring) n = entries.Deliver (record { ring = ring; number = n }) x
+
+-- the bytes begin with the line of this entry, which takes so many of them
+pub record BeginsWith (bytes : List ℕ) (e : Entry) (count : ℕ) : Type 0 where
+  pub settles : (version : Version) (some failed : Bool) → Settles (line_at version false some failed) (take count bytes) (lines.Entry e)
+  pub members : members_of e ≡ []
+  pub within : count ≤ length bytes

@@ -7,7 +7,7 @@ ghost use Rattle.totem_ids.specs.declared.version.Version.{Version};
 ghost use Rattle.totem_evs.specs.declared.lines.Line.TheVariants as lines;
 ghost use Rattle.totem_evs.specs.Missing.{members_of};
 ghost use Rattle.totem_evs.specs.RunGrammar.{line_at};
-ghost use Rattle.totem_evs.specs.LineStarts.{start_at, send_start, delivery_start, entry_of};
+ghost use Rattle.totem_evs.specs.LineStarts.{BeginsWith, start_at, send_start, delivery_start, entry_of};
 
 use crate::entry::Entry;
 use std::alloc::{AllocError, Global};
@@ -114,10 +114,7 @@ impl Start {
     /// Returns the entry with whose line these bytes begin, and how many bytes the line takes. Returns `None` if the line has another
     /// start, or the bytes end before it does.
     fn entry(&self, bytes: &[u8]) -> Option<(Entry, usize)>
-        ensures settles { IfSome result (λ e. (version : Version) (some failed : Bool)
-            → Settles (line_at version false some failed) (take e.1 bytes.now) (lines.Entry e.0)) }
-        ensures members { IfSome result (λ e. members_of e.0 ≡ []) }
-        ensures count { IfSome result (λ e. e.1 ≤ length bytes.now) }
+        ensures { IfSome result (λ e. BeginsWith bytes.now e.0 e.1) }
     {
         let text = self.text.as_slice();
         let begins = bytes.starts_with(text);
@@ -149,6 +146,13 @@ impl Repeat {
         }
     }
 
+    // Returns the start that came twice, if these bytes begin with it.
+    fn start_of(&self, bytes: &[u8]) -> Option<&Start> {
+        let start = self.start.as_ref()?;
+        let begins = bytes.starts_with(start.text.as_slice());
+        if begins { Some(start) } else { None }
+    }
+
     fn note(&mut self, alloc: Global, start: &[u8]) -> Result<(), AllocError> {
         if self.last.as_slice() == start {
             self.start = Start::of(alloc, start)?;
@@ -159,19 +163,21 @@ impl Repeat {
     }
 }
 
-/// The starts with which the lines of a run repeat.
+/// The starts with which the lines of a run repeat, by the kind of line.
 #[derive(Drop)]
 pub struct Repeats {
-    sends: Repeat,
     deliveries: Repeat,
+    agreed: Repeat,
+    safe: Repeat,
 }
 
 impl Repeats {
     /// Returns what is known before the first line.
     pub fn new(alloc: Global) -> Repeats {
         Repeats {
-            sends: Repeat::new(alloc),
             deliveries: Repeat::new(alloc),
+            agreed: Repeat::new(alloc),
+            safe: Repeat::new(alloc),
         }
     }
 
@@ -179,7 +185,10 @@ impl Repeats {
     fn start_for(&self, bytes: &[u8]) -> Option<&Start> {
         match bytes.first() {
             Some(b'd') => self.deliveries.start.as_ref(),
-            Some(b's') => self.sends.start.as_ref(),
+            Some(b's') => match self.agreed.start_of(bytes) {
+                Some(start) => Some(start),
+                None => self.safe.start.as_ref(),
+            },
             _ => None,
         }
     }
@@ -193,8 +202,7 @@ impl Repeats {
             × (S.failures source.new ≡ S.failures source.old)) }
     {
         let bytes = source.at_hand();
-        let start = self.start_for(bytes)?;
-        let (entry, count) = start.entry(bytes)?;
+        let (entry, count) = self.start_for(bytes)?.entry(bytes)?;
         let skipped = source.skip(count);
         if !skipped {
             return None;
@@ -207,9 +215,11 @@ impl Repeats {
         let Some(start) = start_in(bytes) else {
             return Ok(());
         };
-        match start.first() {
-            Some(b's') => self.sends.note(alloc, start),
-            _ => self.deliveries.note(alloc, start),
-        }
+        let repeat = match start.first() {
+            Some(b'd') => &mut self.deliveries,
+            _ if start.windows(3).any(|part| part == b" s ".as_slice()) => &mut self.safe,
+            _ => &mut self.agreed,
+        };
+        repeat.note(alloc, start)
     }
 }

@@ -1,4 +1,4 @@
-//! The judge: it reports what a good run leaves open, and refuses each run that breaks a specification.
+//! The observer and the rules: they report what a good run leaves open, and don't say yes to a run that breaks a specification.
 use crate::values::is_told;
 use std::alloc::{AllocError, Global};
 use std::process::Abort;
@@ -8,7 +8,7 @@ use totem_observer::observe;
 use totem_order::{Order, positions};
 use totem_run_rules::{in_order, walk_to_change};
 
-/// Adds the judge's answer on a run, with the certificate that the auditor makes of it.
+/// Adds the answer of the observer and the rules on a run, with the certificate that the auditor makes of it.
 fn push_judged(alloc: Global, text: &mut String, run: &Run) -> Result<(), AllocError> {
     let Order::Positions(certificate) = positions(alloc, run)? else {
         return text.push_str("no certificate");
@@ -20,7 +20,7 @@ fn push_judged(alloc: Global, text: &mut String, run: &Run) -> Result<(), AllocE
     }
 }
 
-/// Returns the judge's answer on a run of these logs, or why there is no such run.
+/// Returns their answer on a run of these logs, or why there is no such run.
 fn told(alloc: Global, logs: &str) -> Result<String, AllocError> {
     let bytes = format!(in alloc; "totem-run 1\n{logs}end\n")?;
     let mut text = String::new(alloc);
@@ -31,7 +31,7 @@ fn told(alloc: Global, logs: &str) -> Result<String, AllocError> {
     Ok(text)
 }
 
-/// What a run shows, its logs, and the judge's answer.
+/// What a run shows, its logs, and the answer.
 struct Row {
     shows: &'static str,
     logs: &'static str,
@@ -100,7 +100,7 @@ const RUNS: [Row; 10] = [
     },
 ];
 
-/// The judge says yes to good runs, with what they leave open, and no to the others.
+/// The rules say yes to good runs, with what they leave open, and no to the others.
 #[test]
 fn the_judge_says_yes_to_good_runs_alone(rt: HostRuntime) -> Result<(), AllocError> {
     for row in &RUNS {

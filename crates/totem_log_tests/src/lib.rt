@@ -1,4 +1,4 @@
-//! Tests of runs, certificates, the judge's rules and the judge itself, by public calls.
+//! Tests of runs, certificates, the rules and the observer, by public calls.
 #![tactic(auto)]
 
 #[cfg(test)]

@@ -4,20 +4,18 @@ use std::alloc::{AllocError, Global};
 use totem_evs::{Run, read_run};
 use totem_ids::FromRead;
 use totem_order::{Order, positions};
-use totem_run_rules::{
-    all_stay_in_place, changes_agree, end_together, is_orderly, sends_are_once, waiting,
-};
+use totem_run_rules::{end_together, first_misplaced, is_orderly, sends_are_once, waiting};
 
-/// Adds the number of waiting processes in a run that has a certificate and is orderly.
+/// Adds whether a run that has a certificate is orderly, and the number of waiting processes if it is.
 fn push_waiting(alloc: Global, text: &mut String, run: &Run) -> Result<(), AllocError> {
     let Order::Positions(_) = positions(alloc, run)? else {
         return text.push_str("no certificate");
     };
-    if is_orderly(alloc, run)? {
-        let waiting = waiting(alloc, run)?;
-        write!(text, "orderly, {} wait", waiting.len())?;
+    if !is_orderly(alloc, run)? {
+        return text.push_str("disorderly");
     }
-    Ok(())
+    let waiting = waiting(alloc, run)?;
+    write!(text, "orderly, {} wait", waiting.len())
 }
 
 /// Adds the rules that say no.
@@ -29,11 +27,10 @@ fn push_broken(alloc: Global, text: &mut String, run: &Run) -> Result<(), AllocE
     if !end_together(alloc, run)? {
         text.push_str("2.1 ")?;
     }
-    if !all_stay_in_place(logs) {
-        text.push_str("2.2 ")?;
-    }
-    if !changes_agree(alloc, logs)? {
-        text.push_str("2.3 or 2.4 ")?;
+    for log in logs {
+        if first_misplaced(log.entries.as_slice()).is_some() {
+            text.push_str("2.2 ")?;
+        }
     }
     push_waiting(alloc, text, run)
 }
@@ -66,12 +63,12 @@ const RUNS: [Row; 10] = [
     Row {
         rule: "a message is sent twice",
         logs: "log 1:1\nconf r4.1 1:1\nsend r4.1 a 4.1#1\nsend r4.1 a 4.1#1\nopen\n",
-        told: "1.4 ",
+        told: "1.4 disorderly",
     },
     Row {
         rule: "a message is sent in a transitional configuration",
         logs: "log 1:1\nconf r4.1 1:1\nconf t8.1/1 1:1\nsend t8.1/1 a 4.1#1\nopen\n",
-        told: "1.4 ",
+        told: "1.4 disorderly",
     },
     Row {
         rule: "a quiet log ends without a member",
@@ -82,28 +79,28 @@ const RUNS: [Row; 10] = [
     Row {
         rule: "a delivery out of place",
         logs: "log 1:1\nconf r4.1 1:1\ndlv r8.1 4.1#1\nopen\n",
-        told: "2.2 ",
+        told: "2.2 disorderly",
     },
     Row {
         rule: "two lists of members",
         logs: "log 1:1\nconf r4.1 1:1\nopen\nlog 2:1\nconf r4.1 1:1 2:1\nopen\n",
-        told: "2.3 or 2.4 ",
+        told: "disorderly",
     },
     Row {
         rule: "a change by another than its members",
         logs: "log 1:1\nconf r4.1 2:1\nopen\nlog 2:1\nconf r4.1 2:1\nopen\n",
-        told: "2.3 or 2.4 ",
+        told: "disorderly",
     },
     Row {
         rule: "two regular configurations in a row",
         logs: "log 1:1\nconf r4.1 1:1\nconf r8.1 1:1\nopen\n",
-        told: "2.3 or 2.4 ",
+        told: "disorderly",
     },
     Row {
         rule: "one transitional configuration after two regular ones",
         logs: "log 1:1\nconf r4.1 1:1 2:1\nconf t8.1/1 1:1 2:1\nopen\n\
         log 2:1\nconf r4.2 1:1 2:1\nconf t8.1/1 1:1 2:1\nopen\n",
-        told: "2.3 or 2.4 ",
+        told: "disorderly",
     },
     Row {
         rule: "two changes of one log to one configuration",

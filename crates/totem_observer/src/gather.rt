@@ -57,40 +57,78 @@ struct Gatherer {
     behind: LogSet,
 }
 
-/// Moves past the next events, those with the least number that is left. Returns `None` if there are none.
-fn go_on(lines: &[Line], passed: &mut [usize]) -> Option<Next>
-    requires as_many { length passed.old ≡ length lines.now }
-    requires few { length lines.now ≤ 32 }
-{
-    let mut next = Next {
-        log: 0,
-        number: u32::MAX,
-        logs: LogSet::none(),
-    };
-    for log in 0..lines.len() {
-        let line = &lines[log];
-        let numbers = line.numbers.as_slice();
-        if passed[log] < numbers.len() {
-            let number = numbers[passed[log]];
-            if next.logs.is_empty() || number < next.number {
-                next.log = log as u32;
-                next.number = number;
-                next.logs = LogSet::none();
-            }
-            if number == next.number {
-                next.logs = next.logs.with(log as u32);
+/// The walk along the numbers of a certificate.
+#[derive(Drop)]
+struct Walk<'a> {
+    lines: &'a [Line],
+    /// For each log, how many entries have been passed.
+    passed: Vec<usize>,
+    /// For each log, its next number, or `NONE_LEFT`.
+    numbers: Vec<u64>,
+    /// The number that was passed last.
+    last: u64,
+}
+
+const NONE_LEFT: u64 = u64::MAX;
+
+impl<'a> Walk<'a> {
+    fn new(alloc: Global, lines: &'a [Line]) -> Result<Walk<'a>, AllocError> {
+        let mut numbers = Vec::with_capacity(alloc, lines.len())?;
+        for line in lines {
+            numbers.push(number_at(line, 0))?;
+        }
+        let passed = vec![in alloc; 0usize; lines.len()]?;
+        Ok(Walk {
+            lines,
+            passed,
+            numbers,
+            last: 0,
+        })
+    }
+
+    /// Moves past the events with this number.
+    fn pass(&mut self, number: u64) -> Next {
+        let mut next = Next {
+            log: 0,
+            number: u32::try_from(number).unwrap_or(u32::MAX),
+            logs: LogSet::none(),
+        };
+        for (log, left) in self.numbers.iter_mut().enumerate() {
+            if *left == number
+                && let Some(passed) = self.passed.get_mut(log)
+                && let Some(line) = self.lines.get(log)
+            {
+                if next.logs.is_empty() {
+                    next.log = index_of(log);
+                }
+                next.logs = next.logs.with(index_of(log).min(31));
+                *passed = passed.saturating_add(1);
+                *left = number_at(line, *passed);
             }
         }
+        next
     }
-    if next.logs.is_empty() {
-        return None;
-    }
-    for log in 0..lines.len() {
-        if next.logs.contains(log as u32) {
-            passed[log] = passed[log].saturating_add(1);
+
+    /// Moves past the next events, those with the least number that is left. Returns `None` if there are none. Most numbers follow each other.
+    fn go_on(&mut self) -> Option<Next> {
+        let mut next = self.pass(self.last.saturating_add(1));
+        if next.logs.is_empty() {
+            let least = self.numbers.iter().copied().min()?;
+            if least == NONE_LEFT {
+                return None;
+            }
+            next = self.pass(least);
         }
+        self.last = u64::from(next.number);
+        Some(next)
     }
-    Some(next)
+}
+
+fn number_at(line: &Line, at: usize) -> u64 {
+    match line.numbers.as_slice().get(at) {
+        Some(number) => u64::from(*number),
+        None => NONE_LEFT,
+    }
 }
 
 fn index_of(at: usize) -> u32 {
@@ -335,22 +373,20 @@ pub fn gather(alloc: Global, logs: &[Log], lines: &[Line]) -> Result<Vec<Gathere
     requires few { length lines.now ≤ 32 }
 {
     let mut gatherer = Gatherer::new(alloc)?;
-    let mut passed = vec![in alloc; 0usize; lines.len()]?;
+    let mut walk = Walk::new(alloc, lines)?;
     for _ in 0..entries_of(logs) {
-        let Some(next) = go_on(lines, &mut passed) else {
+        let Some(next) = walk.go_on() else {
             break;
         };
-        let log = next.log as usize;
-        if log >= logs.len() || log >= passed.len() {
+        let index = next.log as usize;
+        let (Some(log), Some(passed)) = (logs.get(index), walk.passed.get(index)) else {
             break;
-        }
-        let at = passed[log].saturating_sub(1);
-        let log = &logs[log];
-        let entries = log.entries.as_slice();
-        if at >= entries.len() {
+        };
+        let at = passed.saturating_sub(1);
+        let Some(entry) = log.entries.as_slice().get(at) else {
             break;
-        }
-        gatherer.enter(alloc, logs, &entries[at], at, &next, &passed)?;
+        };
+        gatherer.enter(alloc, logs, entry, at, &next, &walk.passed)?;
     }
     Ok(gatherer.list)
 }

@@ -1,4 +1,4 @@
-//! The judge: what is observed of a run along a certificate that orders its events, and whether it meets the specifications.
+//! The observer: it reads a run in the order of its certificate, and applies the rules to what it observes.
 //!
 //! `observe` tests the rules of the whole run, gathers the traffic of each regular configuration in one walk along the numbers, and
 //! compares it with the logs, entry by entry. What may be relied on:

@@ -9,7 +9,7 @@ use Rattle.totem_ids.proofs.Exact.{equal_at, apart_or_at}
 use Rattle.totem_pass_ab.specs.Met.{IsMet, Knows}
 
 -- equal keys have one value
-same_get : {K X : Type 0} (cmp : K → K → Ordering) → IsTotalOrder cmp → (m : BTreeMap K X) (k q : K) → is_at (cmp k) q ≡ true → tree.get cmp m q ≡ tree.get cmp m k
+pub same_get : {K X : Type 0} (cmp : K → K → Ordering) → IsTotalOrder cmp → (m : BTreeMap K X) (k q : K) → is_at (cmp k) q ≡ true → tree.get cmp m q ≡ tree.get cmp m k
 same_get cmp total m k q e = sym (lookup_congr (λ x. is_at (cmp x)) (λ x y z at. let same = total.congr x y z (equal_at (cmp x y) at) in cc) m.entries k q e)
 
 module _ {K V : Type 0} (cmp : K → K → Ordering) (total : IsTotalOrder cmp) where

@@ -17,7 +17,7 @@ use Rattle.totem_evs.specs.declared.entry.Entry.TheVariants.{Send, Deliver}
 use Rattle.totem_evs.specs.declared.log.Log.{Log}
 use Rattle.totem_evs.specs.Events.{log_of}
 use Rattle.totem_evs.specs.Delivery.{DeliversOnce}
-use Rattle.totem_pass_ab.specs.declared.keys.Delivery.{Delivery}
+use Rattle.totem_pass_ab.specs.declared.twice_1_4.Delivery.{Delivery}
 use Rattle.totem_pass_ab.specs.Met.{IsMet, Knows}
 use Rattle.totem_run_rules.specs.Orderly.{DeliveriesAreOnce, SendsAreOnce}
 use Rattle.totem_table.specs.Registers.{Keeps, KnowsRun}

@@ -34,8 +34,8 @@ use Rattle.std.proofs.lemmas.Map.Lookups.{CmpEqualImpliesEq}
 use Rattle.totem_ids.specs.declared.message.Service.{Service}
 use Rattle.totem_ids.specs.contracts.ring.RingIdOrd.TheImpl as ring
 use Rattle.totem_ids.specs.contracts.message.MsgIdOrd.TheImpl as message
-use Rattle.totem_pass_ab.specs.declared.keys.Sending.{Sending}
-use Rattle.totem_pass_ab.specs.contracts.keys.SendingOrd.TheImpl as by_sending
+use Rattle.totem_pass_ab.specs.declared.unsent_1_3.Sending.{Sending}
+use Rattle.totem_pass_ab.specs.contracts.unsent_1_3.SendingOrd.TheImpl as by_sending
 use Rattle.totem_table.specs.declared.keys.Change.{Change}
 use Rattle.totem_table.specs.Registers.{StaysSound, KnowsLog}
 use Rattle.totem_pass_ab.specs.Noted.{WereSent, KnowsRegularChange, AreFollowed}

@@ -1,7 +1,9 @@
 -- Searching for what breaks 2.4, change by change: what is found is the least list that breaks it. And what is noted of the changes
 -- for that.
-use Rattle.std.proofs.Common.{◌≡◌, ◌≢◌, ℕ, ◌+◌, ◌<◌, ◌≤◌, ◌⊎◌, inl, inr, List, [], ◌∷◌, length, slice_get, Some, Bool, true, false, not, IsTrue, ◌↔◌, refl, sym, subst, ap, ◌∙◌, arith, Option}
-use Rattle.std.specs.Prelude.{All, Contains}
+use Rattle.std.proofs.Common.{◌≡◌, ◌≢◌, ℕ, ◌+◌, ◌<◌, ◌≤◌, ◌⊎◌, inl, inr, List, [], ◌∷◌, length, slice_get, Some, None, Bool, true, false, not, nat_lt, IsTrue, ◌↔◌, refl, sym, subst, ap, ◌∙◌, arith}
+use Rattle.std.specs.Prelude.{All, Contains, IfSome}
+use Rattle.std.specs.Bool.{OnFalse}
+use Rattle.std.proofs.lemmas.Bool.{ltb-false}
 use Rattle.std.proofs.lemmas.Option.{slice_get_within}
 use Rattle.totem_ids.specs.declared.ring.RingId.{RingId}
 use Rattle.totem_ids.specs.declared.conf.ConfId.{ConfId}
@@ -20,7 +22,7 @@ use Rattle.totem_evs.proofs.NextChanges.{no_change, one_next}
 use Rattle.totem_run_rules.specs.Succession.{IsWrongSuccession}
 use Rattle.totem_pass_ab.specs.Turns.{HasNoSuccession, IsOfOtherRing, IsOtherOrigin, IsTurnRest, IsTurnFault}
 use Rattle.totem_evs.proofs.LogOf.{less_or_not}
-use Rattle.totem_pass_ab.proofs.Starting.{Begins, EachBegins, begins_at}
+use Rattle.totem_pass_ab.proofs.Starting.{Begins, EachBegins, begins_at, none_known}
 use Rattle.totem_ids.proofs.Orderings.{place_strict}
 use Rattle.totem_run_rules.proofs.Behind.{right_kinds, right_from, right_to, right_name}
 use Rattle.totem_run_rules.proofs.Decisions.{same_ring_or_not, regular_or_transitional}
@@ -28,10 +30,11 @@ use Rattle.std.specs.declared.cmp.Ordering.{Ordering}
 use Rattle.std.specs.Cmp.{IsTotalOrder}
 use Rattle.std.specs.BTreeMap.{BTreeMap}
 use Rattle.std.specs.BTreeMap as tree
-use Rattle.totem_pass_ab.specs.Met.{IsMet}
-use Rattle.totem_pass_ab.specs.Noted.{KnowsOrigin}
+use Rattle.totem_ids.proofs.Exact.{apart_or_at}
+use Rattle.totem_pass_ab.specs.declared.succession_2_4.Latest.{Latest}
+use Rattle.totem_pass_ab.specs.Noted.{IsWithin, Widens, KnowsOrigin}
 use Rattle.totem_table.specs.Registers.{Keeps, KnowsRun}
-use Rattle.totem_pass_ab.proofs.Knowing.{meets_knows, meets_keeps}
+use Rattle.totem_pass_ab.proofs.Knowing.{same_get}
 
 -- the next change at an index makes a succession
 pub succession_to_next : (log : List Entry) (i j : ℕ) (x y : ConfId) (ms ns : List ℕ) → slice_get log i ≡ Some (Conf x ms) → slice_get log j ≡ Some (Conf y ns) → IsNextOrEnd log i j → ChangesNext log i j x y ms ns
@@ -224,13 +227,14 @@ others_begin run p c t = record { each = λ places h. go places h }
     go (g ∷ h ∷ []) (k, is, (l, ls, (same, (lt, d, ks, ls', never, succession)))) = begins_at run g k (h ∷ []) is (succession_within (log_of run g.proc) k l (Regular d) t ks ls' succession)
     go places b = absurd b
 
-pub no_other_to_there : (run : List Log) (p : ℕ) (c : RingId) (t : ConfId) (q k j : ℕ) (x y : ConfId) (ms ns : List ℕ) → ChangesNext (log_of run q) k j x y ms ns → (y ≡ t → ⊥) → NoneFrom (IsOtherOrigin run p c t) q k
+pub no_other_to_there : (run : List Log) (p : ℕ) (c : RingId) (t : ConfId) (q k j : ℕ) (x y : ConfId) (ms ns : List ℕ) → ChangesNext (log_of run q) k j x y ms ns → (IsOfOtherRing c x → y ≡ t → ⊥) → NoneFrom (IsOtherOrigin run p c t) q k
 no_other_to_there run p c t q k j x y ms ns succession never = record { none = λ rest h. go rest h }
   where
     go : (rest : List Place) → IsOtherOrigin run p c t (place q k ∷ rest) → ⊥
     go (f ∷ []) (m, is, (l, ls, (procs, (lt, d, ks, os, other, succession')))) =
         let same : m ≡ k = omega arith in
-        never (one_succession (log_of run q) k j l x (Regular d) y t ms ks ns os succession (rw same at succession')).next
+        let one = one_succession (log_of run q) k j l x (Regular d) y t ms ks ns os succession (rw same at succession') in
+        never (subst (IsOfOtherRing c) (sym one.conf) other) one.next
     go rest h = h
 
 pub other_here : (run : List Log) (p : ℕ) (c : RingId) (t : ConfId) (q k j : ℕ) (x y : ConfId) (ms ns : List ℕ) → p < q → ChangesNext (log_of run q) k j x y ms ns → IsOfOtherRing c x → y ≡ t
@@ -338,24 +342,41 @@ no_turn_faults run never = record { each = λ p. each p; origin = λ p i j q k l
 
 module _ (by_conf : ConfId → ConfId → Ordering) where
   -- no log comes from an entry that is no change
-  pub spares_origin : (s : BTreeMap ConfId (Option RingId)) (p : ℕ) (log : List Entry) (i : ℕ) → (IsChange log i → ⊥) → KnowsOrigin by_conf s p log i
+  pub spares_origin : (s : BTreeMap ConfId Latest) (p : ℕ) (log : List Entry) (i : ℕ) → (IsChange log i → ⊥) → KnowsOrigin by_conf s p log i
   spares_origin s p log i never = record { each = λ j c t ms ns succession. absurd (never (Regular c, (ms, succession.first))) }
 
-  pub keeps_origins : IsTotalOrder by_conf → (s t : BTreeMap ConfId (Option RingId)) (y : ConfId) (d : RingId) → IsMet by_conf s t y d → Keeps (KnowsOrigin by_conf s) (KnowsOrigin by_conf t)
-  keeps_origins total s t y d met = record { each = λ p log i h. record { each = λ j c x ms ns succession. meets_keeps by_conf total s t y d met x c (h.each j c x ms ns succession) } }
+  pub keeps_origins : IsTotalOrder by_conf → (s t : BTreeMap ConfId Latest) (y : ConfId) (w : Latest) → tree.Updates by_conf s t y (Some w) → IfSome (tree.get by_conf s y) (λ v. Widens v w) → Keeps (KnowsOrigin by_conf s) (KnowsOrigin by_conf t)
+  keeps_origins total s t y w new wider = record { each = λ p log i h. record { each = λ j c x ms ns succession. more p c x (h.each j c x ms ns succession) } }
+    where
+      more : (p : ℕ) (c : RingId) (x : ConfId) → (v : Latest) × (tree.get by_conf s x ≡ Some v) × IsWithin v p c → (v : Latest) × (tree.get by_conf t x ≡ Some v) × IsWithin v p c
+      more p c x (v, is, within) = elim (apart_or_at by_conf y x) [
+        | inr apart ↦ (v, new.2 x apart ∙ is, within)
+        | inl at ↦ (w, same_get by_conf total t y x at ∙ new.1, (let wide : IfSome (Some v) (λ u. Widens u w) = subst (λ o. IfSome o (λ u. Widens u w)) (sym (same_get by_conf total s y x at) ∙ is) wider in wide.each p c within))
+      ]
 
-  pub enters_origin : IsTotalOrder by_conf → (s t : BTreeMap ConfId (Option RingId)) (p : ℕ) (log : List Entry) (i j : ℕ) (x y : ConfId) (ms ns : List ℕ) (d : RingId) → x ≡ Regular d → ChangesNext log i j x y ms ns → IsMet by_conf s t y d
+  pub enters_origin : (s t : BTreeMap ConfId Latest) (p : ℕ) (log : List Entry) (i j : ℕ) (x y : ConfId) (ms ns : List ℕ) (d : RingId) (w : Latest) → x ≡ Regular d → ChangesNext log i j x y ms ns → tree.Updates by_conf s t y (Some w) → IsWithin w p d
       → KnowsOrigin by_conf t p log i
-  enters_origin total s t p log i j x y ms ns d is succession met = record {
+  enters_origin s t p log i j x y ms ns d w is succession new within = record {
     each = λ k c z ks ls succession'. (let one = one_succession log i j k x (Regular c) y z ms ks ns ls succession succession' in let rings : d ≡ c = (let h = one.conf in cc) in
-        rw (← one.next, ← rings) (meets_knows by_conf total s t y d met));
+        (w, rw (← one.next) new.1, rw (← rings) within));
   }
 
-  -- if all logs come from one ring, none comes from another
-  pub one_origin : (run : List Log) (s : BTreeMap ConfId (Option RingId)) (p : ℕ) (c : RingId) (t : ConfId) → KnowsRun (KnowsOrigin by_conf s) run → tree.get by_conf s t ≡ Some (Some c) → HoldsOfNone (IsOtherOrigin run p c t)
-  one_origin run s p c t known only = record { none = λ places h. go places h }
+  -- no log above p comes to t from another ring than c, if what is noted of t says so
+  other_origin_noted : (run : List Log) (s : BTreeMap ConfId Latest) (p : ℕ) (c : RingId) (t : ConfId) → KnowsRun (KnowsOrigin by_conf s) run
+      → ((q : ℕ) (d : RingId) (v : Latest) → tree.get by_conf s t ≡ Some v → IsWithin v q d → c ≢ d → p < q → ⊥) → HoldsOfNone (IsOtherOrigin run p c t)
+  other_origin_noted run s p c t known never = record { none = λ places h. go places h }
     where
       go : (places : List Place) → IsOtherOrigin run p c t places → ⊥
       go (g ∷ h ∷ []) (k, ks, (l, ls, (same, (lt, d, os, qs, other, succession)))) =
-          other (((known.each g.proc k (slice_get_within (log_of run g.proc) k (Conf (Regular d) os) succession.first)).each l d t os qs succession).only c only)
+          let noted = (known.each g.proc k (slice_get_within (log_of run g.proc) k (Conf (Regular d) os) succession.first)).each l d t os qs succession in
+          never g.proc d noted.0 noted.1 noted.2 other lt
       go places h = h
+
+  pub nothing_noted : (run : List Log) (s : BTreeMap ConfId Latest) (p : ℕ) (c : RingId) (t : ConfId) → None ≡ tree.get by_conf s t → KnowsRun (KnowsOrigin by_conf s) run → HoldsOfNone (IsOtherOrigin run p c t)
+  nothing_noted run s p c t is known = other_origin_noted run s p c t known (λ q d v noted within other lt. absurd cc)
+
+  pub none_above : (run : List Log) (s : BTreeMap ConfId Latest) (p r n : ℕ) (c : RingId) (t : ConfId) (v : Latest) (b : Bool) → r ≡ p → nat_lt r n ≡ b → Some v ≡ tree.get by_conf s t → ((q : ℕ) (d : RingId) → IsWithin v q d → c ≢ d → q ≤ n)
+      → ∥ KnowsRun (KnowsOrigin by_conf s) run ∥₁ → OnFalse b (HoldsOfNone (IsOtherOrigin run p c t))
+  none_above run s p r n c t v true rank below is bound known = tt
+  none_above run s p r n c t v false rank below is bound known = none_known (IsOtherOrigin run p c t) known (λ known. other_origin_noted run s p c t known
+      (λ q d w noted within other lt. (let same : w ≡ v = cc in let le = bound q d (rw (← same) within) other in let over = ltb-false r n below in omega arith)))

@@ -1,6 +1,6 @@
 -- What is noted of a run, so that few entries need a search (docs/SPECIFICATIONS.md, "1 Basic delivery", "2 Changes of configuration",
 -- "Following").
-use Rattle.std.specs.Prelude.{◌≡◌, ℕ, List, Option, Contains, IsTrue, Some}
+use Rattle.std.specs.Prelude.{◌≡◌, ◌≢◌, ℕ, ◌≤◌, List, Option, Contains, IsTrue, Some}
 use Rattle.std.specs.declared.cmp.Ordering.{Ordering}
 use Rattle.std.specs.BTreeMap.{BTreeMap}
 use Rattle.totem_ids.specs.declared.message.MsgId.{MsgId}
@@ -9,7 +9,8 @@ use Rattle.totem_ids.specs.declared.place.Place.{Place}
 use Rattle.totem_evs.specs.declared.entry.Entry.{Entry}
 use Rattle.totem_evs.specs.declared.log.Log.{Log}
 use Rattle.totem_evs.specs.Events.{Sends, Delivers, log_of, ChangesWith, WasSentIn, ChangesTo}
-use Rattle.totem_pass_ab.specs.declared.keys.Delivery.{Delivery}
+use Rattle.totem_pass_ab.specs.declared.succession_2_4.Latest.{Latest}
+use Rattle.totem_pass_ab.specs.declared.twice_1_4.Delivery.{Delivery}
 use Rattle.totem_pass_ab.specs.Met.{Knows}
 use Rattle.totem_table.specs.Search.{place}
 use Rattle.totem_table.specs.declared.keys.Change.{Change}
@@ -18,7 +19,7 @@ use Rattle.totem_ids.specs.declared.conf.ConfId.TheVariants.{Regular}
 use Rattle.totem_evs.specs.Changes.{ChangesNext}
 use Rattle.std.specs.BTreeSet.{BTreeSet}
 use Rattle.std.specs.BTreeSet as sorted
-use Rattle.totem_pass_ab.specs.declared.keys.Sending.{Sending}
+use Rattle.totem_pass_ab.specs.declared.unsent_1_3.Sending.{Sending}
 use Rattle.std.specs.BTreeMap as tree
 use Rattle.totem_evs.specs.Following.{Follows}
 
@@ -42,9 +43,18 @@ pub record KnowsChange (by_change : Change → Change → Ordering) (by_conf : C
   pub placed : (x : ConfId) (ms : List ℕ) → ChangesWith log i x ms → Knows by_change changes (record { proc = p; conf = x }) (place p i)
   pub formed : (x : ConfId) (ms : List ℕ) → ChangesWith log i x ms → Knows by_conf members x ms
 
--- the ring of the regular configuration at i is recorded under the configuration that the log changes to next
-pub record KnowsOrigin (by_conf : ConfId → ConfId → Ordering) (rings : BTreeMap ConfId (Option RingId)) (p : ℕ) (log : List Entry) (i : ℕ) : Type 0 where
-  pub each : (j : ℕ) (c : RingId) (t : ConfId) (ms ns : List ℕ) → ChangesNext log i j (Regular c) t ms ns → Knows by_conf rings t c
+-- the rank of a process that comes from the ring c is within what is noted
+pub record IsWithin (v : Latest) (p : ℕ) (c : RingId) : Type 0 where
+  pub rank : p ≤ v.rank
+  pub other : c ≢ v.ring → p ≤ v.other
+
+-- what is within v is within w
+pub record Widens (v w : Latest) : Type 0 where
+  pub each : (p : ℕ) (c : RingId) → IsWithin v p c → IsWithin w p c
+
+-- if p's log comes from a ring to the next configuration after i, that is within what is noted of this configuration
+pub record KnowsOrigin (by_conf : ConfId → ConfId → Ordering) (latest : BTreeMap ConfId Latest) (p : ℕ) (log : List Entry) (i : ℕ) : Type 0 where
+  pub each : (j : ℕ) (c : RingId) (t : ConfId) (ms ns : List ℕ) → ChangesNext log i j (Regular c) t ms ns → (v : Latest) × (tree.get by_conf latest t ≡ Some v) × IsWithin v p c
 
 -- if the entry at i is a send in a regular configuration, the set has it
 pub record KnowsSend (by_sending : Sending → Sending → Ordering) (sends : BTreeSet Sending) (log : List Entry) (i : ℕ) : Type 0 where

@@ -1,20 +1,62 @@
-//! 2.3: each configuration has one form (docs/SPECIFICATIONS.md, "2 Changes of configuration").
-//!
-//! This is the search, which names what breaks it. A yes comes from the rule, totem_run_rules `changes_2_3`.
-ghost use Rattle.std.specs.Prelude.{◌≡◌, ◌↔◌, ◌<◌, IsTrue, IfOk, MatchOption};
+//! 2.3: each configuration has one form (docs/SPECIFICATIONS.md, "2 Changes of configuration"). This is the search, which names what breaks
+//! it. A yes comes from the rule, totem_run_rules `changes_2_3`.
+ghost use Rattle.std.specs.Prelude.{◌≡◌, ◌↔◌, ℕ, ◌<◌, List, IsTrue, IfOk, MatchOption};
 ghost use Rattle.totem_evs.specs.Answers.{Finds};
 ghost use Rattle.totem_table.specs.Changes.{AreChanges};
 ghost use Rattle.totem_pass_ab.specs.Bad.{IsForeignChange, AreTwoForms};
 ghost use Rattle.totem_table.specs.Registers.{KnowsRun};
 ghost use Rattle.totem_pass_ab.specs.Noted.{KnowsChange};
 
-use crate::forms::Forms;
-use crate::met::Met;
+use crate::met::{Met, Same};
 use crate::pairs::{Standing, Test, least_bad};
 use std::alloc::{AllocError, Global};
-use totem_evs::{Entry, Places, Run, SpecNo};
-use totem_ids::{ConfId, Place};
-use totem_table::{Change, Changes, enter_changes};
+use totem_evs::{Entry, Members, Places, Run, SpecNo};
+use totem_ids::{ConfId, Place, Proc};
+use totem_table::{Change, ChangeRegister, Changes, enter_changes};
+
+impl Same for Members {
+    fn is_same(&self, other: &Members) -> bool {
+        self.is(other)
+    }
+}
+
+/// The place of each process's change to each configuration, and the members of each configuration. If there are
+/// several, only that fact is kept.
+#[derive(Drop)]
+pub struct Forms {
+    pub changes: Met<Change, Place>,
+    pub members: Met<ConfId, Members>,
+}
+
+impl ChangeRegister for Forms {
+    ghost sound = { λ s run. Unit {0} };
+
+    ghost knows = { λ s. KnowsChange ⟦<Change as Ord>⟧.cmp ⟦<ConfId as Ord>⟧.cmp s.changes.values s.members.values };
+
+    #[tactic(auto, using(crate::proofs::Forming::spares_change))]
+    fn spares(&self) {}
+
+    fn enter_change(
+        &mut self,
+        alloc: Global,
+        proc: Proc,
+        log: &[Entry],
+        at: usize,
+        _next: usize,
+    ) -> Result<(), AllocError> {
+        let place = Place {
+            proc,
+            at: (at + 1) as u32,
+        };
+        let Entry::Conf(conf, members) = &log[at] else {
+            return Ok(());
+        };
+        let conf = *conf;
+        self.changes.meet(Change { proc, conf }, place)?;
+        self.members.meet(conf, members.try_clone(alloc)?)?;
+        Ok(())
+    }
+}
 
 /// Looks for changes by processes that are not members, for two changes of one log to one configuration, and for two
 /// forms of a configuration.

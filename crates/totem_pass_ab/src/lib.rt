@@ -7,24 +7,16 @@
 //!   of the run.
 //!
 //! These contracts hold for every run; a run that breaks 2.3 or 2.4 may make pass B slow. The checker uses this crate as well: if
-//! the judge says no, passes A, B and D name what is broken.
+//! a rule says no, passes A, B and D name what is broken.
 #![tactic(auto)]
 
 mod configuration_2_3;
 mod ends_2_1;
-mod follow;
-mod followed;
-mod forms;
-mod keys;
-mod kinds;
 mod met;
 mod misplaced_2_2;
 mod neighbours;
-mod origins;
 mod pairs;
 mod pass;
-mod repeats;
-mod sendings;
 mod succession_2_4;
 mod twice_1_4;
 mod unsent_1_3;

@@ -1,11 +1,20 @@
-//! A change and the next one of its log.
-ghost use Rattle.std.specs.Prelude.{◌≡◌, ◌<◌, IfSome, IfNone, length};
+//! The two kinds of configurations, and a change with the next one of its log.
+ghost use Rattle.std.specs.Prelude.{◌≡◌, ◌↔◌, ◌<◌, IsTrue, IfSome, IfNone, length};
+ghost use Rattle.totem_evs.specs.Events.{IsRegular, IsTransitional};
 ghost use Rattle.totem_evs.specs.Changes.{ChangesNext};
 ghost use Rattle.totem_pass_ab.specs.Turns.{HasNoSuccession};
 
 use totem_evs::{Entry, Members};
 use totem_ids::ConfId;
 use totem_run_rules::walk_to_change;
+
+/// Returns whether this is a transitional configuration.
+pub fn is_transitional(conf: &ConfId) -> bool
+    ensures transitional { IsTrue result ↔ IsTransitional conf.now }
+    ensures regular { (IsTrue result → ⊥) ↔ IsRegular conf.now }
+{
+    matches!(conf, ConfId::Transitional { .. })
+}
 
 /// A change, and the next change of the same log.
 #[derive(Clone, Copy)]

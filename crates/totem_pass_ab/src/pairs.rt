@@ -14,6 +14,9 @@ use totem_evs::{Entry, Places, Run};
 use totem_ids::{Place, Proc};
 use totem_table::{Relation, least, places_of};
 
+/// What a search for a list that begins with one entry returns: the rest of the least such list, if there is one.
+pub type Rest = Result<Option<Vec<Place>>, AllocError>;
+
 /// An entry, with its process and its index.
 #[derive(Clone, Copy)]
 pub struct Standing<'a> {
@@ -59,20 +62,14 @@ impl<T: Test> Relation for Partners<'_, '_, T> {
 
     ghost holds = { λ s. IsOne (T.of s.test.now) (T.pair s.test.now s.first.proc s.first.at s.first.entry.now) };
 
-    fn rest(
-        &self,
-        alloc: Global,
-        proc: Proc,
-        log: &[Entry],
-        at: usize,
-    ) -> Result<Option<Vec<Place>>, AllocError> {
+    fn rest(&self, alloc: Global, proc: Proc, log: &[Entry], at: usize) -> Rest {
         let entry = &log[at];
         let second = Standing { proc, at, entry };
-        if self.test.is_pair(&self.first, &second) {
-            Ok(Some(Vec::new(alloc)))
-        } else {
-            Ok(None)
-        }
+        Ok(
+            self.test
+                .is_pair(&self.first, &second)
+                .then_some(Vec::new(alloc)),
+        )
     }
 }
 
@@ -87,13 +84,7 @@ impl<T: Test> Relation for OneOrTwo<'_, T> {
 
     ghost holds = { λ s. IsOneOrTwo (T.of s.test.now) (T.alone s.test.now) (T.pair s.test.now) };
 
-    fn rest(
-        &self,
-        alloc: Global,
-        proc: Proc,
-        log: &[Entry],
-        at: usize,
-    ) -> Result<Option<Vec<Place>>, AllocError> {
+    fn rest(&self, alloc: Global, proc: Proc, log: &[Entry], at: usize) -> Rest {
         let test = self.test;
         let entry = &log[at];
         let first = Standing { proc, at, entry };

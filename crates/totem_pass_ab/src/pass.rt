@@ -18,16 +18,10 @@ fn pass_a_over(alloc: Global, run: &Run, changes: &Changes) -> Result<Vec<Fault>
     let sends = with_found(Vec::new(alloc), SpecNo::Twice, once)?;
     let last = with_found(sends, SpecNo::End, ends_2_1::find(alloc, run)?)?;
     let places = with_found(last, SpecNo::Misplaced, misplaced_2_2::find(alloc, run)?)?;
-    let forms = with_found(
-        places,
-        SpecNo::Configuration,
-        configuration_2_3::find(alloc, run, changes)?,
-    )?;
-    with_found(
-        forms,
-        SpecNo::Turns,
-        succession_2_4::find(alloc, run, changes)?,
-    )
+    let two_forms = configuration_2_3::find(alloc, run, changes)?;
+    let forms = with_found(places, SpecNo::Configuration, two_forms)?;
+    let turns = succession_2_4::find(alloc, run, changes)?;
+    with_found(forms, SpecNo::Turns, turns)
 }
 
 /// Pass B, given the changes of the run.

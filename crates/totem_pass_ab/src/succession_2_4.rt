@@ -1,24 +1,81 @@
-//! 2.4: regular and transitional configurations alternate (docs/SPECIFICATIONS.md, "2 Changes of configuration").
-//!
-//! This is the search, which names what breaks it. A yes comes from the rule, totem_run_rules `succession_2_4` and `changes_2_3`.
-ghost use Rattle.std.specs.Prelude.{◌≡◌, ◌↔◌, ℕ, ◌<◌, IsTrue, IfOk, MatchOption, length};
+//! 2.4: regular and transitional configurations alternate (docs/SPECIFICATIONS.md, "2 Changes of configuration"). This is the search, which
+//! names what breaks it. A yes comes from the rule, totem_run_rules `succession_2_4` and `changes_2_3`.
+ghost use Rattle.std.specs.Prelude.{◌≡◌, ◌↔◌, ℕ, ◌<◌, IsTrue, IfSome, IfOk, MatchOption, length};
+ghost use Rattle.std.specs.Bool.{OnFalse};
+ghost use Rattle.std.specs.Option.{option_copied};
 ghost use Rattle.totem_evs.specs.Events.{log_of, IsChange, IsTransitional};
 ghost use Rattle.totem_evs.specs.ChangeFaults.{BeginsTransitional};
 ghost use Rattle.totem_evs.specs.Answers.{Finds};
 ghost use Rattle.totem_table.specs.Changes.{AreChanges};
 ghost use Rattle.totem_table.specs.Registers.{KnowsRun};
-ghost use Rattle.totem_pass_ab.specs.Noted.{KnowsOrigin};
+ghost use Rattle.totem_table.specs.Search.{HoldsOfNone};
+ghost use Rattle.totem_pass_ab.specs.Noted.{IsWithin, Widens, KnowsOrigin};
 ghost use Rattle.totem_pass_ab.specs.Turns.{IsTurnFault, IsOtherOrigin, IsOfOtherRing};
 
-use crate::kinds::is_transitional;
-use crate::met::Met;
-use crate::neighbours::succession_at;
-use crate::origins::Origins;
+use crate::neighbours::{is_transitional, succession_at};
+use crate::pairs::Rest;
 use std::alloc::{AllocError, Global};
+use std::collections::BTreeMap;
 use totem_evs::{Entry, Places, Run, SpecNo};
-use totem_ids::{ConfId, Place, Proc, RingId};
+use totem_ids::{ConfId, Proc, RingId};
 use totem_run_rules::is_wrong_succession;
-use totem_table::{Changes, Relation, begin_at, enter_changes, least, places_of};
+use totem_table::{ChangeRegister, Changes, Relation, begin_at, enter_changes, least, places_of};
+
+/// What is noted of the logs that come to a configuration from regular ones: the ranks of their processes are at most `rank`, and at
+/// most `other` for those that come from another ring than `ring`. Logs are entered in ascending order, so `ring` is that of the last.
+#[derive(Clone, Copy)]
+pub struct Latest {
+    pub rank: u32,
+    pub ring: RingId,
+    pub other: u32,
+}
+
+/// Returns what is noted when this process comes from this ring, too.
+fn noted_with(noted: Option<&Latest>, proc: Proc, ring: RingId) -> Latest
+    ensures kept { IfSome (option_copied noted.entry) (λ old. Widens old result) }
+    ensures entered { IsWithin result proc ring }
+{
+    let (last, other) = match noted {
+        None => (0, 0),
+        Some(old) if old.ring == ring => (old.rank, old.other),
+        Some(old) => (old.rank, old.rank),
+    };
+    let rank = proc.rank().max(last);
+    Latest { rank, ring, other }
+}
+
+/// What is noted of each configuration to which logs come from regular ones.
+#[derive(Drop)]
+pub struct Origins {
+    pub latest: BTreeMap<ConfId, Latest>,
+}
+
+impl ChangeRegister for Origins {
+    ghost sound = { λ s run. Unit {0} };
+
+    ghost knows = { λ s. KnowsOrigin ⟦<ConfId as Ord>⟧.cmp s.latest };
+
+    #[tactic(auto, using(crate::proofs::Turning::spares_origin))]
+    fn spares(&self) {}
+
+    fn enter_change(
+        &mut self,
+        _alloc: Global,
+        proc: Proc,
+        log: &[Entry],
+        at: usize,
+        _next: usize,
+    ) -> Result<(), AllocError> {
+        let Some(succession) = succession_at(log, at) else {
+            return Ok(());
+        };
+        if let ConfId::Regular(ring) = succession.conf {
+            let latest = noted_with(self.latest.get(succession.next), proc, *ring);
+            self.latest.insert(*succession.next, latest)?;
+        }
+        Ok(())
+    }
+}
 
 /// Returns whether a change is before this index of a log. Walks back to the last one.
 fn comes_later(log: &[Entry], at: usize) -> bool
@@ -68,23 +125,14 @@ impl Relation for OtherOrigins<'_, '_> {
 
     ghost holds = { λ s. IsOtherOrigin s.run.now.logs s.proc s.ring s.conf.now };
 
-    fn rest(
-        &self,
-        alloc: Global,
-        proc: Proc,
-        log: &[Entry],
-        at: usize,
-    ) -> Result<Option<Vec<Place>>, AllocError> {
+    fn rest(&self, alloc: Global, proc: Proc, log: &[Entry], at: usize) -> Rest {
         if proc.rank() <= self.proc.rank() {
             return Ok(None);
         }
         let Some(succession) = succession_at(log, at) else {
             return Ok(None);
         };
-        if !is_of_other_ring(succession.conf, &self.ring) {
-            return Ok(None);
-        }
-        if !succession.next.is(self.conf) {
+        if !is_of_other_ring(succession.conf, &self.ring) || !succession.next.is(self.conf) {
             return Ok(None);
         }
         Ok(Some(begin_at(proc, succession.next_at, Vec::new(alloc))?))
@@ -96,7 +144,20 @@ impl Relation for OtherOrigins<'_, '_> {
 struct Turns<'r> {
     run: &'r Run,
     origins: Origins,
-    ghost known: { ∥ KnowsRun (KnowsOrigin ⟦<ConfId as Ord>⟧.cmp origins.rings.values) run.now.logs ∥₁ },
+    ghost known: { ∥ KnowsRun (KnowsOrigin ⟦<ConfId as Ord>⟧.cmp origins.latest) run.now.logs ∥₁ },
+}
+
+impl Turns<'_> {
+    /// Returns `false` only if no log above `proc` comes to `conf` from another ring: a quick test that can make a search unnecessary.
+    fn may_differ(&self, proc: Proc, ring: &RingId, conf: &ConfId) -> bool
+        ensures { OnFalse result (HoldsOfNone (IsOtherOrigin self.now.run.now.logs proc ring.now conf.now)) }
+    {
+        match self.origins.latest.get(conf) {
+            None => false,
+            Some(latest) if latest.ring == *ring => proc.rank() < latest.other,
+            Some(latest) => proc.rank() < latest.rank,
+        }
+    }
 }
 
 impl Relation for Turns<'_> {
@@ -104,13 +165,7 @@ impl Relation for Turns<'_> {
 
     ghost holds = { λ s. IsTurnFault s.run.now.logs };
 
-    fn rest(
-        &self,
-        alloc: Global,
-        proc: Proc,
-        log: &[Entry],
-        at: usize,
-    ) -> Result<Option<Vec<Place>>, AllocError> {
+    fn rest(&self, alloc: Global, proc: Proc, log: &[Entry], at: usize) -> Rest {
         if begins_transitional(log, at) {
             return Ok(Some(Vec::new(alloc)));
         }
@@ -128,7 +183,7 @@ impl Relation for Turns<'_> {
         let ConfId::Regular(ring) = succession.conf else {
             return Ok(None);
         };
-        if self.origins.rings.is_only(succession.next, ring) {
+        if !self.may_differ(proc, ring, succession.next) {
             return Ok(None);
         }
         let others = OtherOrigins {
@@ -150,7 +205,7 @@ pub fn find(alloc: Global, run: &Run, changes: &Changes) -> Result<Option<Places
     ensures { IfOk result (Finds run.now.logs SpecNo.Turns) }
 {
     let mut origins = Origins {
-        rings: Met::new(alloc),
+        latest: BTreeMap::new(alloc),
     };
     enter_changes(&mut origins, alloc, run, changes)?;
     let turns = Turns { run, origins };

@@ -1,7 +1,6 @@
-//! 1.4: each message is sent and delivered once (docs/SPECIFICATIONS.md, "1 Basic delivery").
-//!
-//! This is the search, which names what breaks it. A yes comes from the rule, totem_run_rules `once_1_4`.
-ghost use Rattle.std.specs.Prelude.{◌≡◌, ◌↔◌, IsTrue, IfOk};
+//! 1.4: each message is sent and delivered once (docs/SPECIFICATIONS.md, "1 Basic delivery"). This is the search, which names what breaks
+//! it. A yes comes from the rule, totem_run_rules `once_1_4`.
+ghost use Rattle.std.specs.Prelude.{◌≡◌, ◌↔◌, ℕ, ◌<◌, List, Contains, IsTrue, IfOk};
 ghost use Rattle.totem_evs.specs.Events.{IsTransitional};
 ghost use Rattle.std.specs.Bool.{OnTrue};
 ghost use Rattle.totem_evs.specs.Answers.{Finds};
@@ -9,16 +8,75 @@ ghost use Rattle.totem_pass_ab.specs.Bad.{IsSendBetween, AreTwice};
 ghost use Rattle.totem_table.specs.Registers.{KnowsRun};
 ghost use Rattle.totem_pass_ab.specs.Noted.{DeliverOnceBut, KnowsAct};
 
-use crate::keys::Delivery;
-use crate::kinds::is_transitional;
-use crate::met::Met;
+use crate::met::{Met, Same};
+use crate::neighbours::is_transitional;
 use crate::pairs::{Standing, Test, least_bad};
-use crate::repeats::Repeats;
 use std::alloc::{AllocError, Global};
 use totem_evs::{Entry, Places, Run, SpecNo};
 use totem_ids::{MsgId, Place, Proc};
 use totem_run_rules::{deliveries_are_once, sends_are_once};
-use totem_table::enter_run;
+use totem_table::{Register, enter_run};
+
+/// A message, and a process that delivers it.
+#[derive(Clone, Copy, PartialEq, Eq, PartialOrd, Ord)]
+pub struct Delivery {
+    pub proc: Proc,
+    pub message: MsgId,
+}
+
+impl Same for Place {
+    fn is_same(&self, other: &Place) -> bool {
+        *self == *other
+    }
+}
+
+/// The place of each message's send, and of each process's delivery of it. If there are several, only that
+/// fact is kept.
+#[derive(Drop)]
+pub struct Repeats {
+    pub sends: Met<MsgId, Place>,
+    pub deliveries: Met<Delivery, Place>,
+    /// The processes that may deliver a message twice. The deliveries of the others are left out.
+    pub doubtful: Vec<Proc>,
+}
+
+impl Repeats {
+    pub fn is_doubtful(&self, proc: Proc) -> bool
+        ensures { IsTrue result ↔ Contains self.now.doubtful.items proc }
+    {
+        self.doubtful.contains(&proc)
+    }
+}
+
+impl Register for Repeats {
+    ghost sound = { λ s. DeliverOnceBut s.doubtful.items };
+
+    ghost knows = { λ s. KnowsAct ⟦<MsgId as Ord>⟧.cmp ⟦<Delivery as Ord>⟧.cmp s.sends.values s.deliveries.values s.doubtful.items };
+
+    fn enter(
+        &mut self,
+        _alloc: Global,
+        proc: Proc,
+        log: &[Entry],
+        at: usize,
+    ) -> Result<(), AllocError> {
+        let place = Place {
+            proc,
+            at: (at + 1) as u32,
+        };
+        match &log[at] {
+            Entry::Send(message, _, _) => self.sends.meet(*message, place),
+            Entry::Deliver(message, _) => {
+                if !self.is_doubtful(proc) {
+                    return Ok(());
+                }
+                let message = *message;
+                self.deliveries.meet(Delivery { proc, message }, place)
+            }
+            _ => Ok(()),
+        }
+    }
+}
 
 /// Looks for sends in transitional configurations, and for what is sent or delivered twice.
 #[derive(Drop)]
@@ -86,9 +144,8 @@ fn doubtful(alloc: Global, run: &Run) -> Result<Vec<Proc>, AllocError>
     let mut list = Vec::new(alloc);
     for k in 0..logs.len() {
         let log = &logs[k];
-        let proc = log.proc;
         if !deliveries_are_once(alloc, &logs[k..k + 1])? {
-            list.push(proc)?;
+            list.push(log.proc)?;
         }
     }
     Ok(list)

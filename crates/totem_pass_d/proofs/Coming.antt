@@ -29,7 +29,7 @@ use Rattle.totem_evs.specs.Runs.{IsRun, IsLog}
 use Rattle.totem_evs.specs.Following.{NeverFails}
 use Rattle.totem_evs.proofs.LogOf.{log_of_at, log_of_cases, in_order}
 use Rattle.totem_traffic_rules.proofs.Rowing.{before_or_at}
-use Rattle.totem_pass_d.specs.declared.stay.Stay.{Stay}
+use Rattle.totem_pass_d.specs.declared.stays.Stay.{Stay}
 use Rattle.totem_run_rules.specs.Stays.{IsStay}
 use Rattle.totem_pass_d.specs.Stays.{IsStayFrom, IsStayOf, HasStay, AreStays}
 use Rattle.totem_run_rules.proofs.Staying.{is_stay}

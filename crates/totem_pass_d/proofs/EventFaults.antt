@@ -5,7 +5,7 @@ use Rattle.totem_evs.specs.declared.log.Log.{Log}
 use Rattle.totem_evs.specs.Events.{IsQuiet, log_of, ChangesTo, Delivers}
 use Rattle.totem_evs.specs.Following.{FailedIn, StaysIn, OpenIn, Com, DeliversIn, HasDelivered, DeliversOrEnds}
 use Rattle.totem_traffic_rules.proofs.Rowing.{before_or_at}
-use Rattle.totem_pass_d.specs.declared.stay.Stay.{Stay}
+use Rattle.totem_pass_d.specs.declared.stays.Stay.{Stay}
 use Rattle.totem_pass_d.specs.Stays.{IsExcused, IsStayOf}
 use Rattle.std.specs.Prelude.{All}
 use Rattle.std.specs.Bool.{MatchBool, OnTrue, OnFalse}

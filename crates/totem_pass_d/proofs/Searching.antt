@@ -8,7 +8,7 @@ use Rattle.totem_evs.specs.declared.log.Log.{Log}
 use Rattle.totem_evs.specs.Answers.{ComesFirst, IsLeast, FindsIn}
 use Rattle.totem_table.specs.Search.{place, NoneFrom, HoldsOfNone, IsLeastFrom}
 use Rattle.totem_evs.proofs.LogOf.{less_or_not}
-use Rattle.totem_pass_d.specs.declared.stay.Stay.{Stay}
+use Rattle.totem_pass_d.specs.declared.stays.Stay.{Stay}
 use Rattle.totem_pass_d.specs.Stays.{AreStays}
 use Rattle.totem_pass_d.specs.Acts.{IsAmong, NeverComes}
 use Rattle.totem_pass_d.specs.Search.{IsInside, EachBeginsWithin, NoneBelow, NoneWithin, IsLeastWithin, IsOneEvent, IsOfOne, IsBrokenAlone, EachStandsInside, BeginsWithin}

@@ -17,7 +17,7 @@ use Rattle.totem_evs.specs.Answers.{MeetsPasses}
 use Rattle.totem_traffic_rules.proofs.Rowing.{before_or_at}
 use Rattle.totem_ids.proofs.Exact.{equal_at, apart_or_at, exact_message}
 use Rattle.totem_run_rules.specs.Stays.{IsStay}
-use Rattle.totem_pass_d.specs.declared.stay.Stay.{Stay}
+use Rattle.totem_pass_d.specs.declared.stays.Stay.{Stay}
 use Rattle.totem_pass_d.specs.declared.stays.Sending.{Sending}
 use Rattle.totem_pass_d.specs.Stays.{HasStay, AreStays}
 use Rattle.totem_pass_d.specs.Acts.{IsSendingOf, DeliversNot}

@@ -24,7 +24,7 @@ use Rattle.totem_evs.specs.Unsettled.{IsPending}
 use Rattle.totem_evs.specs.Answers.{AreRings}
 use Rattle.totem_run_rules.specs.Endings.{HoldsPending, HasFailed}
 use Rattle.totem_run_rules.specs.Ends.{GoesOn}
-use Rattle.totem_pass_d.specs.declared.stay.Stay.{Stay}
+use Rattle.totem_pass_d.specs.declared.stays.Stay.{Stay}
 use Rattle.totem_pass_d.specs.declared.stays.Sending.{Sending}
 use Rattle.totem_pass_d.specs.declared.stays.Stays.{Stays}
 use Rattle.totem_pass_d.specs.Stays.{IsExcused, IsStayOf, HasStay, AreStays}

@@ -5,7 +5,7 @@ use Rattle.totem_ids.specs.declared.message.MsgId.{MsgId}
 use Rattle.totem_ids.specs.contracts.message.MsgIdOrd.TheImpl as message
 use Rattle.totem_evs.specs.declared.entry.Entry.{Entry}
 use Rattle.totem_evs.specs.declared.entry.Entry.TheVariants.{Deliver}
-use Rattle.totem_pass_d.specs.declared.row.Row.{Row}
+use Rattle.totem_pass_d.specs.declared.indexes.Row.{Row}
 use Rattle.totem_pass_d.specs.declared.indexes.Indexes.{Indexes}
 use Rattle.totem_pass_d.specs.declared.indexes.Indexes.TheVariants.{ByNumber, ByMessage}
 

@@ -7,7 +7,7 @@ use Rattle.totem_evs.specs.declared.spec.SpecNo.{SpecNo}
 use Rattle.totem_evs.specs.RingFaults.{BreaksIn, MeetsIn}
 use Rattle.totem_evs.specs.Places.{At}
 use Rattle.totem_table.specs.Search.{place, IsLeastFrom}
-use Rattle.totem_pass_d.specs.declared.stay.Stay.{Stay}
+use Rattle.totem_pass_d.specs.declared.stays.Stay.{Stay}
 use Rattle.totem_pass_d.specs.Acts.{IsAmong}
 
 -- the index is in the stay, after the change to the regular configuration

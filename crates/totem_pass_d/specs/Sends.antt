@@ -9,7 +9,7 @@ use Rattle.totem_ids.specs.declared.message.Service.{Service}
 use Rattle.totem_ids.specs.contracts.message.MsgIdOrd.TheImpl as message
 use Rattle.totem_evs.specs.declared.entry.Entry.TheVariants.{Send}
 use Rattle.totem_evs.specs.declared.log.Log.{Log}
-use Rattle.totem_pass_d.specs.declared.stay.Stay.{Stay}
+use Rattle.totem_pass_d.specs.declared.stays.Stay.{Stay}
 use Rattle.totem_pass_d.specs.declared.stays.Sending.{Sending}
 use Rattle.totem_pass_d.specs.Acts.{IsSendingOf, NobodySent}
 

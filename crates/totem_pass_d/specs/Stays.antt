@@ -8,7 +8,7 @@ use Rattle.totem_evs.specs.Events.{ChangesTo, IsQuiet, log_of}
 use Rattle.totem_evs.specs.Following.{NeverFails}
 use Rattle.totem_evs.specs.declared.ending.Ending.TheVariants.{Quiet}
 use Rattle.totem_run_rules.specs.Stays.{AreNextTwo, IsStay}
-use Rattle.totem_pass_d.specs.declared.stay.Stay.{Stay}
+use Rattle.totem_pass_d.specs.declared.stays.Stay.{Stay}
 use Rattle.totem_pass_d.specs.Indexes.{told, Tells}
 
 -- the stay is within its log, which is not too long

@@ -12,7 +12,7 @@ use Rattle.totem_evs.specs.declared.entry.Entry.TheVariants.{Send, Deliver}
 use Rattle.totem_evs.specs.declared.log.Log.{Log}
 use Rattle.totem_evs.specs.Events.{log_of}
 use Rattle.totem_evs.specs.Following.{DeliversIn}
-use Rattle.totem_pass_d.specs.declared.stay.Stay.{Stay}
+use Rattle.totem_pass_d.specs.declared.stays.Stay.{Stay}
 
 -- the entry sends or delivers m
 abbrev pub Handles : Entry → MsgId → Type 0

@@ -1,7 +1,5 @@
-//! 4: processes that go from one configuration to the next together deliver the same messages in it
-//! (docs/SPECIFICATIONS.md, "4 Failure atomicity", "Passes").
-//!
-//! This is the search, which names what breaks it. A yes comes from the rule, totem_traffic_rules `atomicity_4`.
+//! 4: processes that go from one configuration to the next together deliver the same messages in it (docs/SPECIFICATIONS.md, "4 Failure
+//! atomicity", "Passes"). This is the search, which names what breaks it. A yes comes from the rule, totem_traffic_rules `atomicity_4`.
 ghost use Rattle.std.specs.Prelude.{◌≡◌, ◌↔◌, ℕ, IsTrue, IfSome, IfNone, IfOk};
 ghost use Rattle.std.specs.Bool.{OnTrue, OnFalse};
 ghost use Rattle.totem_evs.specs.Events.{log_of, ChangesTo, Delivers};
@@ -12,34 +10,20 @@ ghost use Rattle.totem_pass_d.specs.KnownStays.{AreKnown};
 ghost use Rattle.totem_pass_d.specs.Acts.{IsAmong};
 ghost use Rattle.totem_pass_d.specs.Searched.{IsAnywhere, IsSpan, IsNoChange, NeverDelivers, IsPartner};
 
-use crate::search::{EachIndex, Finder, Relation, first_found, least_found, only};
-use crate::stay::Stay;
-use crate::stays::Stays;
+use crate::search::{EachIndex, Finder, FoundList, Relation, first_found, least_found, only};
+use crate::stays::{Stay, Stays};
 use std::alloc::{AllocError, Global};
 use totem_evs::{Entry, Places, SpecNo};
-use totem_ids::{ConfId, MsgId, Place};
+use totem_ids::{ConfId, MsgId};
 use totem_table::begin_at;
 
-/// The index at which a stay changes to one of its two configurations, and the index of the next change or of the end of the stay.
-#[derive(Clone, Copy)]
-struct Span {
-    change: usize,
-    next: usize,
-}
-
-/// Returns the span of this configuration, which is the regular one or what follows it.
-fn span_of(stay: &Stay, conf: &ConfId) -> Span
-    ensures { IsSpan conf.now stay.now result.change result.next }
+/// Returns the index at which a stay changes to this one of its two configurations, and that of the next change or of the end of the stay.
+fn span_of(stay: &Stay, conf: &ConfId) -> (usize, usize)
+    ensures { IsSpan conf.now stay.now result.0 result.1 }
 {
     match conf {
-        ConfId::Regular(_) => Span {
-            change: stay.from,
-            next: stay.turn,
-        },
-        ConfId::Transitional { .. } => Span {
-            change: stay.turn,
-            next: stay.end,
-        },
+        ConfId::Regular(_) => (stay.from, stay.turn),
+        ConfId::Transitional { .. } => (stay.turn, stay.end),
     }
 }
 
@@ -97,18 +81,18 @@ impl Finder for Partings<'_, '_, '_> {
 
     ghost holds = { λ p. IsOneEvent (IsPartner p.stays.now.run.now.logs p.stays.now.ring p.message.now p.conf.now p.next.now) };
 
-    fn find_in(&self, alloc: Global, stay: &Stay) -> Result<Option<Vec<Place>>, AllocError> {
-        let span = span_of(stay, self.conf);
-        if !changes_to(stay, span.change, self.conf) {
+    fn find_in(&self, alloc: Global, stay: &Stay) -> FoundList {
+        let (change, next) = span_of(stay, self.conf);
+        if !changes_to(stay, change, self.conf) {
             return Ok(None);
         }
-        if !changes_to(stay, span.next, self.next) {
+        if !changes_to(stay, next, self.next) {
             return Ok(None);
         }
         if self.is_delivered(stay) {
             return Ok(None);
         }
-        Ok(Some(only(alloc, stay.proc, span.next)?))
+        Ok(Some(only(alloc, stay.proc, next)?))
     }
 }
 
@@ -123,17 +107,12 @@ impl Relation for Deliveries<'_, '_> {
 
     ghost holds = { λ d. BreaksAtomicityIn d.stays.now.run.now.logs d.stays.now.ring };
 
-    fn rest(
-        &self,
-        alloc: Global,
-        stay: &Stay,
-        at: usize,
-    ) -> Result<Option<Vec<Place>>, AllocError> {
+    fn rest(&self, alloc: Global, stay: &Stay, at: usize) -> FoundList {
         let Entry::Deliver(message, conf) = self.stays.entry_in(stay, at) else {
             return Ok(None);
         };
-        let span = span_of(stay, conf);
-        let Some(next) = change_at(stay, span.next) else {
+        let (_, next_at) = span_of(stay, conf);
+        let Some(next) = change_at(stay, next_at) else {
             return Ok(None);
         };
         let partings = Partings {
@@ -145,7 +124,7 @@ impl Relation for Deliveries<'_, '_> {
         let Some(list) = first_found(&partings, alloc, self.stays)? else {
             return Ok(None);
         };
-        Ok(Some(begin_at(stay.proc, span.next, list)?))
+        Ok(Some(begin_at(stay.proc, next_at, list)?))
     }
 }
 

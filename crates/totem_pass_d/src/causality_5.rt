@@ -1,7 +1,6 @@
 //! 5: what a process sent or delivered before it sent a message is delivered before that message, one hop at a time
-//! (docs/SPECIFICATIONS.md, "5 Causal delivery", "Passes").
-//!
-//! This is the search, which names what breaks it. A yes comes from the rule, totem_traffic_rules `causality_5`.
+//! (docs/SPECIFICATIONS.md, "5 Causal delivery", "Passes"). This is the search, which names what breaks it. A yes comes from the rule,
+//! totem_traffic_rules `causality_5`.
 ghost use Rattle.std.specs.Prelude.{◌≡◌, ◌↔◌, ◌<◌, IsTrue, IfOk, length};
 ghost use Rattle.totem_table.specs.Search.{place};
 ghost use Rattle.totem_evs.specs.RingFaults.{BreaksCausalityIn, MeetsIn};
@@ -14,14 +13,13 @@ ghost use Rattle.totem_pass_d.specs.Search.{IsInside, IsOneEvent};
 ghost use Rattle.totem_pass_d.specs.Searched.{IsEffect, IsSurprise};
 ghost use Rattle.totem_pass_d.specs.Suspects.{AreSuspects};
 
-use crate::search::{EachIndex, Finder, Relation, first_found, least_found, only};
-use crate::stay::Stay;
-use crate::stays::Stays;
+use crate::search::{EachIndex, Finder, FoundList, Relation, first_found, least_found, only};
+use crate::stays::{Stay, Stays};
 use crate::suspects::{comes_before, suspects_of};
 use std::alloc::{AllocError, Global};
 use std::collections::BTreeSet;
 use totem_evs::{Entry, Places, SpecNo};
-use totem_ids::{MsgId, Place, Proc};
+use totem_ids::{MsgId, Proc};
 
 /// The deliveries of a message without its cause before it.
 #[derive(Clone, Copy)]
@@ -38,7 +36,7 @@ impl Finder for Surprises<'_, '_, '_> {
 
     ghost holds = { λ s. IsOneEvent (IsSurprise s.stays.now.run.now.logs s.stays.now.ring s.cause.now s.effect.now) };
 
-    fn find_in(&self, alloc: Global, stay: &Stay) -> Result<Option<Vec<Place>>, AllocError> {
+    fn find_in(&self, alloc: Global, stay: &Stay) -> FoundList {
         let Some(at) = self.stays.delivery_of(stay, self.effect) else {
             return Ok(None);
         };
@@ -78,12 +76,7 @@ impl Relation for Effects<'_, '_, '_> {
 
     ghost holds = { λ s. IsEffect s.stays.now.run.now.logs s.stays.now.ring s.cause.now (place s.proc s.at) };
 
-    fn rest(
-        &self,
-        alloc: Global,
-        stay: &Stay,
-        at: usize,
-    ) -> Result<Option<Vec<Place>>, AllocError> {
+    fn rest(&self, alloc: Global, stay: &Stay, at: usize) -> FoundList {
         let Entry::Send(effect, _, _) = self.stays.entry_in(stay, at) else {
             return Ok(None);
         };
@@ -112,12 +105,7 @@ impl Relation for Causes<'_, '_> {
 
     ghost holds = { λ s. BreaksCausalityIn s.stays.now.run.now.logs s.stays.now.ring };
 
-    fn rest(
-        &self,
-        alloc: Global,
-        stay: &Stay,
-        at: usize,
-    ) -> Result<Option<Vec<Place>>, AllocError> {
+    fn rest(&self, alloc: Global, stay: &Stay, at: usize) -> FoundList {
         let Entry::Send(cause, _, _) = self.stays.entry_in(stay, at) else {
             return Ok(None);
         };

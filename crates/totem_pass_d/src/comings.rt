@@ -1,7 +1,7 @@
 //! The changes to regular configurations: the rings, and where each process changes to each.
 ghost use Rattle.std.specs.Prelude.{◌≡◌, ◌<◌, ◌≤◌, List, length};
 
-use crate::stay::{Stay, stay_from};
+use crate::stays::{Stays, sends_of, stay_from};
 use std::alloc::{AllocError, Global};
 use std::collections::{BTreeMap, BTreeSet};
 use totem_evs::{Entry, Run};
@@ -39,9 +39,8 @@ impl ChangeRegister for Comings {
         let ConfId::Regular(ring) = conf else {
             return Ok(());
         };
-        let ring = *ring;
-        let conf = ConfId::Regular(ring);
-        self.rings.insert(ring)?;
+        let conf = ConfId::Regular(*ring);
+        self.rings.insert(*ring)?;
         self.indices.insert(Change { proc, conf }, at)?;
         Ok(())
     }
@@ -52,7 +51,7 @@ impl Comings {
     ghost use Rattle.std.specs.BTreeSet as sorted;
     ghost use Rattle.totem_evs.specs.Answers.{AreRings, MeetsPasses};
     ghost use Rattle.totem_table.specs.Changes.{AreChanges};
-    ghost use Rattle.totem_pass_d.specs.Stays.{AreStays};
+    ghost use Rattle.totem_pass_d.specs.KnownStays.{AreKnown};
     ghost use Rattle.totem_pass_d.specs.Comings.{HoldsComings};
 
     /// Collects the changes of a run to regular configurations, in n log n steps for n changes.
@@ -80,16 +79,18 @@ impl Comings {
         Ok(list)
     }
 
-    /// Returns the stays in the regular configuration of this ring, log by log.
+    /// Returns the stays in the regular configuration of this ring, log by log, and what they send.
     pub fn stays<'r>(
         &self,
         alloc: Global,
         run: &'r Run,
         ring: RingId,
-    ) -> Result<Vec<Stay<'r>>, AllocError>
+    ) -> Result<Stays<'r>, AllocError>
         requires comings { HoldsComings ⟦<RingId as Ord>⟧.cmp ⟦<Change as Ord>⟧.cmp self.now.rings self.now.indices run.now.logs }
         requires meets { MeetsPasses run.now.logs }
-        ensures { IfOk result (λ list. AreStays run.now.logs ring list.items) }
+        ensures known { IfOk result AreKnown }
+        ensures logs { IfOk result (λ stays. stays.run.now.logs ≡ run.now.logs) }
+        ensures ring { IfOk result (λ stays. stays.ring ≡ ring) }
     {
         let mut list = Vec::new(alloc);
         for log in run.logs.as_slice() {
@@ -99,6 +100,12 @@ impl Comings {
                 list.push(stay_from(alloc, log, *from)?)?;
             }
         }
-        Ok(list)
+        let sends = sends_of(alloc, &list)?;
+        Ok(Stays {
+            run,
+            ring,
+            list,
+            sends,
+        })
     }
 }

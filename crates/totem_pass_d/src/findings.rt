@@ -2,10 +2,10 @@ ghost use Rattle.std.specs.Prelude.{IfOk};
 ghost use Rattle.totem_pass_d.specs.Findings.{AreFindings, AreMet};
 ghost use Rattle.totem_pass_d.specs.KnownStays.{AreKnown};
 
-use crate::events::least_event;
 use crate::installed_7_2::Uninstalled;
 use crate::own_3::Undelivered;
 use crate::safety_7_1::Unreached;
+use crate::search::least_event;
 use crate::stays::Stays;
 use crate::{atomicity_4, causality_5, gap_6_3};
 use std::alloc::{AllocError, Global};

@@ -1,25 +1,20 @@
-//! 6.3: a process that delivers a later message delivers the earlier one too, if its sender is still a member
-//! (docs/SPECIFICATIONS.md, "6 Total order", "Passes").
-//!
-//! This is the search, which names what breaks it. A yes comes from the rule, totem_traffic_rules `gap_6_3`.
-ghost use Rattle.std.specs.Prelude.{◌≡◌, ◌↔◌, ◌⊎◌, ◌<◌, ◌≤◌, IsTrue, IfOk, MatchOption, Contains};
+//! 6.3: a process that delivers a later message delivers the earlier one too, if its sender is still a member (docs/SPECIFICATIONS.md, "6
+//! Total order", "Passes"). This is the search, which names what breaks it. A yes comes from the rule, totem_traffic_rules `gap_6_3`.
+ghost use Rattle.std.specs.Prelude.{◌≡◌, ◌↔◌, ◌<◌, IsTrue, IfOk, MatchOption, Contains};
 ghost use Rattle.std.specs.Bool.{OnTrue, OnFalse};
-ghost use Rattle.totem_evs.specs.Events.{log_of};
-ghost use Rattle.totem_evs.specs.Following.{HasDelivered};
 ghost use Rattle.totem_table.specs.Search.{NoneFrom, IsLeastFrom};
 ghost use Rattle.totem_evs.specs.RingFaults.{BreaksGapIn, MeetsIn};
 ghost use Rattle.totem_evs.specs.Answers.{FindsIn};
 ghost use Rattle.totem_pass_d.specs.KnownStays.{AreKnown};
 ghost use Rattle.totem_pass_d.specs.Acts.{IsAmong};
 ghost use Rattle.totem_pass_d.specs.Search.{IsInside, IsOneEvent};
-ghost use Rattle.totem_pass_d.specs.Searched.{IsLater, TellsMember, IsApart, IsBeyond, AreLasts, IsSettled, IsLack};
+ghost use Rattle.totem_pass_d.specs.Searched.{IsLater, IsApart, IsBeyond, AreLasts, IsSettled, IsLack};
 
-use crate::search::{EachIndex, Finder, Relation, first_found, least_found, only};
-use crate::stay::Stay;
-use crate::stays::Stays;
+use crate::search::{EachIndex, Finder, FoundList, Relation, first_found, least_found, only};
+use crate::stays::{Stay, Stays};
 use std::alloc::{AllocError, Global};
 use totem_evs::{Entry, Places, SpecNo};
-use totem_ids::{MsgId, Place, Proc};
+use totem_ids::{MsgId, Proc};
 use totem_table::begin_at;
 
 fn is_among(members: &[Proc], proc: Proc) -> bool
@@ -37,18 +32,6 @@ struct Lacks<'s, 'r, 'm> {
     later: &'m MsgId,
 }
 
-impl Lacks<'_, '_, '_> {
-    /// Returns whether the sender is a member of the configuration that the entry at this index of a stay names.
-    fn has_sender(&self, stay: &Stay, at: usize) -> bool
-        requires known { AreKnown self.now.stays.now }
-        requires among { IsAmong self.now.stays.now.list.items stay.now }
-        requires inside { IsInside stay.now at }
-        ensures { TellsMember self.now.stays.now.run.now.logs (log_of self.now.stays.now.run.now.logs stay.now.proc) at self.now.sender result }
-    {
-        is_among(self.stays.members_at(stay, at), self.sender)
-    }
-}
-
 impl Finder for Lacks<'_, '_, '_> {
     ghost among = { λ l. l.stays.now };
 
@@ -56,14 +39,14 @@ impl Finder for Lacks<'_, '_, '_> {
 
     ghost holds = { λ l. IsOneEvent (IsLack l.stays.now.run.now.logs l.stays.now.ring l.sender l.earlier.now l.later.now) };
 
-    fn find_in(&self, alloc: Global, stay: &Stay) -> Result<Option<Vec<Place>>, AllocError> {
+    fn find_in(&self, alloc: Global, stay: &Stay) -> FoundList {
         let Some(at) = self.stays.delivery_of(stay, self.later) else {
             return Ok(None);
         };
         if self.stays.delivers(stay, self.earlier) {
             return Ok(None);
         }
-        if !self.has_sender(stay, at) {
+        if !is_among(self.stays.members_at(stay, at), self.sender) {
             return Ok(None);
         }
         Ok(Some(only(alloc, stay.proc, at)?))
@@ -84,12 +67,7 @@ impl Relation for Later<'_, '_, '_> {
 
     ghost holds = { λ l. IsLater l.stays.now.run.now.logs l.stays.now.ring l.sender l.earlier.now l.at };
 
-    fn rest(
-        &self,
-        alloc: Global,
-        stay: &Stay,
-        at: usize,
-    ) -> Result<Option<Vec<Place>>, AllocError> {
+    fn rest(&self, alloc: Global, stay: &Stay, at: usize) -> FoundList {
         if at <= self.at {
             return Ok(None);
         }
@@ -151,15 +129,6 @@ fn lasts_of(alloc: Global, stays: &Stays, leader: &Stay) -> Result<Vec<usize>, A
     Ok(lasts)
 }
 
-/// Returns whether the follower delivers the leader's message, or delivers nothing that the leader delivers after it.
-fn keeps_up(stays: &Stays, follower: &Stay, last: usize, message: &MsgId, at: usize) -> bool
-    requires known { AreKnown stays.now }
-    requires among { IsAmong stays.now.list.items follower.now }
-    ensures { OnTrue result ((last ≤ at) ⊎ HasDelivered (log_of stays.now.run.now.logs follower.now.proc) stays.now.ring message.now) }
-{
-    last <= at || stays.delivers(follower, message)
-}
-
 /// Returns whether each follower delivers the leader's message, or delivers nothing that the leader delivers after it.
 fn all_keep_up(stays: &Stays, leader: &Stay, lasts: &[usize], message: &MsgId, at: usize) -> bool
     requires known { AreKnown stays.now }
@@ -167,7 +136,7 @@ fn all_keep_up(stays: &Stays, leader: &Stay, lasts: &[usize], message: &MsgId, a
     ensures { OnTrue result (IsSettled stays.now.run.now.logs stays.now.ring stays.now.list.items leader.now.proc message.now at) }
 {
     for (k, follower) in stays.list.iter().enumerate() {
-        if !keeps_up(stays, follower, lasts[k], message, at) {
+        if lasts[k] > at && !stays.delivers(follower, message) {
             return false;
         }
     }
@@ -182,13 +151,7 @@ struct Gaps<'s, 'r> {
 
 impl Gaps<'_, '_> {
     /// Returns the rest of the least gap that starts at this index of the leader's stay.
-    fn rest_at(
-        &self,
-        alloc: Global,
-        leader: &Stay,
-        lasts: &[usize],
-        at: usize,
-    ) -> Result<Option<Vec<Place>>, AllocError>
+    fn rest_at(&self, alloc: Global, leader: &Stay, lasts: &[usize], at: usize) -> FoundList
         requires known { AreKnown self.now.stays.now }
         requires among { IsAmong self.now.stays.now.list.items leader.now }
         requires inside { IsInside leader.now at }
@@ -225,7 +188,7 @@ impl Finder for Gaps<'_, '_> {
 
     ghost holds = { λ g. BreaksGapIn g.stays.now.run.now.logs g.stays.now.ring };
 
-    fn find_in(&self, alloc: Global, stay: &Stay) -> Result<Option<Vec<Place>>, AllocError> {
+    fn find_in(&self, alloc: Global, stay: &Stay) -> FoundList {
         let lasts = lasts_of(alloc, self.stays, stay)?;
         for at in stay.from + 1..stay.end {
             if let Some(rest) = self.rest_at(alloc, stay, &lasts, at)? {

@@ -4,11 +4,68 @@ ghost use Rattle.std.specs.Bool.{OnTrue};
 ghost use Rattle.std.specs.BTreeMap as tree;
 ghost use Rattle.totem_pass_d.specs.Indexes.{IsShortPart, delivered_at, IsDelivery, IsNoDelivery, noted, told, Tells};
 
-use crate::row::Row;
 use std::alloc::{AllocError, Global};
 use std::collections::BTreeMap;
 use totem_evs::Entry;
 use totem_ids::MsgId;
+
+/// How many places a row may have at most for each entry.
+const SPARSEST: usize = 4;
+
+/// A note for each message by its number, from `first` on. 0 means that nothing is noted.
+#[derive(Drop)]
+pub struct Row {
+    first: u32,
+    notes: Vec<u32>,
+}
+
+impl Row {
+    /// Returns a row for the numbers of the messages that are delivered in this part of the log. It has no places if the numbers are
+    /// too far apart.
+    fn blank(alloc: Global, log: &[Entry], from: usize, end: usize) -> Result<Row, AllocError> {
+        let mut least = u32::MAX;
+        let mut greatest = 0u32;
+        for at in from..end {
+            if let Some(message) = delivered_at(log, at) {
+                least = least.min(message.number);
+                greatest = greatest.max(message.number);
+            }
+        }
+        let width = greatest.saturating_sub(least) as usize;
+        let places = if least <= greatest && width / SPARSEST < end.saturating_sub(from) {
+            width.saturating_add(1)
+        } else {
+            0
+        };
+        Ok(Row {
+            first: least,
+            notes: vec![in alloc; 0u32; places]?,
+        })
+    }
+
+    /// Returns the index at which each message is delivered in this part of the log. Nothing is claimed about it: a reader has to check
+    /// the entry there.
+    pub fn of(alloc: Global, log: &[Entry], from: usize, end: usize) -> Result<Row, AllocError> {
+        let mut row = Row::blank(alloc, log, from, end)?;
+        for at in from..end {
+            if let Some(message) = delivered_at(log, at) {
+                let place = message.number.saturating_sub(row.first) as usize;
+                if let Some(note) = row.notes.get_mut(place) {
+                    *note = u32::try_from(at).unwrap_or(0);
+                }
+            }
+        }
+        Ok(row)
+    }
+
+    /// Returns what is noted for the message.
+    pub fn get(&self, message: &MsgId) -> Option<u32>
+        ensures { result ≡ noted self.now message.now }
+    {
+        let place = message.number.saturating_sub(self.first) as usize;
+        self.notes.get(place).copied()
+    }
+}
 
 /// The index of each delivery: in a row by message number if that has all of them, else by message.
 #[derive(Drop)]
@@ -80,10 +137,7 @@ impl Indexes {
         ensures { result ≡ told self.now message.now }
     {
         match self {
-            Indexes::ByNumber(row) => match row.get(message) {
-                Some(at) => Some(at as usize),
-                None => None,
-            },
+            Indexes::ByNumber(row) => row.get(message).map(|at| at as usize),
             Indexes::ByMessage(map) => map.get(message).copied(),
         }
     }

@@ -1,18 +1,13 @@
-//! 7.2: if a safe message is delivered in the regular configuration, each of its members changes to it
-//! (docs/SPECIFICATIONS.md, "7 Safe delivery").
-//!
-//! This is the search, which names what breaks it. A yes comes from the rule, totem_traffic_rules `installed_7_2`.
-ghost use Rattle.std.specs.Prelude.{◌↔◌, IsTrue, All};
-ghost use Rattle.std.specs.Bool.{OnTrue, OnFalse};
+//! 7.2: if a safe message is delivered in the regular configuration, each of its members changes to it (docs/SPECIFICATIONS.md, "7 Safe
+//! delivery"). This is the search, which names what breaks it. A yes comes from the rule, totem_traffic_rules `installed_7_2`.
+ghost use Rattle.std.specs.Prelude.{◌↔◌, IsTrue};
 ghost use Rattle.totem_evs.specs.declared.spec.SpecNo.TheVariants.{Installed};
 ghost use Rattle.totem_evs.specs.AgreementFaults.{IsNotInstalled};
 ghost use Rattle.totem_pass_d.specs.Acts.{HasCome};
-ghost use Rattle.totem_pass_d.specs.Reached.{HoldsNotOfAll};
 ghost use Rattle.totem_pass_d.specs.KnownStays.{AreKnown};
 
-use crate::events::EventTest;
-use crate::stay::Stay;
-use crate::stays::Stays;
+use crate::search::EventTest;
+use crate::stays::{Stay, Stays};
 use totem_evs::Entry;
 use totem_ids::Proc;
 
@@ -33,15 +28,6 @@ impl Uninstalled<'_, '_> {
             None => false,
         }
     }
-
-    /// Returns whether the log of each of these members changes to the regular configuration.
-    fn have_come(&self, members: &[Proc]) -> bool
-        requires { AreKnown self.now.stays.now }
-        ensures all { OnTrue result (All (HasCome self.now.stays.now.run.now.logs self.now.stays.now.ring) members.now) }
-        ensures not_all { OnFalse result (HoldsNotOfAll (HasCome self.now.stays.now.run.now.logs self.now.stays.now.ring) members.now) }
-    {
-        members.iter().all(|member| self.has_come(*member))
-    }
 }
 
 impl EventTest for Uninstalled<'_, '_> {
@@ -61,6 +47,7 @@ impl EventTest for Uninstalled<'_, '_> {
         if !self.stays.is_safe(message) {
             return false;
         }
-        !self.have_come(self.stays.members_at(stay, at))
+        let members = self.stays.members_at(stay, at);
+        !members.iter().all(|member| self.has_come(*member))
     }
 }

@@ -9,7 +9,6 @@ ghost use Rattle.totem_pass_d.specs.Jobs.{AreJobs, AreFindingsAt};
 
 use crate::comings::Comings;
 use crate::findings::{Findings, findings_in};
-use crate::stays::Stays;
 use std::alloc::{AllocError, Global};
 use std::collections::BTreeMap;
 use totem_evs::Run;
@@ -124,8 +123,7 @@ impl<'r> Jobs<'r> {
         if shown.is_all() {
             return Ok(Findings::none());
         }
-        let list = self.comings.stays(alloc, self.run, ring)?;
-        let stays = Stays::build(alloc, self.run, ring, list)?;
+        let stays = self.comings.stays(alloc, self.run, ring)?;
         findings_in(alloc, &stays, &shown)
     }
 }

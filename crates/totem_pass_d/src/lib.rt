@@ -12,7 +12,6 @@
 mod atomicity_4;
 mod causality_5;
 mod comings;
-mod events;
 mod findings;
 mod gap_6_3;
 mod indexes;
@@ -21,10 +20,8 @@ mod jobs;
 mod own_3;
 mod pass;
 mod pendings;
-mod row;
 mod safety_7_1;
 mod search;
-mod stay;
 mod stays;
 mod suspects;
 

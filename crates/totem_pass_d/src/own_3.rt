@@ -1,13 +1,10 @@
-//! 3: a process that sends a message in the regular configuration delivers it there or in what follows
-//! (docs/SPECIFICATIONS.md, "3 Self-delivery").
-//!
-//! This is the search, which names what breaks it. A yes comes from the rule, totem_traffic_rules `own_3`.
+//! 3: a process that sends a message in the regular configuration delivers it there or in what follows (docs/SPECIFICATIONS.md, "3
+//! Self-delivery"). This is the search, which names what breaks it. A yes comes from the rule, totem_traffic_rules `own_3`.
 ghost use Rattle.totem_evs.specs.declared.spec.SpecNo.TheVariants.{OwnDelivery};
 ghost use Rattle.totem_evs.specs.AgreementFaults.{IsNotOwned};
 
-use crate::events::EventTest;
-use crate::stay::Stay;
-use crate::stays::Stays;
+use crate::search::EventTest;
+use crate::stays::{Stay, Stays};
 use totem_evs::Entry;
 
 /// The sends of messages that their sender does not deliver, though the end of its stay does not excuse it.
@@ -27,9 +24,6 @@ impl EventTest for Undelivered<'_, '_> {
         let Entry::Send(message, _, _) = self.stays.entry_in(stay, at) else {
             return false;
         };
-        if stay.is_excused() {
-            return false;
-        }
-        !self.stays.delivers(stay, message)
+        !stay.is_excused() && !self.stays.delivers(stay, message)
     }
 }

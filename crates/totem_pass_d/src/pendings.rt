@@ -10,11 +10,10 @@ ghost use Rattle.totem_pass_d.specs.KnownStays.{AreKnown};
 ghost use Rattle.totem_pass_d.specs.Pendings.{Adds, IsPendingIn, IsPendingFor};
 
 use crate::jobs::Jobs;
-use crate::stay::Stay;
-use crate::stays::Stays;
+use crate::stays::{Stay, Stays};
 use std::alloc::{AllocError, Global};
 use totem_evs::{Pending, Run, Waiting};
-use totem_ids::{MsgId, RingId};
+use totem_ids::MsgId;
 use totem_run_rules::{has_failed, in_order};
 
 /// Returns whether the process of this stay is open in it.
@@ -74,21 +73,6 @@ fn add_pending(alloc: Global, list: &mut Vec<Pending>, stays: &Stays) -> Result<
     Ok(())
 }
 
-/// Adds what is pending in the configuration of this ring.
-fn add_ring(
-    alloc: Global,
-    list: &mut Vec<Pending>,
-    jobs: &Jobs<'_>,
-    ring: RingId,
-) -> Result<(), AllocError>
-    requires { AreJobs jobs.now.run.now.logs jobs.now }
-    ensures { OnOk result (Adds (IsPendingIn jobs.now.run.now.logs ring) list.old.items list.new.items) }
-{
-    let found = jobs.comings.stays(alloc, jobs.run, ring)?;
-    let stays = Stays::build(alloc, jobs.run, ring, found)?;
-    add_pending(alloc, list, &stays)
-}
-
 /// Returns all that is pending in the run of these jobs, by process and then by message.
 pub fn pending_of(alloc: Global, jobs: &Jobs<'_>) -> Result<Vec<Pending>, AllocError>
     requires { AreJobs jobs.now.run.now.logs jobs.now }
@@ -96,7 +80,8 @@ pub fn pending_of(alloc: Global, jobs: &Jobs<'_>) -> Result<Vec<Pending>, AllocE
 {
     let mut list = Vec::new(alloc);
     for ring in &jobs.rings {
-        add_ring(alloc, &mut list, jobs, *ring)?;
+        let stays = jobs.comings.stays(alloc, jobs.run, *ring)?;
+        add_pending(alloc, &mut list, &stays)?;
     }
     in_order(list)
 }

@@ -1,18 +1,13 @@
-//! 7.1: a safe message that is delivered reaches each member of the configuration in which it is delivered
-//! (docs/SPECIFICATIONS.md, "7 Safe delivery").
-//!
-//! This is the search, which names what breaks it. A yes comes from the rule, totem_traffic_rules `safety_7_1`.
-ghost use Rattle.std.specs.Prelude.{◌↔◌, IsTrue, All};
-ghost use Rattle.std.specs.Bool.{OnTrue, OnFalse};
+//! 7.1: a safe message that is delivered reaches each member of the configuration in which it is delivered (docs/SPECIFICATIONS.md, "7 Safe
+//! delivery"). This is the search, which names what breaks it. A yes comes from the rule, totem_traffic_rules `safety_7_1`.
+ghost use Rattle.std.specs.Prelude.{◌↔◌, IsTrue};
 ghost use Rattle.totem_evs.specs.declared.spec.SpecNo.TheVariants.{Safety};
 ghost use Rattle.totem_evs.specs.AgreementFaults.{IsNotReached};
 ghost use Rattle.totem_evs.specs.Following.{DeliversOrEnds};
-ghost use Rattle.totem_pass_d.specs.Reached.{HoldsNotOfAll};
 ghost use Rattle.totem_pass_d.specs.KnownStays.{AreKnown};
 
-use crate::events::EventTest;
-use crate::stay::Stay;
-use crate::stays::Stays;
+use crate::search::EventTest;
+use crate::stays::{Stay, Stays};
 use totem_evs::Entry;
 use totem_ids::{MsgId, Proc};
 
@@ -33,17 +28,6 @@ impl Unreached<'_, '_> {
         };
         stay.is_excused() || self.stays.delivers(stay, message)
     }
-
-    /// Returns whether each of these members delivers the message, or is excused from delivering it.
-    fn are_reached(&self, members: &[Proc], message: &MsgId) -> bool
-        requires { AreKnown self.now.stays.now }
-        ensures all { OnTrue result (All (λ q. DeliversOrEnds self.now.stays.now.run.now.logs q self.now.stays.now.ring message.now) members.now) }
-        ensures not_all { OnFalse result (HoldsNotOfAll (λ q. DeliversOrEnds self.now.stays.now.run.now.logs q self.now.stays.now.ring message.now) members.now) }
-    {
-        members
-            .iter()
-            .all(|member| self.is_reached(*member, message))
-    }
 }
 
 impl EventTest for Unreached<'_, '_> {
@@ -60,6 +44,9 @@ impl EventTest for Unreached<'_, '_> {
         if !self.stays.is_safe(message) {
             return false;
         }
-        !self.are_reached(self.stays.members_at(stay, at), message)
+        let members = self.stays.members_at(stay, at);
+        !members
+            .iter()
+            .all(|member| self.is_reached(*member, message))
     }
 }

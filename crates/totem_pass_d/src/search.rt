@@ -1,20 +1,25 @@
-//! The least list of events of a run that starts in a regular configuration or in what follows it.
+//! The least list of events of a run, or the least single event, that starts in a regular configuration or in what follows it.
 ghost use Rattle.std.specs.Prelude.{◌≡◌, ◌<◌, ℕ, IfOk, MatchOption, List, [], ◌∷◌};
+ghost use Rattle.std.specs.Bool.{OnTrue, OnFalse};
 ghost use Rattle.totem_ids.specs.declared.place.Place.{Place};
 ghost use Rattle.totem_table.specs.Search.{place, NoneFrom, IsLeastFrom, HoldsOfNone};
-ghost use Rattle.totem_evs.specs.Answers.{IsLeast};
-ghost use Rattle.totem_pass_d.specs.declared.stay.Stay.{Stay};
+ghost use Rattle.totem_evs.specs.Answers.{FindsIn, IsLeast};
+ghost use Rattle.totem_evs.specs.RingFaults.{MeetsIn};
+ghost use Rattle.totem_evs.specs.declared.spec.SpecNo.{SpecNo};
+ghost use Rattle.totem_pass_d.specs.declared.stays.Stay.{Stay};
 ghost use Rattle.totem_pass_d.specs.declared.stays.Stays.{Stays};
 ghost use Rattle.totem_pass_d.specs.KnownStays.{AreKnown};
 ghost use Rattle.totem_pass_d.specs.Acts.{IsAmong};
-ghost use Rattle.totem_pass_d.specs.Search.{IsInside, EachBeginsWithin, NoneWithin, IsLeastWithin};
+ghost use Rattle.totem_pass_d.specs.Search.{IsInside, IsOneEvent, IsBrokenAlone, EachBeginsWithin, NoneWithin, IsLeastWithin};
 
-use crate::stay::Stay;
-use crate::stays::Stays;
+use crate::stays::{Stay, Stays};
 use std::alloc::{AllocError, Global};
 use totem_evs::Places;
 use totem_ids::{Place, Proc};
 use totem_table::{begin_at, places_of};
+
+/// What a search for the least list returns: that list or the rest of it, if there is one.
+pub type FoundList = Result<Option<Vec<Place>>, AllocError>;
 
 /// A relation on lists of events that start in one of the stays.
 pub trait Relation {
@@ -25,7 +30,7 @@ pub trait Relation {
     ghost holds: { Self → List Place → Type 0 };
 
     /// Returns the rest of the least list that starts at this index of a stay.
-    fn rest(&self, alloc: Global, stay: &Stay, at: usize) -> Result<Option<Vec<Place>>, AllocError>
+    fn rest(&self, alloc: Global, stay: &Stay, at: usize) -> FoundList
         requires known { AreKnown (among self.now) }
         requires among { IsAmong (among self.now).list.items stay.now }
         requires inside { IsInside stay.now at }
@@ -44,7 +49,7 @@ pub trait Finder {
     ghost holds: { Self → List Place → Type 0 };
 
     /// Returns the least list that starts in this stay.
-    fn find_in(&self, alloc: Global, stay: &Stay) -> Result<Option<Vec<Place>>, AllocError>
+    fn find_in(&self, alloc: Global, stay: &Stay) -> FoundList
         requires known { AreKnown (among self.now) }
         requires among { IsAmong (among self.now).list.items stay.now }
         ensures { IfOk result (λ found. MatchOption found (NoneWithin (reaches self.now) (holds self.now) stay.now) (λ list. IsLeastWithin (reaches self.now) (holds self.now) stay.now list.items)) };
@@ -71,7 +76,7 @@ impl<R: Relation> Finder for EachIndex<'_, R> {
 
     ghost holds = { λ e. R.holds e.relation.now };
 
-    fn find_in(&self, alloc: Global, stay: &Stay) -> Result<Option<Vec<Place>>, AllocError> {
+    fn find_in(&self, alloc: Global, stay: &Stay) -> FoundList {
         for at in stay.from + 1..stay.end {
             if let Some(rest) = self.relation.rest(alloc, stay, at)? {
                 return Ok(Some(begin_at(stay.proc, at, rest)?));
@@ -82,11 +87,7 @@ impl<R: Relation> Finder for EachIndex<'_, R> {
 }
 
 /// Returns the least list that a finder finds.
-pub fn first_found<F: Finder>(
-    finder: &F,
-    alloc: Global,
-    stays: &Stays,
-) -> Result<Option<Vec<Place>>, AllocError>
+pub fn first_found<F: Finder>(finder: &F, alloc: Global, stays: &Stays) -> FoundList
     requires known { AreKnown stays.now }
     requires among { F.among finder.now ≡ stays.now }
     requires begins { EachBeginsWithin stays.now.list.items (F.reaches finder.now) (F.holds finder.now) }
@@ -112,4 +113,64 @@ pub fn least_found<F: Finder>(
     ensures { IfOk result (λ found. MatchOption found (HoldsOfNone (F.holds finder.now)) (IsLeast (F.holds finder.now))) }
 {
     Ok(places_of(first_found(finder, alloc, stays)?))
+}
+
+/// A test for events that break a specification, each by itself.
+pub trait EventTest {
+    /// The stays.
+    ghost among: { Self → Stays };
+
+    /// The specification.
+    ghost spec: { SpecNo };
+
+    /// What it means that the event at an index of a process's log breaks the specification.
+    ghost breaks: { Self → ℕ → ℕ → Type 0 };
+
+    /// Returns whether the event at this index of a stay breaks the specification.
+    fn breaks_at(&self, stay: &Stay, at: usize) -> bool
+        requires known { AreKnown (among self.now) }
+        requires among { IsAmong (among self.now).list.items stay.now }
+        requires inside { IsInside stay.now at }
+        ensures there { OnTrue result (breaks self.now stay.now.proc at) }
+        ensures never { OnFalse result (breaks self.now stay.now.proc at → ⊥) };
+}
+
+/// The lists of one event for the events that a test finds.
+#[derive(Clone, Copy)]
+struct OneEvent<'t, T> {
+    test: &'t T,
+}
+
+impl<T: EventTest> Relation for OneEvent<'_, T> {
+    ghost among = { λ e. T.among e.test.now };
+
+    ghost holds = { λ e. IsOneEvent (T.breaks e.test.now) };
+
+    fn rest(&self, alloc: Global, stay: &Stay, at: usize) -> FoundList {
+        Ok(self.test.breaks_at(stay, at).then_some(Vec::new(alloc)))
+    }
+}
+
+/// Returns the least event that breaks the specification of a test, which only single events may break. None is searched for where it
+/// is known to be met.
+pub fn least_event<T: EventTest>(
+    test: &T,
+    alloc: Global,
+    stays: &Stays,
+    is_met: bool,
+) -> Result<Option<Places>, AllocError>
+    requires known { AreKnown stays.now }
+    requires among { T.among test.now ≡ stays.now }
+    requires alone { IsBrokenAlone stays.now.run.now.logs stays.now.ring stays.now.list.items T.spec (T.breaks test.now) }
+    requires met { OnTrue is_met (MeetsIn stays.now.run.now.logs stays.now.ring T.spec) }
+    ensures { IfOk result (FindsIn stays.now.run.now.logs stays.now.ring T.spec) }
+{
+    if is_met {
+        return Ok(None);
+    }
+    let relation = OneEvent { test };
+    let finder = EachIndex {
+        relation: &relation,
+    };
+    least_found(&finder, alloc, stays)
 }

@@ -1,22 +1,69 @@
-//! The stays of all processes in one regular configuration, and what they sent and delivered there.
-ghost use Rattle.std.specs.Prelude.{◌≡◌, ◌↔◌, IsTrue, IfSome, IfNone, IfOk, OnOk, Some, All, length, slice_get};
+//! The stays in one regular configuration, each the part of a log in it and in what follows it, and what was sent and delivered there.
+ghost use Rattle.std.specs.Prelude.{◌≡◌, ◌↔◌, ◌<◌, ◌≤◌, IsTrue, IfSome, IfNone, IfOk, OnOk, Some, All, length, slice_get};
 ghost use Rattle.totem_evs.specs.Events.{log_of};
 ghost use Rattle.std.specs.Bool.{OnTrue, OnFalse};
 ghost use Rattle.totem_evs.specs.Following.{DeliversIn, HasDelivered};
-ghost use Rattle.totem_evs.specs.Answers.{MeetsPasses};
 ghost use Rattle.totem_evs.specs.Missing.{members_of};
-ghost use Rattle.totem_pass_d.specs.Stays.{IsShortStay, AreStays};
+ghost use Rattle.totem_pass_d.specs.Stays.{IsExcused, IsStayFrom, IsShortStay};
 ghost use Rattle.totem_pass_d.specs.Sends.{NotesSends, HasSends};
 ghost use Rattle.totem_pass_d.specs.KnownStays.{AreKnown};
 ghost use Rattle.totem_pass_d.specs.Search.{IsInside};
 ghost use Rattle.totem_pass_d.specs.Reached.{IsSafeIn, AreMembersAt};
 ghost use Rattle.totem_pass_d.specs.Acts.{IsAmong, NeverComes, DeliversNot, IsSendingOf, NobodySent};
 
-use crate::stay::Stay;
+use crate::indexes::Indexes;
 use std::alloc::{AllocError, Global};
 use std::collections::BTreeMap;
-use totem_evs::{Entry, Run};
+use totem_evs::{Ending, Entry, Log, Run};
 use totem_ids::{MsgId, Proc, RingId, Service};
+use totem_run_rules::walk_to_change;
+
+/// The stay of a process. Its log changes to the regular configuration at `from` and to what follows that at `turn`; the entries
+/// before `end` are in these two. If nothing follows, `turn` is `end`. A quiet log claims that nothing more was to come
+/// after it.
+#[derive(Drop)]
+pub struct Stay<'r> {
+    pub proc: Proc,
+    pub log: &'r [Entry],
+    pub quiet: bool,
+    pub from: usize,
+    pub turn: usize,
+    pub end: usize,
+    pub deliveries: Indexes,
+}
+
+impl Stay<'_> {
+    /// Returns whether the stay extends to the end of a log that is not quiet: the process failed there, or it is open.
+    pub fn is_excused(&self) -> bool
+        ensures { IsTrue result ↔ IsExcused self.now }
+    {
+        self.end == self.log.len() && !self.quiet
+    }
+}
+
+/// Returns the part of a log from this index up to the change after the next one.
+pub fn stay_from(alloc: Global, log: &Log, from: usize) -> Result<Stay<'_>, AllocError>
+    requires within { from < length log.now.entries }
+    requires few { length log.now.entries ≤ 1000000 }
+    ensures { IfOk result (IsStayFrom log.now from) }
+{
+    let entries = log.entries.as_slice();
+    let turn = walk_to_change(entries, from);
+    let end = if turn < entries.len() {
+        walk_to_change(entries, turn)
+    } else {
+        turn
+    };
+    Ok(Stay {
+        proc: log.proc,
+        log: entries,
+        quiet: log.ending == Ending::Quiet,
+        from,
+        turn,
+        end,
+        deliveries: Indexes::of(alloc, entries, from, end)?,
+    })
+}
 
 /// A send: its process, the index in the log, and the service.
 #[derive(Clone, Copy)]
@@ -66,7 +113,7 @@ fn note_sends(sends: &mut BTreeMap<MsgId, Sending>, stay: &Stay) -> Result<(), A
 }
 
 /// Returns what the processes of these stays send in the regular configuration.
-fn sends_of(alloc: Global, list: &[Stay]) -> Result<BTreeMap<MsgId, Sending>, AllocError>
+pub fn sends_of(alloc: Global, list: &[Stay]) -> Result<BTreeMap<MsgId, Sending>, AllocError>
     requires { All IsShortStay list.now }
     ensures { IfOk result (HasSends list.now (length list.now)) }
 {
@@ -78,28 +125,6 @@ fn sends_of(alloc: Global, list: &[Stay]) -> Result<BTreeMap<MsgId, Sending>, Al
 }
 
 impl<'r> Stays<'r> {
-    /// Takes these stays, which have to be all stays in the regular configuration of the ring, and notes what they send.
-    pub fn build(
-        alloc: Global,
-        run: &'r Run,
-        ring: RingId,
-        list: Vec<Stay<'r>>,
-    ) -> Result<Stays<'r>, AllocError>
-        requires meets { MeetsPasses run.now.logs }
-        requires are { AreStays run.now.logs ring list.items }
-        ensures known { IfOk result AreKnown }
-        ensures logs { IfOk result (λ stays. stays.run.now.logs ≡ run.now.logs) }
-        ensures ring { IfOk result (λ stays. stays.ring ≡ ring) }
-    {
-        let sends = sends_of(alloc, &list)?;
-        Ok(Stays {
-            run,
-            ring,
-            list,
-            sends,
-        })
-    }
-
     /// Returns the stay of this process, if its log changes to the regular configuration.
     pub fn stay_of(&self, proc: Proc) -> Option<&Stay<'r>>
         requires { AreKnown self.now }
@@ -133,10 +158,7 @@ impl<'r> Stays<'r> {
         ensures there { OnTrue result (HasDelivered (log_of self.now.run.now.logs stay.now.proc) self.now.ring message.now) }
         ensures never { OnFalse result (DeliversNot (log_of self.now.run.now.logs stay.now.proc) self.now.ring message.now) }
     {
-        match self.delivery_of(stay, message) {
-            Some(_) => true,
-            None => false,
-        }
+        self.delivery_of(stay, message).is_some()
     }
 
     /// Returns the send of the message in the regular configuration, if it was sent there.

@@ -6,8 +6,7 @@ ghost use Rattle.totem_pass_d.specs.KnownStays.{AreKnown};
 ghost use Rattle.totem_pass_d.specs.Acts.{IsAmong};
 ghost use Rattle.totem_pass_d.specs.Suspects.{Handles, HandlesNothing, ComesBefore, ComesNotBefore, IsEarlier, IsNoted, HasAllOf, AreNoted, AreSuspects};
 
-use crate::stay::Stay;
-use crate::stays::Stays;
+use crate::stays::{Stay, Stays};
 use std::alloc::{AllocError, Global};
 use std::collections::BTreeSet;
 use totem_evs::Entry;
@@ -70,13 +69,11 @@ fn note(
     if early >= receiver.end {
         return Ok(());
     }
-    let Some(message) = handled(entry) else {
-        return Ok(());
-    };
-    if comes_before(stays, receiver, &message, early) {
-        return Ok(());
+    if let Some(message) = handled(entry) {
+        if !comes_before(stays, receiver, &message, early) {
+            suspects.insert(message)?;
+        }
     }
-    suspects.insert(message)?;
     Ok(())
 }
 

@@ -53,19 +53,23 @@ where_met (Err e) P Q f h = tt
 pub entered : (old new : FirstChanges) (at : ℕ) (before : Option ℕ) (log : Log) (e : Entry) (x : ConfId) (ms : List ℕ) (c : RingId) → slice_get log.entries at ≡ Some e → e ≡ Conf x ms → Contains ms log.proc → IsLastBefore log.entries at before
     → ComesFrom log.entries before x ms c → Meets old new x ms c → Enters old new log at
 entered old new at before log e x ms c at_entry is own last from meets = record {
-  conf = x;
-  members = ms;
-  change = rw is at at_entry;
-  right = record {
-    own = own;
-    regular = regular_first log.entries at before x ms c last from;
-    turns = λ i w ls next. turns_right log.entries at i before w x ls ms c last from next;
-    from = c;
-    met = meets.met;
-    origin = λ i d ls trans next. one_origin log.entries at i before d x ls ms c trans last from next;
-  };
+  right = λ y ns there. (let same = same_entry log.entries at at y x ns ms refl (rw is at at_entry) there in rw (← same.0, ← same.1) right);
   kept = meets.kept;
 }
+  where
+    right : IsRight new log at x ms
+    right = record {
+      own = own;
+      regular = regular_first log.entries at before x ms c last from;
+      turns = λ i w ls next. turns_right log.entries at i before w x ls ms c last from next;
+      from = c;
+      met = meets.met;
+      origin = λ i d ls trans next. one_origin log.entries at i before d x ls ms c trans last from next;
+    }
+
+-- an entry that is no change needs nothing
+pub none_entered : (firsts : FirstChanges) (log : Log) (at : ℕ) (e : Entry) → slice_get log.entries at ≡ Some e → ((x : ConfId) (ms : List ℕ) → e ≡ Conf x ms → ⊥) → Enters firsts firsts log at
+none_entered firsts log at e at_entry never = record { right = λ x ms there. absurd (never x ms cc); kept = record { each = λ x f is. is } }
 
 -- ---- along the logs
 
@@ -81,14 +85,7 @@ still_right old new log at x ms kept h = record {
 
 pub more_right : (old new : FirstChanges) (log : Log) (j : ℕ) → Enters old new log j → AreRight old log j → AreRight new log (j + 1)
 more_right old new log j enters before = record {
-  each = below_more (λ i. (x : ConfId) (ms : List ℕ) → ChangesWith log.entries i x ms → IsRight new log i x ms) j
-      (λ i lt x ms at. still_right old new log i x ms enters.kept (before.each i lt x ms at))
-      (λ x ms at. (let same = same_entry log.entries j j x enters.conf ms enters.members refl enters.change at in rw (← same.0, ← same.1) enters.right));
-}
-
-pub none_right : (firsts : FirstChanges) (log : Log) (j : ℕ) (e : Entry) → slice_get log.entries j ≡ Some e → ((x : ConfId) (ms : List ℕ) → e ≡ Conf x ms → ⊥) → AreRight firsts log j → AreRight firsts log (j + 1)
-none_right firsts log j e at_entry never before = record {
-  each = below_more (λ i. (x : ConfId) (ms : List ℕ) → ChangesWith log.entries i x ms → IsRight firsts log i x ms) j before.each (λ x ms at. absurd (never x ms cc));
+  each = below_more (λ i. (x : ConfId) (ms : List ℕ) → ChangesWith log.entries i x ms → IsRight new log i x ms) j (λ i lt x ms at. still_right old new log i x ms enters.kept (before.each i lt x ms at)) enters.right;
 }
 
 -- the changes of the first k logs meet the requirements

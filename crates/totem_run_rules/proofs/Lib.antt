@@ -10,6 +10,7 @@ pub mod LogEnds
 pub mod EndsTogether
 pub mod Ending
 pub mod Gathering
+pub mod Walking
 pub mod WhoWaits
 pub mod PendingOrder
 pub mod SentOrNot

@@ -1,5 +1,6 @@
 -- What makes a run orderly. By a certificate the events of one log that are of one class are one event.
-use Rattle.std.proofs.Common.{◌≡◌, ℕ, suc, ◌<◌, inl, inr, List, refl, arith}
+use Rattle.std.proofs.Common.{◌≡◌, ℕ, suc, ◌<◌, inl, inr, List, Result, Ok, Err, IfOk, Bool, true, false, refl, arith}
+use Rattle.std.specs.Bool.{OnTrue}
 use Rattle.totem_ids.specs.declared.conf.ConfId.{ConfId}
 use Rattle.totem_ids.specs.declared.message.MsgId.{MsgId}
 use Rattle.totem_ids.specs.declared.place.Place.{Place}
@@ -41,10 +42,15 @@ module _ (run : List Log) (lines : List Numbering) (certified : Certified run li
     turns = changes.turns;
   }
 
-pub orderly : (run : List Log) → HasCertificate run → SendsAreOnce run → AllStayInPlace run → ChangesAgree run → IsOrderly run
+orderly : (run : List Log) → HasCertificate run → SendsAreOnce run → AllStayInPlace run → ChangesAgree run → IsOrderly run
 orderly run (lines, certified) = orderly_by run lines certified
 
 -- ---- beside the passes A and B
 
 pub passed_is_orderly : (run : List Log) → MeetsPasses run → IsOrderly run
 passed_is_orderly run meets = record { once = meets.once; placed = meets.placed; one = meets.one; turns = meets.turns }
+
+pub orderly_if : {E : Type 0} (run : List Log) (r : Result Bool E) → HasCertificate run → IfOk r (λ ok. OnTrue ok (SendsAreOnce run)) → AllStayInPlace run → ChangesAgree run → IfOk r (λ ok. OnTrue ok (IsOrderly run))
+orderly_if run (Ok true) has sends placed changes = orderly run has sends placed changes
+orderly_if run (Ok false) has sends placed changes = tt
+orderly_if run (Err e) has sends placed changes = tt

@@ -22,6 +22,17 @@ pub record Knows (log : List Entry) (i : ℕ) (standing : Option ConfId) (failed
   pub named : (k : ℕ) → k < i → (x : ConfId) → Names log k x → StandsIn log k x
   pub final : (j k : ℕ) (x : ConfId) → Fails log j x → j < k → k < i → ⊥
 
+-- nothing comes before the first entry
+pub none_known : (log : List Entry) → Knows log 0 None false
+none_known log = record {
+  stands = λ k lt change. omega arith;
+  failure = λ f. absurd cc;
+  no_failure = λ f k lt x fails. omega arith;
+  begins = λ lt. absurd (omega arith);
+  named = λ k lt x names. absurd (omega arith);
+  final = λ j k x fails lt below. omega arith;
+}
+
 -- two configurations that one entry names are one
 names_one : (e : Entry) (x y : ConfId) → NamesOnly e x → NamesOnly e y → x ≡ y
 names_one (Conf z ms) x y h k = absurd h

@@ -85,12 +85,9 @@ pub record IsRight (firsts : FirstChanges) (log : Log) (at : ℕ) (x : ConfId) (
   pub met : IsMet firsts x ms from
   pub origin : (i : ℕ) (c : RingId) (ls : List ℕ) → IsTransitional x → ChangesNext log.entries i at (Regular c) x ls ms → from ≡ c
 
--- the change at an index of the log was entered, and meets the requirements
+-- if the entry at an index of the log is a change, it was entered, and meets the requirements
 pub record Enters (old new : FirstChanges) (log : Log) (at : ℕ) : Type 0 where
-  pub conf : ConfId
-  pub members : List ℕ
-  pub change : ChangesWith log.entries at conf members
-  pub right : IsRight new log at conf members
+  pub right : (x : ConfId) (ms : List ℕ) → ChangesWith log.entries at x ms → IsRight new log at x ms
   pub kept : Keeps old new
 
 -- each change before an index of the log meets the requirements

@@ -2,6 +2,7 @@ pub mod Orderly
 pub mod Once
 pub mod Misplaced
 pub mod Succession
+pub mod Walked
 pub mod FirstChanges
 pub mod Ends
 pub mod Endings

@@ -1,5 +1,5 @@
 -- The messages that logs send and deliver (docs/SPECIFICATIONS.md, "1 Basic delivery").
-use Rattle.std.specs.Prelude.{◌≡◌, ℕ, ◌+◌, ◌<◌, List, ◌++◌, All, length, slice_index_or, Option, None, Some}
+use Rattle.std.specs.Prelude.{◌≡◌, ℕ, ◌+◌, ◌<◌, List, ◌++◌, All, length, slice_index_or, Option, None, Some, option_to_list}
 use Rattle.std.specs.List.{filter_map, flat_map}
 use Rattle.std.specs.declared.cmp.Ordering.{Ordering}
 use Rattle.std.specs.declared.cmp.Ordering.TheVariants.{Less}
@@ -38,6 +38,11 @@ IsNoSendBetween (Conf x members) = Unit {0}
 IsNoSendBetween (Send m x service) = IsRegular x
 IsNoSendBetween (Deliver m x) = Unit {0}
 IsNoSendBetween (Fail x) = Unit {0}
+
+-- the message that the entry sends was appended, and it is not sent in a transitional configuration
+pub record AddsSend (old new : List MsgId) (entry : Entry) : Type 0 where
+  pub adds : new ≡ old ++ option_to_list (message_in once.Send entry)
+  pub regular : IsNoSendBetween entry
 
 -- the messages that the entries send were appended, and none of them is sent in a transitional configuration
 pub record AddsSends (old new : List MsgId) (entries : List Entry) : Type 0 where

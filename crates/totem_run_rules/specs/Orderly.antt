@@ -1,4 +1,4 @@
--- What the judge requires of a run before its configurations (docs/SPECIFICATIONS.md, "1 Basic delivery",
+-- What is required of a run before its configurations are observed (docs/SPECIFICATIONS.md, "1 Basic delivery",
 -- "2 Changes of configuration").
 use Rattle.std.specs.Prelude.{◌≡◌, ℕ, List, Contains}
 use Rattle.totem_ids.specs.declared.conf.ConfId.{ConfId}

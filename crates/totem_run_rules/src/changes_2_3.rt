@@ -1,11 +1,9 @@
 //! 2.3: each configuration has one list of members, in which each process that changes to it is; and 2.4, by `succession_2_4`, on the same
-//! walk along the changes (docs/SPECIFICATIONS.md, "2 Changes of configuration").
-//!
-//! This is the rule, which says yes. The search, which names what breaks it, is totem_pass_ab `configuration_2_3`.
+//! walk along the changes (docs/SPECIFICATIONS.md, "2 Changes of configuration"). This is the rule, which says yes. The search, which names
+//! what breaks it, is totem_pass_ab `configuration_2_3`.
 ghost use Rattle.std.specs.Prelude.{◌≡◌, ◌<◌, IfOk, length};
 ghost use Rattle.std.specs.Bool.{OnTrue};
-ghost use Rattle.totem_run_rules.specs.Orderly.{ChangesAgree};
-ghost use Rattle.totem_run_rules.specs.FirstChanges.{first_to, IsLastBefore, Meets, Enters, EntersLog};
+ghost use Rattle.totem_run_rules.specs.FirstChanges.{first_to, IsLastBefore, Meets, Enters};
 
 use crate::succession_2_4::came_from;
 use std::alloc::{AllocError, Global};
@@ -15,7 +13,7 @@ use totem_ids::{ConfId, RingId};
 
 /// The first change to a configuration, in the order in which changes are entered.
 #[derive(Clone, Copy)]
-struct FirstChange<'a> {
+pub struct FirstChange<'a> {
     members: &'a Members,
     /// The ring from which the log comes to the configuration; for a regular configuration, its own ring.
     from: &'a RingId,
@@ -23,9 +21,18 @@ struct FirstChange<'a> {
 
 /// The first changes so far, and the index of the one to each configuration.
 #[derive(Drop)]
-struct FirstChanges<'a> {
+pub struct FirstChanges<'a> {
     list: Vec<FirstChange<'a>>,
     index: BTreeMap<ConfId, usize>,
+}
+
+impl<'a> FirstChanges<'a> {
+    pub fn new(alloc: Global) -> FirstChanges<'a> {
+        FirstChanges {
+            list: Vec::new(alloc),
+            index: BTreeMap::new(alloc),
+        }
+    }
 }
 
 fn first_to<'a>(firsts: &FirstChanges<'a>, conf: &ConfId) -> Option<FirstChange<'a>>
@@ -52,8 +59,9 @@ fn meet<'a>(
     Ok(*first.from == *change.from && first.members.is(change.members))
 }
 
-/// Enters the change at this index of a log, after the one at `before`. Returns whether it is allowed there.
-fn enter<'a>(
+/// Enters the entry at this index of a log if it is a change; the last one before it is at `before`. Returns whether it is allowed there.
+#[inline]
+pub fn enter<'a>(
     firsts: &mut FirstChanges<'a>,
     log: &'a Log,
     at: usize,
@@ -65,7 +73,7 @@ fn enter<'a>(
 {
     let entries = log.entries.as_slice();
     let Entry::Conf(conf, members) = &entries[at] else {
-        return Ok(false);
+        return Ok(true);
     };
     if !members.contains(log.proc) {
         return Ok(false);
@@ -74,37 +82,4 @@ fn enter<'a>(
         return Ok(false);
     };
     meet(firsts, conf, FirstChange { members, from })
-}
-
-/// Enters the changes of a log. Returns whether each is allowed where it is.
-fn enter_log<'a>(firsts: &mut FirstChanges<'a>, log: &'a Log) -> Result<bool, AllocError>
-    ensures { IfOk result (λ ok. OnTrue ok (EntersLog firsts.old firsts.new log.now)) }
-{
-    let entries = log.entries.as_slice();
-    let mut before = None;
-    for at in 0..entries.len() {
-        if let Entry::Conf(_, _) = &entries[at] {
-            if !enter(firsts, log, at, before)? {
-                return Ok(false);
-            }
-            before = Some(at);
-        }
-    }
-    Ok(true)
-}
-
-/// Returns `true` only if the changes of a run meet the specifications. Does not look for two changes of one log to one configuration.
-pub fn changes_agree(alloc: Global, logs: &[Log]) -> Result<bool, AllocError>
-    ensures { IfOk result (λ ok. OnTrue ok (ChangesAgree logs.now)) }
-{
-    let mut firsts = FirstChanges {
-        list: Vec::new(alloc),
-        index: BTreeMap::new(alloc),
-    };
-    for log in logs {
-        if !enter_log(&mut firsts, log)? {
-            return Ok(false);
-        }
-    }
-    Ok(true)
 }

@@ -1,10 +1,8 @@
-//! 2.1: where a quiet log ends, each member ends too or may still arrive (docs/SPECIFICATIONS.md, "2 Changes of configuration").
-//!
-//! This is the rule, which says yes. The search, which names what breaks it, is totem_pass_ab `ends_2_1`.
-//!
-//! If no log is quiet, only the endings of the logs are read. Otherwise each log is walked once for a failure, and once from its
-//! end back to its last change. A log is walked again, once for each quiet log whose last configuration has its process as a
-//! member, only if it is not quiet itself and its own last change is to another configuration.
+//! 2.1: where a quiet log ends, each member ends too or may still arrive (docs/SPECIFICATIONS.md, "2 Changes of configuration"). This is
+//! the rule, which says yes. The search, which names what breaks it, is totem_pass_ab `ends_2_1`. If no log is quiet, only the endings of
+//! the logs are read. Otherwise each log is walked once for a failure, and once from its end back to its last change. A log is walked
+//! again, once for each quiet log whose last configuration has its process as a member, only if it is not quiet itself and its own last
+//! change is to another configuration.
 ghost use Rattle.std.specs.Prelude.{◌≡◌, ◌↔◌, IsTrue, IfSome, IfNone, IfOk, MatchOption, [], ◌∷◌};
 ghost use Rattle.std.specs.Bool.{OnTrue, OnFalse};
 ghost use Rattle.totem_evs.specs.Following.{LastChange};

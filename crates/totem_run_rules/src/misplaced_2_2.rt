@@ -1,14 +1,11 @@
-//! 2.2: each entry is where it is allowed (docs/SPECIFICATIONS.md, "2 Changes of configuration").
-//!
-//! This is the rule, which says yes. The search, which names what breaks it, is totem_pass_ab `misplaced_2_2`.
+//! 2.2: each entry is where it is allowed (docs/SPECIFICATIONS.md, "2 Changes of configuration"). This is the rule, which says yes. The
+//! search, which names what breaks it, is totem_pass_ab `misplaced_2_2`.
 ghost use Rattle.std.specs.Prelude.{◌≡◌, ℕ, ◌<◌, ◌↔◌, IsTrue, IfSome, IfNone, Some};
-ghost use Rattle.std.specs.Bool.{OnTrue};
 ghost use Rattle.totem_evs.specs.Changes.{StaysInPlace};
 ghost use Rattle.totem_evs.specs.ChangeFaults.{IsMisplaced};
 ghost use Rattle.totem_run_rules.specs.Misplaced.{Fits, standing_after};
-ghost use Rattle.totem_run_rules.specs.Orderly.{AllStayInPlace};
 
-use totem_evs::{Entry, Log};
+use totem_evs::Entry;
 use totem_ids::ConfId;
 
 fn is_in(standing: &Option<ConfId>, conf: &ConfId) -> bool
@@ -17,7 +14,8 @@ fn is_in(standing: &Option<ConfId>, conf: &ConfId) -> bool
     matches!(standing, Some(here) if here.is(conf))
 }
 
-fn fits(standing: &Option<ConfId>, entry: &Entry) -> bool
+#[inline(always)]
+pub fn fits(standing: &Option<ConfId>, entry: &Entry) -> bool
     ensures { IsTrue result ↔ Fits standing.now entry.now }
 {
     match entry {
@@ -29,7 +27,7 @@ fn fits(standing: &Option<ConfId>, entry: &Entry) -> bool
 }
 
 /// Moves past an entry. Only a change writes to `standing`, since it alone moves the log to another configuration.
-fn go_past(standing: &mut Option<ConfId>, entry: &Entry)
+pub fn go_past(standing: &mut Option<ConfId>, entry: &Entry)
     ensures { standing.new ≡ standing_after standing.old entry.now }
 {
     if let Entry::Conf(conf, _) = entry {
@@ -54,16 +52,4 @@ pub fn first_misplaced(log: &[Entry]) -> Option<usize>
         failed = entry.is_failure();
     }
     None
-}
-
-/// Returns `true` only if the run meets the specification.
-pub fn all_stay_in_place(logs: &[Log]) -> bool
-    ensures { OnTrue result (AllStayInPlace logs.now) }
-{
-    for log in logs {
-        if let Some(_) = first_misplaced(log.entries.as_slice()) {
-            return false;
-        }
-    }
-    true
 }

@@ -1,13 +1,11 @@
-//! 1.4: each message is sent once, in a regular configuration, and each log delivers it once (docs/SPECIFICATIONS.md, "1 Basic
-//! delivery").
-//!
+//! 1.4: each message is sent once, in a regular configuration, and each log delivers it once (docs/SPECIFICATIONS.md, "1 Basic delivery").
 //! This is the rule, which says yes. The search, which names what breaks it, is totem_pass_ab `twice_1_4`.
 ghost use Rattle.std.specs.Prelude.{◌≡◌, ◌≢◌, ◌++◌, ◌+◌, ◌<◌, ℕ, IfOk, OnOk, length, slice_index_or};
 ghost use Rattle.std.specs.Bool.{OnTrue};
 ghost use Rattle.std.specs.Ordering.{is_lt};
 ghost use Rattle.std.specs.List.{AllPairs};
 ghost use Rattle.totem_run_rules.specs.Orderly.{DeliveriesAreOnce, SendsAreOnce};
-ghost use Rattle.totem_run_rules.specs.Once.{AddsSends, IsNoSendBetween, RisesByOrder, message_in, messages_in, message_order};
+ghost use Rattle.totem_run_rules.specs.Once.{AddsSend, AddsSends, IsNoSendBetween, RisesByOrder, message_in, messages_in, message_order};
 
 use std::alloc::{AllocError, Global};
 use totem_evs::{Entry, Log};
@@ -63,7 +61,7 @@ fn rises(list: &[MsgId]) -> bool
 }
 
 /// Returns whether no two of the messages are the same.
-fn are_distinct(mut list: Vec<MsgId>) -> Result<bool, AllocError>
+pub fn are_distinct(mut list: Vec<MsgId>) -> Result<bool, AllocError>
     ensures { IfOk result (λ ok. OnTrue ok (AllPairs (λ x y. x ≢ y) list.items)) }
 {
     if rises(&list) {
@@ -80,16 +78,27 @@ fn is_regular(entry: &Entry) -> bool
     !matches!(entry, Entry::Send(_, ConfId::Transitional { .. }, _))
 }
 
+/// Appends the message that an entry sends. Returns whether it is not sent in a transitional configuration.
+#[inline]
+pub fn add_send(list: &mut Vec<MsgId>, entry: &Entry) -> Result<bool, AllocError>
+    ensures { IfOk result (λ ok. OnTrue ok (AddsSend list.old.items list.new.items entry.now)) }
+{
+    if !is_regular(entry) {
+        return Ok(false);
+    }
+    if let Some(message) = message_in(Once::Send, entry) {
+        list.push(message)?;
+    }
+    Ok(true)
+}
+
 /// Appends the messages that the entries send. Returns whether none is sent in a transitional configuration.
 fn add_sends(list: &mut Vec<MsgId>, entries: &[Entry]) -> Result<bool, AllocError>
     ensures { IfOk result (λ ok. OnTrue ok (AddsSends list.old.items list.new.items entries.now)) }
 {
     for entry in entries {
-        if !is_regular(entry) {
+        if !add_send(list, entry)? {
             return Ok(false);
-        }
-        if let Some(message) = message_in(Once::Send, entry) {
-            list.push(message)?;
         }
     }
     Ok(true)

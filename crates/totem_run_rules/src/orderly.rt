@@ -1,21 +1,66 @@
-//! What the judge requires of a run before it looks at its configurations: 1.4, and 2.2 to 2.4.
-ghost use Rattle.std.specs.Prelude.{IfOk};
+//! The rules that a run has to meet before its configurations are observed: 1.4, and 2.2 to 2.4, in one walk along each log.
+ghost use Rattle.std.specs.Prelude.{◌≡◌, IfOk};
 ghost use Rattle.std.specs.Bool.{OnTrue};
 ghost use Rattle.totem_evs.specs.Answers.{HasCertificate};
 ghost use Rattle.totem_run_rules.specs.Orderly.{IsOrderly};
+ghost use Rattle.totem_run_rules.specs.Walked.{IsWalked, last_after};
 
-use crate::changes_2_3::changes_agree;
-use crate::misplaced_2_2::all_stay_in_place;
-use crate::once_1_4::sends_are_once;
+use crate::changes_2_3::{FirstChanges, enter};
+use crate::misplaced_2_2::{fits, go_past};
+use crate::once_1_4::{add_send, are_distinct};
 use std::alloc::{AllocError, Global};
-use totem_evs::Run;
+use totem_evs::{Entry, Log, Run};
+use totem_ids::MsgId;
+
+/// Returns the index of the last change, once the entry at `at` has been passed.
+fn last_after(before: Option<usize>, at: usize, entry: &Entry) -> Option<usize>
+    ensures { result ≡ last_after before at entry.now }
+{
+    match entry {
+        Entry::Conf(_, _) => Some(at),
+        _ => before,
+    }
+}
+
+/// Walks along a log. Appends the messages that it sends, and enters its changes. Returns `true` only if each entry is allowed where it is.
+fn walk<'a>(
+    log: &'a Log,
+    sent: &mut Vec<MsgId>,
+    firsts: &mut FirstChanges<'a>,
+) -> Result<bool, AllocError>
+    ensures { IfOk result (λ ok. OnTrue ok (IsWalked sent.old.items sent.new.items firsts.old firsts.new log.now)) }
+{
+    let entries = log.entries.as_slice();
+    let mut standing = None;
+    let mut failed = false;
+    let mut before = None;
+    for at in 0..entries.len() {
+        let entry = &entries[at];
+        let good = fits(&standing, entry);
+        if failed || !good {
+            return Ok(false);
+        }
+        if !add_send(sent, entry)? || !enter(firsts, log, at, before)? {
+            return Ok(false);
+        }
+        go_past(&mut standing, entry);
+        failed = entry.is_failure();
+        before = last_after(before, at, entry);
+    }
+    Ok(true)
+}
 
 /// Returns `true` only if the run meets the specifications, provided that it has a certificate.
-#[tactic(auto, using(crate::proofs::Orderliness::orderly))]
 pub fn is_orderly(alloc: Global, run: &Run) -> Result<bool, AllocError>
     requires { HasCertificate run.now.logs }
     ensures { IfOk result (λ ok. OnTrue ok (IsOrderly run.now.logs)) }
 {
-    let logs = run.logs.as_slice();
-    Ok(all_stay_in_place(logs) && sends_are_once(alloc, logs)? && changes_agree(alloc, logs)?)
+    let mut sent = Vec::new(alloc);
+    let mut firsts = FirstChanges::new(alloc);
+    for log in run.logs.as_slice() {
+        if !walk(log, &mut sent, &mut firsts)? {
+            return Ok(false);
+        }
+    }
+    are_distinct(sent)
 }

@@ -1,7 +1,8 @@
-//! Where logs end (docs/SPECIFICATIONS.md, "Pending and waiting").
-ghost use Rattle.std.specs.Prelude.{◌↔◌, IsTrue};
+//! Where a log stands: whether it has failed, its last change, and the next one (docs/SPECIFICATIONS.md, "Pending and waiting").
+ghost use Rattle.std.specs.Prelude.{◌↔◌, ◌<◌, IsTrue, length};
 ghost use Rattle.std.specs.Bool.{OnTrue, OnFalse};
 ghost use Rattle.totem_evs.specs.Changes.{StaysInPlace};
+ghost use Rattle.totem_evs.specs.Following.{IsNextOrEnd};
 ghost use Rattle.totem_evs.specs.Unsettled.{EndsIn};
 ghost use Rattle.totem_run_rules.specs.Ends.{GoesOn};
 ghost use Rattle.totem_run_rules.specs.Endings.{HasFailed, IsEnd};
@@ -42,4 +43,17 @@ pub fn ends_in(log: &[Entry], last: Option<usize>, conf: &ConfId) -> bool
         Some(_) => ends_2_1::ends_in(log, last, conf),
         None => false,
     }
+}
+
+/// Returns the index of the next change after an entry, or the length of the log if none follows. Looks at entry after entry.
+pub fn walk_to_change(log: &[Entry], at: usize) -> usize
+    requires { at < length log.now }
+    ensures { IsNextOrEnd log.now at result }
+{
+    for next in at + 1..log.len() {
+        if let Entry::Conf(_, _) = &log[next] {
+            return next;
+        }
+    }
+    log.len()
 }

@@ -1,10 +1,8 @@
-//! 2.4: regular and transitional configurations alternate, the first is regular, and from which ring a log comes to each. That all
-//! logs come to it from one ring is for `changes_2_3` to test (docs/SPECIFICATIONS.md, "2 Changes of configuration").
-//!
-//! This is the rule, which says yes. The search, which names what breaks it, is totem_pass_ab `succession_2_4`.
+//! 2.4: the first configuration of a log is regular, then transitional and regular ones take turns, and each transitional one leads to the
+//! regular one that it names (docs/SPECIFICATIONS.md, "2 Changes of configuration"). That all logs come to a configuration from one ring is
+//! for `changes_2_3` to test. This is the rule; what breaks it is searched by totem_pass_ab `succession_2_4`.
 ghost use Rattle.std.specs.Prelude.{◌≡◌, ◌↔◌, ◌<◌, All, Contains, IfSome, IsTrue, length};
 ghost use Rattle.totem_ids.specs.declared.conf.ConfId.TheVariants.{Regular};
-ghost use Rattle.totem_evs.specs.Following.{IsNextOrEnd};
 ghost use Rattle.totem_run_rules.specs.FirstChanges.{ComesFrom};
 ghost use Rattle.totem_run_rules.specs.Succession.{IsWrongSuccession};
 
@@ -77,18 +75,4 @@ pub fn came_from<'a>(
         ConfId::Regular(ring) => Some(ring),
         ConfId::Transitional { .. } => ring_of(before),
     }
-}
-
-/// Returns the index of the next change, or the length of the log if none follows. Looks at entry after entry. Only the
-/// passes use it.
-pub fn walk_to_change(log: &[Entry], at: usize) -> usize
-    requires { at < length log.now }
-    ensures { IsNextOrEnd log.now at result }
-{
-    for next in at + 1..log.len() {
-        if let Entry::Conf(_, _) = &log[next] {
-            return next;
-        }
-    }
-    log.len()
 }

@@ -1,14 +1,16 @@
 -- Steps of the loops over rows.
-use Rattle.std.proofs.Common.{◌≡◌, ◌⊎◌, inl, inr, ℕ, ◌+◌, ◌<◌, ◌≤◌, List, length, get_or, slice_get, slice_index_or, Some, sym, ◌∙◌, ap, arith}
+use Rattle.std.proofs.Common.{◌≡◌, ◌⊎◌, inl, inr, ℕ, ◌+◌, ◌<◌, ◌≤◌, List, length, get_or, replicate, slice_get, slice_index_or, slice_set, Some, length-set, sym, ◌∙◌, ap, arith}
 use Rattle.std.specs.Prelude.{◌↔◌}
-use Rattle.std.proofs.lemmas.Option.{slice_get-get_or, slice_get_within}
+use Rattle.std.proofs.lemmas.Grind.{get_or-set_at}
+use Rattle.std.proofs.lemmas.List.{get_or-replicate, get_or-set_other, length-replicate}
+use Rattle.std.proofs.lemmas.Option.{get_or_from_slice_get, slice_get-get_or, slice_get_within}
 use Rattle.totem_evs.proofs.LogOf.{less_or_not}
 use Rattle.totem_traffic_rules.specs.declared.log_set.LogSet.{LogSet}
 use Rattle.totem_traffic_rules.specs.declared.rows.Rows.{Rows}
 use Rattle.totem_traffic_rules.specs.declared.traffic.Sent.{Sent}
 use Rattle.totem_traffic_rules.specs.declared.traffic.Got.{Got}
 use Rattle.totem_traffic_rules.specs.declared.traffic.Following.{Following}
-use Rattle.totem_traffic_rules.specs.LogSets.{Has, IsWithin}
+use Rattle.totem_traffic_rules.specs.LogSets.{AreApart, AreIn, Has, IsEmpty, IsWithin}
 use Rattle.totem_traffic_rules.specs.Lacking.{RowHas, RowIsApart, RowsAreApart, KeepsRows, AddsToRows}
 use Rattle.totem_traffic_rules.specs.Clean.{IsBy, IsLacking, LacksTo, IsBehindWith, HasAllBehind, LacksBehindTo, NoGapsTo, IsCausal, AreCausalTo}
 
@@ -180,3 +182,36 @@ causal_more logs gots sents n taken sent rows at few lacks until apart clean = r
     causal = record {
       each = λ k got other lt here by missing has. apart.none other (lacks.each k got (taken_too k got lt here until) here sent.sender other few by missing) has;
     }
+
+-- ---- all that are in a row
+
+pub in_copies : (n : ℕ) (set other : LogSet) → IsEmpty set → AreIn (replicate n set) other
+unfolding Has
+in_copies n set other empty = record {
+  each = λ i log s at has. absurd (let within : i < n = rw (length-replicate n set) at (slice_get_within (replicate n set) i s at) in let same : set ≡ s = sym (get_or-replicate n i set set within) ∙ get_or_from_slice_get (replicate n set) i s set at in empty.none log (rw (← same) at has));
+}
+
+pub in_more : (rows : List LogSet) (i : ℕ) (new d added other more : LogSet) → i < length rows → ((log : ℕ) → Has new log ↔ (Has (slice_index_or rows i d) log ⊎ Has added log)) → ((log : ℕ) → Has more log ↔ (Has other log ⊎ Has added log))
+    → AreIn rows other → AreIn (slice_set rows i new) more
+unfolding Has
+in_more rows i new d added other more lt new_is more_is all = record {
+  each = λ j log set at has. elim (less_or_not j i) [
+    | inl under ↦ (more_is log).1 (inl (all.each j log set (other_at j set (λ same. omega arith) at) has))
+    | inr (inl over) ↦ (more_is log).1 (inl (all.each j log set (other_at j set (λ same. omega arith) at) has))
+    | inr (inr same) ↦
+        let here : new ≡ set = sym (get_or-set_at rows i j new d same lt) ∙ get_or_from_slice_get (slice_set rows i new) j set d at in
+        elim ((new_is log).0 (rw (← here) at has)) [
+          | inl old ↦ (more_is log).1 (inl (all.each i log (slice_index_or rows i d) (slice_get-get_or rows i d lt) old))
+          | inr plus ↦ (more_is log).1 (inr plus)
+        ]
+  ];
+}
+  where
+    other_at : (j : ℕ) (set : LogSet) → (j ≡ i → ⊥) → slice_get (slice_set rows i new) j ≡ Some set → slice_get rows j ≡ Some set
+    other_at j set apart at =
+        let within : j < length rows = rw (length-set rows i new) at (slice_get_within (slice_set rows i new) j set at) in
+        slice_get-get_or rows j d within ∙ ap Some (sym (get_or-set_other rows i j new d apart) ∙ get_or_from_slice_get (slice_set rows i new) j set d at)
+
+pub apart_all : (rows : Rows) (by others : LogSet) (end : ℕ) → AreIn rows.rows rows.lacking → AreApart others rows.lacking → RowsAreApart rows by others end
+unfolding Has
+apart_all rows by others end all apart = record { none = λ log other lt a b h. apart.none other h (all.each log other b.row b.stands b.has) }

@@ -1,5 +1,5 @@
 -- Sets of logs.
-use Rattle.std.specs.Prelude.{◌≡◌, ℕ, ◌<◌}
+use Rattle.std.specs.Prelude.{◌≡◌, ℕ, ◌<◌, List, slice_get, Some}
 use Rattle.std.specs.Int.{bit_at}
 use Rattle.totem_traffic_rules.specs.declared.log_set.LogSet.{LogSet}
 
@@ -13,6 +13,10 @@ pub record IsEmpty (set : LogSet) : Type 0 where
 -- the other set has each log of the first
 pub record IsWithin (set other : LogSet) : Type 0 where
   pub each : (log : ℕ) → Has set log → Has other log
+
+-- the other set has each log of each of these sets
+pub record AreIn (sets : List LogSet) (other : LogSet) : Type 0 where
+  pub each : (i log : ℕ) (set : LogSet) → slice_get sets i ≡ Some set → bit_at set.bits log ≡ 1 → bit_at other.bits log ≡ 1
 
 -- the sets have no log in common
 pub record AreApart (set other : LogSet) : Type 0 where

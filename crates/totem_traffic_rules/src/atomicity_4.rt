@@ -1,7 +1,5 @@
-//! 4: processes that go together from one configuration to the next deliver the same messages there
-//! (docs/SPECIFICATIONS.md, "4 Failure atomicity").
-//!
-//! This is the rule, which says yes. The search, which names what breaks it, is totem_pass_d `atomicity_4`.
+//! 4: processes that go together from one configuration to the next deliver the same messages there (docs/SPECIFICATIONS.md, "4 Failure
+//! atomicity"). This is the rule, which says yes. The search, which names what breaks it, is totem_pass_d `atomicity_4`.
 ghost use Rattle.std.specs.Prelude.{◌⊎◌, ◌↔◌, IsTrue, All};
 ghost use Rattle.std.specs.Bool.{OnTrue};
 ghost use Rattle.totem_traffic_rules.specs.LogSets.{AreApart, IsWithin};

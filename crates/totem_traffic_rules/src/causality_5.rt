@@ -1,7 +1,5 @@
-//! 5: what a process sent or delivered before it sent a message is delivered before that message
-//! (docs/SPECIFICATIONS.md, "5 Causal delivery").
-//!
-//! This is the rule, which says yes. The search, which names what breaks it, is totem_pass_d `causality_5`.
+//! 5: what a process sent or delivered before it sent a message is delivered before that message (docs/SPECIFICATIONS.md, "5 Causal
+//! delivery"). This is the rule, which says yes. The search, which names what breaks it, is totem_pass_d `causality_5`.
 ghost use Rattle.std.specs.Prelude.{◌≡◌, ◌≤◌, ◌<◌, ◌⊎◌, length};
 ghost use Rattle.std.specs.Bool.{OnTrue};
 ghost use Rattle.totem_traffic_rules.specs.Clean.{AreFewerTo, AreInOrderTo, AreCausalTo, LacksTo, Shows};

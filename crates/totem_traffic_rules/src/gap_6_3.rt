@@ -1,7 +1,5 @@
-//! 6.3: a process that delivers a later message delivers the earlier one, if its sender is still a member
-//! (docs/SPECIFICATIONS.md, "6 Total order").
-//!
-//! This is the rule, which says yes. The search, which names what breaks it, is totem_pass_d `gap_6_3`.
+//! 6.3: a process that delivers a later message delivers the earlier one, if its sender is still a member (docs/SPECIFICATIONS.md, "6 Total
+//! order"). This is the rule, which says yes. The search, which names what breaks it, is totem_pass_d `gap_6_3`.
 ghost use Rattle.std.specs.Prelude.{◌<◌, length};
 ghost use Rattle.std.specs.Bool.{OnTrue};
 ghost use Rattle.totem_traffic_rules.specs.LogSets.{Has, IsWithin};

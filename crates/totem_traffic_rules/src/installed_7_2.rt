@@ -1,7 +1,5 @@
-//! 7.2: where a safe message is delivered in the regular configuration, each of its members changes to it
-//! (docs/SPECIFICATIONS.md, "7 Safe delivery").
-//!
-//! This is the rule, which says yes. The search, which names what breaks it, is totem_pass_d `installed_7_2`.
+//! 7.2: where a safe message is delivered in the regular configuration, each of its members changes to it (docs/SPECIFICATIONS.md, "7 Safe
+//! delivery"). This is the rule, which says yes. The search, which names what breaks it, is totem_pass_d `installed_7_2`.
 ghost use Rattle.std.specs.Prelude.{◌⊎◌, ◌↔◌, IsTrue, All};
 ghost use Rattle.std.specs.Bool.{OnTrue};
 ghost use Rattle.totem_traffic_rules.specs.Clean.{AllHaveCome, IsNotSafeThere, Shows};

@@ -1,4 +1,4 @@
-//! The rules of the judge for one regular configuration and what follows it: what specifications 3 to 7 require there, in terms of
+//! The rules for one regular configuration and what follows it: what specifications 3 to 7 require there, in terms of
 //! the sets of logs that deliver each message.
 //!
 //! A `Traffic` says what was sent and delivered in a configuration, and which logs end there or go on together. What may be relied

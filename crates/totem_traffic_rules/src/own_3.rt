@@ -1,6 +1,5 @@
-//! 3: the sender of a message delivers it (docs/SPECIFICATIONS.md, "3 Self-delivery").
-//!
-//! This is the rule, which says yes. The search, which names what breaks it, is totem_pass_d `own_3`.
+//! 3: the sender of a message delivers it (docs/SPECIFICATIONS.md, "3 Self-delivery"). This is the rule, which says yes. The search, which
+//! names what breaks it, is totem_pass_d `own_3`.
 ghost use Rattle.std.specs.Prelude.{◌↔◌, IsTrue, All};
 ghost use Rattle.std.specs.Bool.{OnTrue};
 ghost use Rattle.totem_traffic_rules.specs.Clean.{IsOwned, Shows};

@@ -1,6 +1,7 @@
 //! Which logs lack something that others have.
 ghost use Rattle.std.specs.Prelude.{◌≡◌, ◌<◌, ℕ};
 ghost use Rattle.std.specs.Bool.{OnFalse};
+ghost use Rattle.totem_traffic_rules.specs.LogSets.{AreIn};
 
 use crate::log_set::{LogSet, MOST};
 
@@ -8,6 +9,9 @@ use crate::log_set::{LogSet, MOST};
 #[derive(Drop)]
 pub struct Rows {
     rows: [LogSet; 32],
+    /// All that are in a row.
+    lacking: LogSet,
+    ghost all: { AreIn rows lacking },
 }
 
 impl Rows {
@@ -18,6 +22,7 @@ impl Rows {
     pub fn new() -> Rows {
         Rows {
             rows: [LogSet::none(); 32],
+            lacking: LogSet::none(),
         }
     }
 
@@ -28,6 +33,7 @@ impl Rows {
         ensures added { (other : ℕ) → Has lacking other → RowHas self.new log other }
     {
         let at = log as usize;
+        self.lacking = self.lacking.union(lacking);
         self.rows[at] = self.rows[at].union(lacking);
     }
 
@@ -60,7 +66,7 @@ impl Rows {
     pub fn meet(&self, by: LogSet, others: LogSet) -> bool
         ensures { OnFalse result (RowsAreApart self.now by others 32) }
     {
-        if others.is_empty() {
+        if others.is_apart(self.lacking) {
             return false;
         }
         for log in 0..MOST {

@@ -1,7 +1,5 @@
-//! 7.1: a safe message that is delivered reaches each member of the configuration in which it is delivered
-//! (docs/SPECIFICATIONS.md, "7 Safe delivery").
-//!
-//! This is the rule, which says yes. The search, which names what breaks it, is totem_pass_d `safety_7_1`.
+//! 7.1: a safe message that is delivered reaches each member of the configuration in which it is delivered (docs/SPECIFICATIONS.md, "7 Safe
+//! delivery"). This is the rule, which says yes. The search, which names what breaks it, is totem_pass_d `safety_7_1`.
 ghost use Rattle.std.specs.Prelude.{◌≡◌, ◌⊎◌, ◌↔◌, IsTrue, All};
 ghost use Rattle.std.specs.Bool.{OnTrue};
 ghost use Rattle.totem_traffic_rules.specs.LogSets.{IsEmpty, AreApart};

@@ -10,7 +10,7 @@ returns c =
     let one = lists_then run [] spec.Twice _ _ _ c.in_ok-sends.ensures c.in_ok-once.ensures c.new.ensures.items in
     let two = lists_then run (spec.Twice ∷ []) spec.End _ _ _ c.in_ok-last.ensures c.in_ok-find.ensures one in
     let three = lists_then run (spec.Twice ∷ spec.End ∷ []) spec.Misplaced _ _ _ c.in_ok-places.ensures c.in_ok-find-2.ensures two in
-    let four = lists_then run (spec.Twice ∷ spec.End ∷ spec.Misplaced ∷ []) spec.Configuration _ _ _ c.in_ok-forms.ensures c.in_ok-find-3.ensures three in
+    let four = lists_then run (spec.Twice ∷ spec.End ∷ spec.Misplaced ∷ []) spec.Configuration _ _ _ c.in_ok-forms.ensures c.in_ok-two_forms.ensures three in
     IfOk-weaker c.with_found-5.result _ _
-    (λ list is. lists_then run (spec.Twice ∷ spec.End ∷ spec.Misplaced ∷ spec.Configuration ∷ []) spec.Turns _ list.items _ is c.in_ok-find-4.ensures four)
+    (λ list is. lists_then run (spec.Twice ∷ spec.End ∷ spec.Misplaced ∷ spec.Configuration ∷ []) spec.Turns _ list.items _ is c.in_ok-turns.ensures four)
     c.with_found-5.ensures

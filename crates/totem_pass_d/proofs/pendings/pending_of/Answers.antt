@@ -9,7 +9,7 @@ pub loop-ring-preserved : goal.loop-ring-preserved
 loop-ring-preserved c =
     let run = c.args.jobs.now.run.now.logs in
     let at = slice_get_read c.deref-ring-items.result.now _ _ c.ring-item.result refl c.loop-ring-test.true c.ring-item.is in
-    some_more (IsPendingIn run) _ _ c.ring-item.result _ _ _ (rw c.deref-ring-items.ensures.value at at) c.in_ok-add_ring.ensures c.loop-ring.invariant
+    some_more (IsPendingIn run) _ _ c.ring-item.result _ _ _ (rw c.deref-ring-items.ensures.value at at) (rw (c.in_ok-stays.ensures.logs, c.in_ok-stays.ensures.ring) at c.in_ok-add_pending.ensures) c.loop-ring.invariant
 
 pub returns : goal.returns
 returns c =

@@ -5,8 +5,9 @@ use Rattle.totem_run_rules.specs.Once.{IsNoSendBetween}
 use Rattle.totem_run_rules.proofs.once_1_4.add_sends.Goals as goal
 
 pub loop-entry-preserved : goal.loop-entry-preserved
-loop-entry-preserved c = (
-  grind (arith, common_steps, filter_map-append),
-  AllWithin-more IsNoSendBetween c.args.entries.now 0 _ c.loop-entry.invariant.1
-      (at_read c.args.entries.now IsNoSendBetween _ c.entry-item.result c.loop-entry-test.true c.entry-item.is (rw c.if-not-is_regular.false at c.is_regular.ensures)),
-)
+loop-entry-preserved c =
+    let h = rw c.if-not-branch.false at c.in_ok-add_send.ensures in (
+      grind (arith, common_steps, filter_map-append),
+      AllWithin-more IsNoSendBetween c.args.entries.now 0 _ c.loop-entry.invariant.1
+          (at_read c.args.entries.now IsNoSendBetween _ c.entry-item.result c.loop-entry-test.true c.entry-item.is h.regular),
+    )

@@ -1,6 +1,6 @@
 use Rattle.std.proofs.Common.{refl}
-use Rattle.totem_pass_ab.proofs.Starting.{none_of_all, least_of_all, none_known}
-use Rattle.totem_pass_ab.proofs.Turning.{begins_here, none_without_succession, wrong_here, none_after_right, some_after_right, others_begin, begins_not, others_of_ring, one_origin}
+use Rattle.totem_pass_ab.proofs.Starting.{none_of_all, least_of_all}
+use Rattle.totem_pass_ab.proofs.Turning.{begins_here, none_without_succession, wrong_here, none_after_right, some_after_right, others_begin, begins_not, others_of_ring}
 use Rattle.totem_pass_ab.proofs.succession_2_4.TurnsRelation.rest.Goals as goal
 
 pub returns-then-begins_transitional : goal.returns-then-begins_transitional
@@ -19,10 +19,10 @@ pub returns-in_default-conf : goal.returns-in_default-conf
 returns-in_default-conf c =
     none_after_right _ _ _ _ _ _ _ _ (begins_not c.args.self.now.run.now.logs _ _ _ _ c.requires.log c.if-begins_transitional.false c.begins_transitional.ensures) (rw c.requires.log at c.in-Some.ensures.found) (λ h. let t = c.if-is_wrong_succession.ensures.1 h in cc) (λ ring is. absurd (c.in_default-conf.not-Regular ring is))
 
-pub returns-then-is_only : goal.returns-then-is_only
-returns-then-is_only c =
+pub returns-then-not-may_differ : goal.returns-then-not-may_differ
+returns-then-not-may_differ c =
     none_after_right _ _ _ _ _ _ _ _ (begins_not c.args.self.now.run.now.logs _ _ _ _ c.requires.log c.if-begins_transitional.false c.begins_transitional.ensures) (rw c.requires.log at c.in-Some.ensures.found) (λ h. let t = c.if-is_wrong_succession.ensures.1 h in cc)
-    (λ ring is. others_of_ring _ _ _ _ _ _ c.in-Regular.is is (none_known _ c.args.self.now.known (λ known. one_origin _ c.args.self.now.run.now.logs _ _ _ _ known (c.if-is_only.ensures.0 refl))))
+    (λ ring is. others_of_ring _ _ _ _ _ _ c.in-Regular.is is c.if-not-may_differ.ensures)
 
 pub returns-in-None : goal.returns-in-None
 returns-in-None c =

@@ -1,8 +1,9 @@
-use Rattle.std.proofs.Common.{refl, sym, ap, ◌∙◌}
+use Rattle.std.proofs.Common.{arith, refl, sym, ap, ◌∙◌}
 use Rattle.std.proofs.lemmas.Option.{slice_get_read}
 use Rattle.totem_evs.specs.LogRecord.{LogRecord}
 use Rattle.totem_evs.specs.RunRecord.{RunRecord}
 use Rattle.totem_pass_d.proofs.Coming.{few_entries, no_stay, one_stay, stay_at, from_within, all_stays}
+use Rattle.totem_pass_d.proofs.Sending.{are_sends}
 use Rattle.totem_pass_d.proofs.comings.Comings.stays.Goals.{in-Some+in_ok-stay_from+in_ok-push, in_default}
 use Rattle.totem_pass_d.proofs.comings.Comings.stays.Goals as goal
 
@@ -36,7 +37,18 @@ loop-log-preserved c =
       | in_default w ↦ rw w.list-is (no_stay _ _ _ _ is_run there _ _ _ _ _ c.requires.comings (sym (rw w.in_default.is at value)) c.loop-log.invariant)
     ]
 
-pub returns : goal.returns
-returns c =
+pub sends_of-requires : goal.sends_of-requires
+sends_of-requires c =
     let runs = ap (λ (r : RunRecord). r.logs) c.run.view_is in
-    all_stays _ _ _ _ (rw (← (c.as_slice-log-items.ensures.value ∙ runs)) c.loop-log-test.false) c.loop-log.invariant
+    let are = all_stays _ _ _ _ (rw (← (c.as_slice-log-items.ensures.value ∙ runs)) c.loop-log-test.false) c.loop-log.invariant in
+    rw c.deref.ensures.value (λ k d lt. let of = are.each k d lt in record { before = of.is.before; within = omega (arith, of.is.until, of.is.within); few = of.few })
+
+pub returns-clause-known : goal.returns-clause-known
+returns-clause-known c =
+    let runs = ap (λ (r : RunRecord). r.logs) c.run.view_is in
+    let are = all_stays _ _ _ _ (rw (← (c.as_slice-log-items.ensures.value ∙ runs)) c.loop-log-test.false) c.loop-log.invariant in
+    record {
+      meets = c.requires.meets;
+      are = are;
+      sent = are_sends c.args.run.now.logs c.args.ring c.loop-log.list.items c.in_ok-sends.sends c.requires.meets are (rw c.deref.ensures.value at c.in_ok-sends.ensures);
+    }

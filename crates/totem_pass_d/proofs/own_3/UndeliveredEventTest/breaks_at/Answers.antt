@@ -6,20 +6,20 @@ use Rattle.totem_pass_d.proofs.own_3.UndeliveredEventTest.breaks_at.Goals as goa
 pub returns-in_default-clause-never : goal.returns-in_default-clause-never
 returns-in_default-clause-never c = let s = c.args.self.now.stays.now in owned_no_send s.run.now.logs s.ring c.args.stay.now.proc c.args.at _ c.entry_in.ensures c.in_default.not-Send
 
-pub returns-then-is_excused-clause-never : goal.returns-then-is_excused-clause-never
-returns-then-is_excused-clause-never c =
+pub returns-else-not-is_excused-clause-never : goal.returns-else-not-is_excused-clause-never
+returns-else-not-is_excused-clause-never c =
     let s = c.args.self.now.stays.now in
     let is = (facts_of s c.requires.known).each c.args.stay.now c.requires.among in
-    owned_excused s.run.now.logs s.ring c.args.stay.now c.args.at is (c.if-is_excused.ensures.0 refl)
+    rw c.if-not-is_excused.false (owned_excused s.run.now.logs s.ring c.args.stay.now c.args.at is (c.if-not-is_excused.ensures.0 refl))
 
-pub returns-clause-never : goal.returns-clause-never
-returns-clause-never c =
+pub returns-then-not-is_excused-clause-never : goal.returns-then-not-is_excused-clause-never
+returns-then-not-is_excused-clause-never c =
     let s = c.args.self.now.stays.now in
     where_all c.delivers.result _ _ c.delivers.ensures.there (λ has. owned_delivered s.run.now.logs s.ring c.args.stay.now c.args.at _ _ _ _ (rw c.in-Send.is at c.entry_in.ensures) has.1)
 
-pub returns-clause-there : goal.returns-clause-there
-returns-clause-there c =
+pub returns-then-not-is_excused-clause-there : goal.returns-then-not-is_excused-clause-there
+returns-then-not-is_excused-clause-there c =
     let s = c.args.self.now.stays.now in
     let is = (facts_of s c.requires.known).each c.args.stay.now c.requires.among in
     where_not c.delivers.result _ _ c.delivers.ensures.never
-    (λ not. owned_never s.run.now.logs s.ring c.args.stay.now c.args.at _ _ _ is c.requires.inside (rw c.in-Send.is at c.entry_in.ensures) (λ e. let t = c.if-is_excused.ensures.1 e in cc) not)
+    (λ not. owned_never s.run.now.logs s.ring c.args.stay.now c.args.at _ _ _ is c.requires.inside (rw c.in-Send.is at c.entry_in.ensures) (λ e. let t = c.if-not-is_excused.ensures.1 e in cc) not)
