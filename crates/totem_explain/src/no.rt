@@ -83,10 +83,10 @@ fn explain_each(alloc: Global, run: &Run, faults: &[Fault]) -> Result<Vec<Explai
 fn unseen_behind(spec: SpecNo) -> &'static str {
     match spec {
         SpecNo::Twice | SpecNo::End | SpecNo::Misplaced | SpecNo::Configuration | SpecNo::Turns => {
-            "Only specifications 1.4 and 2.1 to 2.4 were checked: the others are checked once these hold.\n"
+            "Only specifications 1.4 and 2.1 to 2.4 were checked: the others are checked only in runs that meet these.\n"
         }
         SpecNo::Unsent => {
-            "Only specifications 1.3, 1.4 and 2.1 to 2.4 were checked: the others are checked once these hold.\n"
+            "Only specifications 1.3, 1.4 and 2.1 to 2.4 were checked: the others are checked only in runs that meet these.\n"
         }
         SpecNo::Cycle | SpecNo::Order => {
             "Specifications 3, 4, 5, 6.3, 7.1 and 7.2 were not checked: they are checked once the others hold.\n"

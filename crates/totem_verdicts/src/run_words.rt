@@ -40,7 +40,7 @@ const OPTIONS: [NumberOption; 6] = [
         least: 1,
         most: 1_000_000,
         default: "4000",
-        help: "Length of the run in ticks, from 1 to 1000000. At every eighth tick the timer of one node expires, and its client gives it a message to send; the nodes take turns. Needs 4 KB of memory for each tick of each node: 4 KB times ticks times nodes",
+        help: "Length of the run in ticks, from 1 to 1000000. A tick is about one hop of the token. At every eighth tick the timer of one node expires, and that node is given a message to send; the nodes take turns. A run needs 4 KB of memory times ticks times nodes",
     },
     NumberOption {
         name: "seed",
@@ -48,7 +48,7 @@ const OPTIONS: [NumberOption; 6] = [
         least: 0,
         most: u64::MAX,
         default: "1",
-        help: "Seed for packet loss, duplication and reordering. The timing of the threads varies, so the same seed may give another run",
+        help: "Seed for packet loss, duplication and reordering. The timing of the threads varies, so the same seed may give a different run",
     },
     NumberOption {
         name: "lose",
@@ -92,7 +92,7 @@ fn weave_option<'a>(alloc: Global) -> Arg<'a> {
         .long("weave")
         .action(ArgAction::SetTrue)
         .help(
-            "Do not write the run. Look for a schedule: one order of all steps of the nodes on ring 4.1, in which each packet is taken after it was sent. If there is one, write how many steps it has, and the messages that the ring passed to each node; if there is no schedule, write a node's call that has no place in any order of the others",
+            "Do not write the run. Look for a schedule: a single order of all that the nodes did on their first ring, 4.1, in which each packet is received after it was sent. If there is one, write how many steps it has and, for each node, the messages that the ring delivered to it, in the order of delivery. If there is none, write one call of a node (an input, and its answer) that does not even fit into an incomplete schedule, one that breaks off the steps of some nodes",
         )
 }
 

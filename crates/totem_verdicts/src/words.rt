@@ -34,11 +34,11 @@ pub enum Words {
 
 const ENDINGS: &str = "\
 Exit status:
-  0   the verdict is yes; a run was made; with run --weave: a schedule was found
-  1   the verdict is no; with run --weave: there is no schedule
-  2   the input was refused; with run: a node's book of calls is full
+  0   audit, check, explain: the verdict is yes. sim, run: the run was written. run --weave: there is a schedule
+  1   audit, check, explain: the verdict is no. run --weave: there is no schedule
+  2   the input was refused. run: a node's record of its inputs is full; use fewer ticks
   3   out of memory
-  4   a stream failed
+  4   standard input could not be read, or standard output could not be written
   64  usage error";
 
 const AUDIT_EXAMPLE: &str = "\
@@ -77,7 +77,7 @@ fn svg_option<'a>(alloc: Global) -> Arg<'a> {
         .long("svg")
         .action(ArgAction::SetTrue)
         .help(
-            "Draw the run as an SVG picture; if there is a fault, only the part around the first one",
+            "Draw the run as an SVG picture; of a long run, draw only the part around the first fault or, for a yes, the ends of the logs",
         )
 }
 
