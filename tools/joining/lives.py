@@ -108,7 +108,7 @@ class Lives:
             lines.append('%s, line %d: which life of %d is a member of %s? No log of it changes there: %s' % (
                 log.name, change.before + 1, process, configuration.decode(), lives))
         lines[MOST_ASKED:] = ['.. and %d more' % (len(lines) - MOST_ASKED)] if len(lines) > MOST_ASKED else []
-        lines.append('Say each by --member CONFIGURATION=P:L, or give the times of the lives by --clock FILE')
+        lines.append('Name each with --member CONFIGURATION=P:L, or give the times of the lives with --clock FILE')
         raise Refused('\n  '.join(lines))
 
     def of(self, log, configuration, process):

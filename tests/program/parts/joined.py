@@ -112,7 +112,8 @@ REFUSED = {
     'a send in a transitional configuration is not an entry': (
         '', {'1.log': 'conf r4.1 1\nsend t8.1/1 a 4.1#1\n'}, 'logs: 1.log, line 2: this is not an entry: send t8.1/1 a 4.1#1 '),
     'a change without members': (
-        '', {'1.log': 'conf t4.1/1\n'}, 'logs: 1.log, line 1: a change must name its members: conf t4.1/1 (only a first callback that names none '),
+        '', {'1.log': 'conf t4.1/1\n'},
+        'logs: 1.log, line 1: a change must name its members: conf t4.1/1 (if it is the first callback of the layer, '),
     'a leading zero': ('', {'1.log': 'conf r4.1 1\ndlv r4.1 4.1#01\n'}, 'logs: 1.log, line 2: this is not an entry: '),
     'line ends of another system': ('', {'1.log': 'conf r4.1 1\r\n'}, 'logs: 1.log, line 1: the line ends with a carriage return'),
     'quiet before the last line': (

@@ -52,7 +52,7 @@ TWO_LIVES = {'1.log': 'conf r3.1 1\nconf t4.1/1 1\nconf r4.1 1 2\n', '2.1.log': 
 UNKNOWN = {
     'a member of whom no life is known': (
         '--lives', TWO_LIVES,
-        'logs: 1.log, line 3: which life of 2 is a member of r4.1? No log of it changes there: 2:1 or 2:2\n  Say each by --member '),
+        'logs: 1.log, line 3: which life of 2 is a member of r4.1? No log of it changes there: 2:1 or 2:2\n  Name each with --member '),
     'a member without any log': ('--lives', {'1.log': 'conf r4.1 1 2\n'}, '1.log, line 1: which life of 2 is a member of r4.1? '
                                  'No log of it changes there: there is no log of it\n'),
     'a clock that does not tell': ('--lives --clock FOLDER/times', {**TWO_LIVES, 'times': '1 start 2:1\n'}, 'which life of 2 is a member'),
@@ -220,9 +220,10 @@ def try_nothing_made(_program):
 
 # Folders of the examples that are refused as they are: the arguments, and the messages (docs/OWN-LOGS.md).
 ASKED = {
-    'first-callback': ('', 'logs: 1.log, line 1: a change must name its members: conf t5.1/1 (only a first callback that names none is left out)\n'),
+    'first-callback': ('', 'logs: 1.log, line 1: a change must name its members: conf t5.1/1 (if it is the first callback of the layer, '
+                       'leave the line out)\n'),
     'lives': ('--lives', 'logs: 1.1.log, line 3: which life of 2 is a member of r8.1? No log of it changes there: 2:1 or 2:2 or 2:3\n'
-              '  Say each by --member CONFIGURATION=P:L, or give the times of the lives by --clock FILE\n'),
+              '  Name each with --member CONFIGURATION=P:L, or give the times of the lives with --clock FILE\n'),
     'large-numbers': ('', 'logs: 167772161.log: process 167772161 is past 65535; --renumber renumbers processes\n'),
     'ring-again': ('', 'logs: 1.1.log, line 1: a member has no life, and the name of the file has one: --lives adds lives to members\n'),
 }
