@@ -5,8 +5,8 @@
 //! rules of totem_run_rules and totem_traffic_rules, a module for each specification; over what runs and certificates are (totem_ids,
 //! totem_evs, totem_certificate). totem_verdicts reads the two texts and prints the answer.
 //!
-//! If a rule says no, the passes (totem_pass_ab, totem_pass_d) search for what is broken. If they found nothing, the answer would be yes all
-//! the same, and they would stand under it too; but no such run is known.
+//! If a rule says no, the passes (totem_pass_ab, totem_pass_d) search for what is broken. If they found nothing, the answer would be yes
+//! all the same, and they would stand under it too; but no such run is known.
 ghost use Rattle.std.specs.Prelude.{◌≡◌, IfOk};
 ghost use Rattle.totem_evs.specs.Answers.{HasCertificate};
 ghost use Rattle.totem_evs.specs.Certificates.{Certified};

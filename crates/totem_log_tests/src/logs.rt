@@ -23,8 +23,8 @@ fn message() -> MsgId {
     }
 }
 
-/// Adds an entry of this word, which is not `quiet`: `change` to ring 4.1 of processes 1 and 2, `send` and `deliver` of a message there, and
-/// a failure for any other word.
+/// Adds an entry of this word, which is not `quiet`: `change` to ring 4.1 of processes 1 and 2, `send` and `deliver` of a message there,
+/// and a failure for any other word.
 fn push_entry(alloc: Global, list: &mut Vec<Entry>, word: &str) -> Result<(), AllocError> {
     let entry = match word {
         "send" => Entry::Send(message(), conf(), Service::Safe),

@@ -63,71 +63,56 @@ struct Walk<'a> {
     lines: &'a [Line],
     /// For each log, how many entries have been passed.
     passed: Vec<usize>,
-    /// For each log, its next number, or `NONE_LEFT`.
-    numbers: Vec<u64>,
     /// The number that was passed last.
-    last: u64,
+    last: u32,
 }
-
-const NONE_LEFT: u64 = u64::MAX;
 
 impl<'a> Walk<'a> {
     fn new(alloc: Global, lines: &'a [Line]) -> Result<Walk<'a>, AllocError> {
-        let mut numbers = Vec::with_capacity(alloc, lines.len())?;
-        for line in lines {
-            numbers.push(number_at(line, 0))?;
-        }
         let passed = vec![in alloc; 0usize; lines.len()]?;
         Ok(Walk {
             lines,
             passed,
-            numbers,
             last: 0,
         })
     }
 
-    /// Moves past the events with this number.
-    fn pass(&mut self, number: u64) -> Next {
-        let mut next = Next {
-            log: 0,
-            number: u32::try_from(number).unwrap_or(u32::MAX),
-            logs: LogSet::none(),
-        };
-        for (log, left) in self.numbers.iter_mut().enumerate() {
-            if *left == number
-                && let Some(passed) = self.passed.get_mut(log)
-                && let Some(line) = self.lines.get(log)
-            {
-                if next.logs.is_empty() {
-                    next.log = index_of(log);
-                }
-                next.logs = next.logs.with(index_of(log).min(31));
-                *passed = passed.saturating_add(1);
-                *left = number_at(line, *passed);
+    /// Moves past the events with this number, and returns whose they are.
+    fn pass(&mut self, number: u32) -> LogSet {
+        let mut logs = LogSet::none();
+        for (log, (line, passed)) in self.lines.iter().zip(self.passed.iter_mut()).enumerate() {
+            let here = line.numbers.as_slice().get(*passed) == Some(&number);
+            if here {
+                logs = logs.with(index_of(log).min(31));
             }
+            *passed = passed.saturating_add(usize::from(here));
         }
-        next
+        logs
     }
 
-    /// Moves past the next events, those with the least number that is left. Returns `None` if there are none. Most numbers follow each other.
+    /// Returns the least number that is left, or `None` if there is none.
+    fn least(&self) -> Option<u32> {
+        let mut least = None;
+        for (line, passed) in self.lines.iter().zip(self.passed.iter()) {
+            if let Some(number) = line.numbers.as_slice().get(*passed) {
+                least = Some(least.unwrap_or(u32::MAX).min(*number));
+            }
+        }
+        least
+    }
+
+    /// Moves past the next events, those with the least number that is left. Returns `None` if there are none. Most numbers follow each
+    /// other.
     fn go_on(&mut self) -> Option<Next> {
-        let mut next = self.pass(self.last.saturating_add(1));
-        if next.logs.is_empty() {
-            let least = self.numbers.iter().copied().min()?;
-            if least == NONE_LEFT {
-                return None;
-            }
-            next = self.pass(least);
+        let mut number = self.last.saturating_add(1);
+        let mut logs = self.pass(number);
+        if logs.is_empty() {
+            number = self.least()?;
+            logs = self.pass(number);
         }
-        self.last = u64::from(next.number);
-        Some(next)
-    }
-}
-
-fn number_at(line: &Line, at: usize) -> u64 {
-    match line.numbers.as_slice().get(at) {
-        Some(number) => u64::from(*number),
-        None => NONE_LEFT,
+        self.last = number;
+        let log = logs.least()?;
+        Some(Next { log, number, logs })
     }
 }
 
