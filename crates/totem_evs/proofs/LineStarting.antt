@@ -60,14 +60,14 @@ sent bytes =
     both (conf_at 32 w.1) _ _ (λ x.
     both (service_at x.1) _ _ (λ service.
     both (word_at faults.Word (codes " ") service.1) _ _ (λ space.
-    message_of space.1 (λ m. lines.Entry (entries.Send m x.0 service.0)) (Send x.0 service.0) (λ ring n. refl)))))
+    message_of space.1 (λ m. lines.Entry (entries.Send m x.0 service.0)) (λ (r : RingName). Send r x.0 service.0) (λ ring n. refl)))))
 
 delivered : (bytes : List ℕ) → delivery_at false bytes ≡ (delivery_start bytes >>= λ s. rest_at s.0 s.1)
 unfolding delivery_at delivery_start
 delivered bytes =
     both (word_at faults.Word (codes "lv ") bytes) _ _ (λ w.
     both (conf_at 32 w.1) _ _ (λ x.
-    message_of x.1 (λ m. lines.Entry (entries.Deliver m x.0)) (Deliver x.0) (λ ring n. refl)))
+    message_of x.1 (λ m. lines.Entry (entries.Deliver m x.0)) (λ (r : RingName). Deliver r x.0) (λ ring n. refl)))
 
 -- a line that begins with one of the two letters; any other letter begins no start
 by_letter : {P : Type 0} (version : Version) (some failed : Bool) (bytes : List ℕ) → ((line_at version false some failed bytes ≡ (start_at bytes >>= λ s. rest_at s.0 s.1)) → P)

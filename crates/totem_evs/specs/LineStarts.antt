@@ -22,7 +22,7 @@ send_start bytes = do
   service ← service_at x.1
   space ← word_at faults.Word (codes " ") service.1
   ring ← ring_at 35 space.1
-  Ok (Send x.0 service.0 ring.0, ring.1)
+  Ok (Send ring.0 x.0 service.0, ring.1)
 
 -- a delivery, after its first letter
 unfoldable pub delivery_start : List ℕ → Parsed Said
@@ -30,7 +30,7 @@ delivery_start bytes = do
   w ← word_at faults.Word (codes "lv ") bytes
   x ← conf_at 32 w.1
   ring ← ring_at 35 x.1
-  Ok (Deliver x.0 ring.0, ring.1)
+  Ok (Deliver ring.0 x.0, ring.1)
 
 -- one or the other
 unfoldable pub start_at : List ℕ → Parsed Said
@@ -40,8 +40,8 @@ start_at bytes = do
 
 -- the entry of such a line, with the number of its message
 abbrev pub entry_of : Said → ℕ → Entry
-entry_of (Send x service ring) n = entries.Send (record { ring = ring; number = n }) x service
-entry_of (Deliver x ring) n = entries.Deliver (record { ring = ring; number = n }) x
+entry_of (Send ring x service) n = entries.Send (record { ring = ring; number = n }) x service
+entry_of (Deliver ring x) n = entries.Deliver (record { ring = ring; number = n }) x
 
 -- the bytes begin with the line of this entry, which takes so many of them
 pub record BeginsWith (bytes : List ℕ) (e : Entry) (count : ℕ) : Type 0 where

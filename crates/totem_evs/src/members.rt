@@ -26,6 +26,18 @@ impl Model for Members {
     ghost invariant = { λ m. IsMembers m.procs.items };
 }
 
+/// Returns whether the process is one of these.
+fn is_one_of(procs: &[Proc], proc: Proc) -> bool
+    ensures { IsTrue result ↔ Contains procs.now proc }
+{
+    for member in procs {
+        if member.rank() == proc.rank() {
+            return true;
+        }
+    }
+    false
+}
+
 impl Members {
     /// Makes the members from these processes. Otherwise refuses the list, with the first rule that it breaks.
     pub fn new(procs: Vec<Proc>) -> Result<Members, Refused<Vec<Proc>>>
@@ -54,7 +66,7 @@ impl Members {
     pub fn contains(&self, proc: Proc) -> bool
         ensures { IsTrue result ↔ Contains self.now proc }
     {
-        self.procs.contains(&proc)
+        is_one_of(&self.procs, proc)
     }
 
     /// Returns the processes as a vector, without taking memory.

@@ -170,7 +170,7 @@ impl PartReader {
         ensures { OnOk result (IsReadState self.new × Goes self.old (parts.Entry entry.now) self.new) }
     {
         wait_for(&mut self.waiting, &self.begun, entry.members())?;
-        self.stage = self.stage.with_entry(entry);
+        self.stage.pass_entry(entry);
         Ok(())
     }
 
@@ -213,7 +213,7 @@ impl PartReader {
         }
         let entry = self.repeats.take(source)?;
         entry.keeps_its_rule();
-        self.stage = self.stage.with_entry(&entry);
+        self.stage.pass_entry(&entry);
         Some(entry)
     }
 

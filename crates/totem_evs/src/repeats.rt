@@ -22,8 +22,8 @@ const LONGEST: usize = 48;
 /// What the line of a send or a delivery says before the number of its message.
 #[derive(Clone, Copy)]
 enum Said {
-    Send(ConfId, Service, RingId),
-    Deliver(ConfId, RingId),
+    Send(RingId, ConfId, Service),
+    Deliver(RingId, ConfId),
 }
 
 /// What the line of a send or a delivery has before the number of its message, as in `dlv r4.1 4.1#`.
@@ -44,7 +44,7 @@ fn read_send<S: Source>(source: &mut S) -> Result<Said, ReadError>
     let service = read_service(source)?;
     word(source, b" ", TextFault::Word)?;
     let ring = read_ring(source, b'#')?;
-    Ok(Said::Send(conf, service, ring))
+    Ok(Said::Send(ring, conf, service))
 }
 
 #[tactic(auto, using(crate::proofs::ReaderSteps::reader_steps), unfolding(crate::specs::LineStarts::delivery_start))]
@@ -55,7 +55,7 @@ fn read_delivery<S: Source>(source: &mut S) -> Result<Said, ReadError>
     word(source, b"lv ", TextFault::Word)?;
     let conf = read_conf(source, b' ')?;
     let ring = read_ring(source, b'#')?;
-    Ok(Said::Deliver(conf, ring))
+    Ok(Said::Deliver(ring, conf))
 }
 
 // Reads what a line has before the number of its message.
@@ -90,8 +90,8 @@ impl Said {
         ensures members { members_of result ≡ [] }
     {
         match self {
-            Said::Send(conf, service, ring) => Entry::Send(MsgId { ring, number }, conf, service),
-            Said::Deliver(conf, ring) => Entry::Deliver(MsgId { ring, number }, conf),
+            Said::Send(ring, conf, service) => Entry::Send(MsgId { ring, number }, conf, service),
+            Said::Deliver(ring, conf) => Entry::Deliver(MsgId { ring, number }, conf),
         }
     }
 }

@@ -79,23 +79,14 @@ impl Stage {
         }
     }
 
-    /// Returns the stage after this entry.
-    pub fn with_entry(self, entry: &Entry) -> Stage
-        requires { ForSome self.log (λ log. log.entries ≤ 1000000) }
-        ensures { result ≡ next_stage self (parts.Entry entry.now) }
+    /// Goes on to the stage after this entry.
+    pub fn pass_entry(&mut self, entry: &Entry)
+        requires { ForSome self.old.log (λ log. log.entries ≤ 1000000) }
+        ensures { self.new ≡ next_stage self.old (parts.Entry entry.now) }
     {
-        let log = match self.log {
-            None => None,
-            Some(log) => Some(OpenLog {
-                entries: log.entries + 1,
-                failed: entry.is_failure(),
-            }),
-        };
-        Stage {
-            version: self.version,
-            logs: self.logs,
-            last: self.last,
-            log,
+        if let Some(log) = &mut self.log {
+            log.entries += 1;
+            log.failed = entry.is_failure();
         }
     }
 
