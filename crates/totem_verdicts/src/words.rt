@@ -36,7 +36,7 @@ const ENDINGS: &str = "\
 Exit status:
   0   audit, check, explain: the verdict is yes. sim, run: the run was written. run --weave: there is a schedule
   1   audit, check, explain: the verdict is no. run --weave: there is no schedule
-  2   the input was refused. run: a node's record of its inputs is full; use fewer ticks
+  2   the run, script or certificate was refused. run: a node's book, its record of inputs and answers, is full; use fewer ticks
   3   out of memory
   4   standard input could not be read, or standard output could not be written
   64  usage error";
@@ -86,7 +86,7 @@ fn script_option<'a>(alloc: Global) -> Arg<'a> {
         .long("script")
         .action(ArgAction::SetTrue)
         .help(
-            "Read a script instead of a run, and write the run that the script makes, as sim does; if the script is refused, show the line",
+            "Do what sim does: read a script, and write the run that it makes. If the script is refused, show the line",
         )
 }
 
@@ -120,7 +120,9 @@ fn workers_of(matches: &ArgMatches<'_>) -> u32 {
 
 fn check_command<'a>(alloc: Global) -> Command<'a> {
     Command::new(alloc, "check")
-        .about("Reads a run and then its certificate from standard input, and judges both")
+        .about(
+            "Reads a run and then its certificate from standard input, and judges the run. Refuses a certificate that does not fit it",
+        )
         .after_help(CHECK_EXAMPLE)
 }
 
