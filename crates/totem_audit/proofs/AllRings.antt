@@ -116,7 +116,7 @@ module _ (Has : RingId → Type 0) (known : Listed Has) where
       (λ c h. elim h [ inl is ↦ inr (zero, (ms, rw is refl)) | inr has ↦ elim ((rest.exact c).0 has) [ inl known ↦ inl known | inr comes ↦ inr (later (Conf (Regular r) ms) entries c comes) ] ])
       (λ c h. elim h [ inl has ↦ inr ((rest.exact c).1 (inl has)) | inr (zero, (ns, at)) ↦ inl cc | inr (suc i, (ns, at)) ↦ inr ((rest.exact c).1 (inr (i, (ns, at)))) ])
       (with_ring r rest.list rest.rising)
-  of_entries (Conf (Transitional next least) ms ∷ entries) = passed_by (Conf (Transitional next least) ms) entries (λ c ns e. cc) (of_entries entries)
+  of_entries (Conf (Transitional least next) ms ∷ entries) = passed_by (Conf (Transitional least next) ms) entries (λ c ns e. cc) (of_entries entries)
   of_entries (Send m x s ∷ entries) = passed_by (Send m x s) entries (λ c ns e. cc) (of_entries entries)
   of_entries (Deliver m x ∷ entries) = passed_by (Deliver m x) entries (λ c ns e. cc) (of_entries entries)
   of_entries (Fail x ∷ entries) = passed_by (Fail x) entries (λ c ns e. cc) (of_entries entries)

@@ -18,7 +18,7 @@ use Rattle.totem_evs.proofs.Closed.{closed_cycles, closed_rises}
 
 not_both : (x : ConfId) → IsRegular x → IsTransitional x → ⊥
 not_both (Regular c) r t = t
-not_both (Transitional next least) r t = r
+not_both (Transitional least next) r t = r
 
 unsent : (run : List Log) (places : List Place) → BreaksUnsent run places → IsVirtuallySynchronous run → ⊥
 unsent run (e ∷ []) (i, at, (m, d, delivers, never)) ev = never (ev.basic.sent e.proc i m d delivers)
@@ -60,9 +60,9 @@ neighbours : (run : List Log) (p i j : ℕ) → IsVirtuallySynchronous run → A
 neighbours run p i j ev (x, y, ms, ns, next, inl (r, s)) = not_both y s (((ev.changes.turns p).turns i j x y ms ns next).0 r)
 neighbours run p i j ev (x, y, ms, ns, next, inr (inl (r, s))) = not_both x (((ev.changes.turns p).turns i j x y ms ns next).1 s) r
 neighbours run p i j ev (Regular c, y, ms, ns, next, inr (inr (inl (r, t, never)))) = never ((ev.changes.turns p).from i j c y ms ns t next)
-neighbours run p i j ev (Transitional c l, y, ms, ns, next, inr (inr (inl (r, t, never)))) = r
+neighbours run p i j ev (Transitional l c, y, ms, ns, next, inr (inr (inl (r, t, never)))) = r
 neighbours run p i j ev (x, Regular c, ms, ns, next, inr (inr (inr (inl (t, r, never))))) = never ((ev.changes.turns p).to i j x c ms ns t next)
-neighbours run p i j ev (x, Transitional c l, ms, ns, next, inr (inr (inr (inl (t, r, never))))) = r
+neighbours run p i j ev (x, Transitional l c, ms, ns, next, inr (inr (inr (inl (t, r, never))))) = r
 neighbours run p i j ev (x, y, ms, ns, next, inr (inr (inr (inr (c, d, least, is_x, is_y, other))))) =
     other ((ev.changes.turns p).named i j c d least ms ns (rw (is_x, is_y) at next))
 

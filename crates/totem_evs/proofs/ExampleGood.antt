@@ -92,7 +92,7 @@ turns p = record {
   turns = λ i j x y ms ns h. absurd (none_next p i j x y ms ns h);
   from = λ i j c y ms ns t h. absurd (none_next p i j (Regular c) y ms ns h);
   to = λ i j x c ms ns t h. absurd (none_next p i j x (Regular c) ms ns h);
-  named = λ i j next c least ms ns h. absurd (none_next p i j (Transitional next least) (Regular c) ms ns h);
+  named = λ i j next c least ms ns h. absurd (none_next p i j (Transitional least next) (Regular c) ms ns h);
 }
 
 one_configuration : IsOneConfiguration both

@@ -91,7 +91,7 @@ ring_in_range c = up_to 4294967295 c.seq && up_to 65535 c.rep
 
 abbrev conf_in_range : ConfId → Bool
 conf_in_range (Regular c) = ring_in_range c
-conf_in_range (Transitional next least) = ring_in_range next && up_to 65535 least
+conf_in_range (Transitional least next) = ring_in_range next && up_to 65535 least
 
 abbrev message_in_range : MessageName → Bool
 message_in_range m = ring_in_range m.ring && up_to 4294967295 m.number
@@ -118,7 +118,7 @@ ring_is c h = let t = both_true (up_to 4294967295 c.seq) (up_to 65535 c.rep) h i
 
 conf_is : (x : ConfId) → conf_in_range x ≡ true → IsConf x
 conf_is (Regular c) h = ring_is c h
-conf_is (Transitional next least) h = let t = both_true (ring_in_range next) (up_to 65535 least) h in (ring_is next t.0, up_to_is 65535 least t.1)
+conf_is (Transitional least next) h = let t = both_true (ring_in_range next) (up_to 65535 least) h in (ring_is next t.0, up_to_is 65535 least t.1)
 
 message_is : (m : MessageName) → message_in_range m ≡ true → IsMessage m
 message_is m h = let t = both_true (ring_in_range m.ring) (up_to 4294967295 m.number) h in record { ring_fits = ring_is m.ring t.0; number_fits = up_to_is 4294967295 m.number t.1 }

@@ -108,7 +108,7 @@ other_ring c e differ same = differ (ap (λ (r : RingId). r.seq) same)
 -- the number of a configuration's ring
 abbrev pub ring_number : ConfId → ℕ
 ring_number (Regular c) = c.seq
-ring_number (Transitional next least) = next.seq
+ring_number (Transitional least next) = next.seq
 
 pub other_conf : (x y : ConfId) → (ring_number x ≡ ring_number y → ⊥) → x ≡ y → ⊥
 other_conf x y differ same = differ (ap ring_number same)

@@ -25,7 +25,7 @@ run = runs.safe_message_on_the_way
 -- the number of a change: 1 to ring 4, 3 on the way, 5 to ring 8
 abbrev pub stage : ConfId → ℕ
 stage (Regular c) = c.seq - 3
-stage (Transitional next least) = 3
+stage (Transitional least next) = 3
 
 abbrev pub number_of : Entry → ℕ
 number_of (Conf x members) = stage x

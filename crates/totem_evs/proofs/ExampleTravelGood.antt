@@ -177,7 +177,7 @@ after_regular : (c : RingId) (y : ConfId) → Neighbours (Regular c) y → (c �
 after_regular c y (inl (e, g)) = (cc, g)
 after_regular c y (inr (e, g)) = absurd cc
 
-to_ring_8 : (next c : RingId) (least : ℕ) → Neighbours (Transitional next least) (Regular c) → c ≡ next
+to_ring_8 : (next c : RingId) (least : ℕ) → Neighbours (Transitional least next) (Regular c) → c ≡ next
 to_ring_8 next c least (inl (e, g)) = absurd cc
 to_ring_8 next c least (inr (e, g)) = cc
 
@@ -203,7 +203,7 @@ turns p = record {
   turns = λ i j x y ms ns h. by_turns x y (neighbours p i j x y ms ns h);
   from = λ i j c y ms ns t h. all_members ms ns (same_members p i p j (Regular c) y ms ns h.first h.second);
   to = λ i j x c ms ns t h. all_members ns ms (same_members p j p i (Regular c) x ns ms h.second h.first);
-  named = λ i j next c least ms ns h. to_ring_8 next c least (neighbours p i j (Transitional next least) (Regular c) ms ns h);
+  named = λ i j next c least ms ns h. to_ring_8 next c least (neighbours p i j (Transitional least next) (Regular c) ms ns h);
 }
 
 one_configuration : IsOneConfiguration run

@@ -228,15 +228,15 @@ transitional_parts c n end = simp append_assoc
 transitional_cut : (end : ℕ) (bytes : List ℕ) → Cut (transitional_at end bytes) (λ u. ConfTo end (116 ∷ u)) bytes
 unfolding transitional_at
 transitional_cut end bytes =
-    bind_cut (ring_at 47 bytes) (λ next. number_to 65535 end next.1 >>= λ least. Ok (Transitional next.0 least.0, least.1)) (RingTo 47) (λ u. ConfTo end (116 ∷ u)) bytes (ring_cut 47 bytes)
-    (λ t x. (decimal 1 ++ end ∷ [], (Transitional x.0 1, (x.1, one_is 65535 (omega arith)), ap (λ (k : List ℕ). 116 ∷ (k ++ (decimal 1 ++ end ∷ []))) x.2 ∙ transitional_parts (ring_text x.0) (decimal 1) end)))
+    bind_cut (ring_at 47 bytes) (λ next. number_to 65535 end next.1 >>= λ least. Ok (Transitional least.0 next.0, least.1)) (RingTo 47) (λ u. ConfTo end (116 ∷ u)) bytes (ring_cut 47 bytes)
+    (λ t x. (decimal 1 ++ end ∷ [], (Transitional 1 x.0, (x.1, one_is 65535 (omega arith)), ap (λ (k : List ℕ). 116 ∷ (k ++ (decimal 1 ++ end ∷ []))) x.2 ∙ transitional_parts (ring_text x.0) (decimal 1) end)))
     (λ next rest e.
     let y = ring_is 47 next bytes rest e in
     record {
       text = ring_text next ++ 47 ∷ [];
       whole = y.1 ∙ sym (append_assoc (ring_text next) (47 ∷ []) rest);
-      next = last_cut (number_to 65535 end rest) (λ least. (Transitional next least.0, least.1)) (NumberTo 65535 end) (λ u. ConfTo end (116 ∷ ((ring_text next ++ 47 ∷ []) ++ u))) rest (number_to_cut 65535 end rest (omega arith) (omega arith))
-          (λ t x. (Transitional next x.0, (y.0, x.1), ap (λ (k : List ℕ). 116 ∷ ((ring_text next ++ 47 ∷ []) ++ k)) x.2 ∙ transitional_parts (ring_text next) (decimal x.0) end));
+      next = last_cut (number_to 65535 end rest) (λ least. (Transitional least.0 next, least.1)) (NumberTo 65535 end) (λ u. ConfTo end (116 ∷ ((ring_text next ++ 47 ∷ []) ++ u))) rest (number_to_cut 65535 end rest (omega arith) (omega arith))
+          (λ t x. (Transitional x.0 next, (y.0, x.1), ap (λ (k : List ℕ). 116 ∷ ((ring_text next ++ 47 ∷ []) ++ k)) x.2 ∙ transitional_parts (ring_text next) (decimal x.0) end));
     })
 
 pub conf_cut : (end : ℕ) (bytes : List ℕ) → Cut (conf_at end bytes) (ConfTo end) bytes

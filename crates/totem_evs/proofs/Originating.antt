@@ -79,7 +79,7 @@ pub record HasOrigin (log : List Entry) (t : ConfId) : Type 0 where
 
 same_turns : (x : ConfId) → IsRegular x → (c : RingId) × (x ≡ Regular c)
 same_turns (Regular c) r = (c, refl)
-same_turns (Transitional next least) r = absurd r
+same_turns (Transitional least next) r = absurd r
 
 -- a change to a transitional configuration is the next after the one change to a regular one
 pub origin : (run : List Log) (p i : ℕ) (t : ConfId) → MeetsPasses run → ChangesTo (log_of run p) i t → IsTransitional t → HasOrigin (log_of run p) t
@@ -90,7 +90,7 @@ origin run p i t meets (ns, at) moves = elim (last_before (log_of run p) i) [
   where
     both : (x : ConfId) → IsRegular x → IsTransitional x → ⊥
     both (Regular c) r m = m
-    both (Transitional next least) r m = r
+    both (Transitional least next) r m = r
 
     of_ring : (j : ℕ) (y : ConfId) (c : RingId) → y ≡ Regular c → ChangesTo (log_of run p) j y → LastBefore (log_of run p) i j → HasOrigin (log_of run p) t
     of_ring j y c is change last =

@@ -94,11 +94,11 @@ atomic : (run : List Log) → MeetsPasses run → MeetsEach run spec.Atomicity �
 atomic run meets h p q (Regular c) d (a, b, from, next, to) there i m delivers =
     let here : AtomicityIn run c = h.each c (record { proc = p; index = a; change = from }) in
     here.each p q (Regular c) d (inl refl) (a, b, from, next, to) there i m delivers
-atomic run meets h p q (Transitional n l) d (a, b, from, next, to) there i m delivers =
-    let origin_is = origin run p a (Transitional n l) meets from tt in
+atomic run meets h p q (Transitional l n) d (a, b, from, next, to) there i m delivers =
+    let origin_is = origin run p a (Transitional l n) meets from tt in
     let c = origin_is.ring in
     let here : AtomicityIn run c = h.each c (record { proc = p; index = origin_is.follows.from; change = origin_is.follows.first.change }) in
-    here.each p q (Transitional n l) d (inr origin_is.follows) (a, b, from, next, to) there i m delivers
+    here.each p q (Transitional l n) d (inr origin_is.follows) (a, b, from, next, to) there i m delivers
 
 one_hop : (run : List Log) → MeetsPasses run → MeetsEach run spec.Causality → OneHopIsFine run
 one_hop run meets h c p i j m n (service, at_j) lt (inl (other, at_i)) r k delivers =

@@ -58,7 +58,7 @@ abbrev pub AreWrongNeighbours : List Entry → ℕ → ℕ → Type 0
 AreWrongNeighbours log i j = (x y : ConfId) × (ms ns : List ℕ) × ChangesNext log i j x y ms ns
     × ((IsRegular x × IsRegular y) ⊎ (IsTransitional x × IsTransitional y)
     ⊎ (IsRegular x × IsTransitional y × (All (Contains ms) ns → ⊥)) ⊎ (IsTransitional x × IsRegular y × (All (Contains ns) ms → ⊥))
-    ⊎ ((next c : RingId) × (least : ℕ) × (x ≡ Transitional next least) × (y ≡ Regular c) × (c ≢ next)))
+    ⊎ ((next c : RingId) × (least : ℕ) × (x ≡ Transitional least next) × (y ≡ Regular c) × (c ≢ next)))
 
 -- p and q come to one transitional configuration from different regular ones
 abbrev pub HaveTwoOrigins : List Log → ℕ → ℕ → ℕ → ℕ → ℕ → ℕ → Type 0

@@ -64,7 +64,7 @@ pub record TakesTurns (log : List Entry) : Type 0 where
   pub turns : (i j : ℕ) (x y : ConfId) (ms ns : List ℕ) → ChangesNext log i j x y ms ns → IsRegular x ↔ IsTransitional y
   pub from : (i j : ℕ) (c : RingId) (y : ConfId) (ms ns : List ℕ) → IsTransitional y → ChangesNext log i j (Regular c) y ms ns → All (Contains ms) ns
   pub to : (i j : ℕ) (x : ConfId) (c : RingId) (ms ns : List ℕ) → IsTransitional x → ChangesNext log i j x (Regular c) ms ns → All (Contains ns) ms
-  pub named : (i j : ℕ) (next c : RingId) (least : ℕ) (ms ns : List ℕ) → ChangesNext log i j (Transitional next least) (Regular c) ms ns → c ≡ next
+  pub named : (i j : ℕ) (next c : RingId) (least : ℕ) (ms ns : List ℕ) → ChangesNext log i j (Transitional least next) (Regular c) ms ns → c ≡ next
 
 -- two logs with the same transitional configuration come to it from the same regular configuration
 abbrev pub HasOneOrigin : List Log → Type 0

@@ -15,11 +15,11 @@ use Rattle.totem_evs.specs.declared.ending.Ending.TheVariants.{Standing, Quiet}
 
 abbrev pub IsRegular : ConfId → Type 0
 IsRegular (Regular c) = Unit {0}
-IsRegular (Transitional next least) = ⊥
+IsRegular (Transitional least next) = ⊥
 
 abbrev pub IsTransitional : ConfId → Type 0
 IsTransitional (Regular c) = ⊥
-IsTransitional (Transitional next least) = Unit {0}
+IsTransitional (Transitional least next) = Unit {0}
 
 -- the entry at i is a change to x with these members
 abbrev pub ChangesWith : List Entry → ℕ → ConfId → List ℕ → Type 0

@@ -23,7 +23,7 @@ abbrev pub regular : ℕ → ConfId
 regular n = Regular (ring n)
 
 abbrev pub transitional : ℕ → ConfId
-transitional n = Transitional (ring n) 1
+transitional n = Transitional 1 (ring n)
 
 -- the first and the second message of ring 4
 abbrev pub first : MsgId
@@ -138,7 +138,7 @@ abbrev pub safe_with_a_member_that_moved_on : List Log
 safe_with_a_member_that_moved_on =
     standing 1 (Conf (regular 4) all_three ∷ Send first (regular 4) Safe ∷ Deliver first (regular 4) ∷ Conf (transitional 8) pair ∷ Conf (regular 8) pair ∷ [])
     ∷ standing 2 (Conf (regular 4) all_three ∷ Deliver first (regular 4) ∷ Conf (transitional 8) pair ∷ Conf (regular 8) pair ∷ [])
-    ∷ standing 3 (Conf (regular 4) all_three ∷ Conf (Transitional (ring_of_3 8) 3) lone_3 ∷ Conf (Regular (ring_of_3 8)) lone_3 ∷ [])
+    ∷ standing 3 (Conf (regular 4) all_three ∷ Conf (Transitional 3 (ring_of_3 8)) lone_3 ∷ Conf (Regular (ring_of_3 8)) lone_3 ∷ [])
     ∷ []
 
 -- 1 and 2 deliver a safe message, and 3 never came to their configuration

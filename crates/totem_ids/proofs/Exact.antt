@@ -34,10 +34,10 @@ exact_message m n e = let h = both_equal (ring.cmp-value.it m.ring n.ring) (nat_
 
 pub exact_conf : CmpEqualImpliesEq conf.cmp-value.it
 exact_conf (Regular c) (Regular d) e = ap (λ (x : RingId). Regular x) (exact_ring c d e)
-exact_conf (Regular c) (Transitional n l) e = absurd cc
-exact_conf (Transitional n l) (Regular c) e = absurd cc
-exact_conf (Transitional n l) (Transitional m k) e = let h = both_equal (ring.cmp-value.it n m) (nat_cmp l k) e in
-    ap (λ (x : RingId). Transitional x l) (exact_ring n m h.0) ∙ ap (λ (x : ℕ). Transitional m x) (exact_unsigned l k h.1)
+exact_conf (Regular c) (Transitional l n) e = absurd cc
+exact_conf (Transitional l n) (Regular c) e = absurd cc
+exact_conf (Transitional l n) (Transitional k m) e = let h = both_equal (ring.cmp-value.it n m) (nat_cmp l k) e in
+    ap (λ (x : RingId). Transitional l x) (exact_ring n m h.0) ∙ ap (λ (x : ℕ). Transitional x m) (exact_unsigned l k h.1)
 
 pub equal_at : (o : Ordering) → is_eq o ≡ true → o ≡ Equal
 equal_at Less e = absurd cc

@@ -81,26 +81,26 @@ conf_strict = record { strict = strict; goes_on = goes_on; total = total }
   where
     strict : (a : ConfId) → ConfBelow a a → ⊥
     strict (Regular a) h = ring_strict.strict a h
-    strict (Transitional next least) (inl h) = ring_strict.strict next h
-    strict (Transitional next least) (inr h) = numbers.strict least h.1
+    strict (Transitional least next) (inl h) = ring_strict.strict next h
+    strict (Transitional least next) (inr h) = numbers.strict least h.1
 
     goes_on : (a b c : ConfId) → ConfBelow a b → ConfBelow b c → ConfBelow a c
     goes_on (Regular a) (Regular b) (Regular c) h k = ring_strict.goes_on a b c h k
-    goes_on (Regular a) (Regular b) (Transitional next least) h k = tt
-    goes_on (Regular a) (Transitional next least) (Regular c) h k = absurd k
-    goes_on (Regular a) (Transitional next least) (Transitional later other) h k = tt
-    goes_on (Transitional next least) (Regular b) c h k = absurd h
-    goes_on (Transitional next least) (Transitional later other) (Regular c) h k = absurd k
-    goes_on (Transitional a p) (Transitional b q) (Transitional c r) h k = (pairs.goes_on (a, p) (b, q) (c, r) h k)
+    goes_on (Regular a) (Regular b) (Transitional least next) h k = tt
+    goes_on (Regular a) (Transitional least next) (Regular c) h k = absurd k
+    goes_on (Regular a) (Transitional least next) (Transitional other later) h k = tt
+    goes_on (Transitional least next) (Regular b) c h k = absurd h
+    goes_on (Transitional least next) (Transitional other later) (Regular c) h k = absurd k
+    goes_on (Transitional p a) (Transitional q b) (Transitional r c) h k = (pairs.goes_on (a, p) (b, q) (c, r) h k)
 
     total : (a b : ConfId) → ConfBelow a b ⊎ ((a ≡ b) ⊎ ConfBelow b a)
     total (Regular a) (Regular b) = elim (ring_strict.total a b) [
       | inl h ↦ inl h
       | inr rest ↦ elim rest [ inl e ↦ inr (inl (ap (λ (c : RingName). Regular c) e)) | inr h ↦ inr (inr h) ]
     ]
-    total (Regular a) (Transitional next least) = inl tt
-    total (Transitional next least) (Regular b) = inr (inr tt)
-    total (Transitional a p) (Transitional b q) = elim (pairs.total (a, p) (b, q)) [
+    total (Regular a) (Transitional least next) = inl tt
+    total (Transitional least next) (Regular b) = inr (inr tt)
+    total (Transitional p a) (Transitional q b) = elim (pairs.total (a, p) (b, q)) [
       | inl h ↦ inl h
-      | inr rest ↦ elim rest [ inl e ↦ inr (inl (ap (λ (x : RingName × ℕ). Transitional x.0 x.1) e)) | inr h ↦ inr (inr h) ]
+      | inr rest ↦ elim rest [ inl e ↦ inr (inl (ap (λ (x : RingName × ℕ). Transitional x.1 x.0) e)) | inr h ↦ inr (inr h) ]
     ]

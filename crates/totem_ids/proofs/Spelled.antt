@@ -250,15 +250,15 @@ regular_again end c rest other is = rw (ring_again end c rest other is) refl
 transitional_is : (end : ℕ) (x : ConfId) (bytes rest : List ℕ) → transitional_at end bytes ≡ Ok (x, rest) → IsConf x × (116 ∷ bytes ≡ conf_text x ++ end ∷ rest)
 unfolding transitional_at
 transitional_is end x bytes rest e =
-    after (ring_at 47 bytes) (λ next. number_to 65535 end next.1 >>= λ least. Ok (Transitional next.0 least.0, least.1)) (x, rest) e (λ next mid e1 more.
-    after (number_to 65535 end mid) (λ least. Ok (Transitional next least.0, least.1)) (x, rest) more (λ least left e2 made.
-    let p = parsed_is (Transitional next least) x left rest made in
+    after (ring_at 47 bytes) (λ next. number_to 65535 end next.1 >>= λ least. Ok (Transitional least.0 next.0, least.1)) (x, rest) e (λ next mid e1 more.
+    after (number_to 65535 end mid) (λ least. Ok (Transitional least.0 next, least.1)) (x, rest) more (λ least left e2 made.
+    let p = parsed_is (Transitional least next) x left rest made in
     let y = ring_is 47 next bytes mid e1 in
     let z = number_to_is 65535 end least mid left (omega arith) (omega arith) e2 in
     let text : 116 ∷ bytes ≡ (codes "t" ++ ring_text next ++ codes "/" ++ decimal least) ++ end ∷ left = ap (λ (t : List ℕ). 116 ∷ t) (y.1 ∙ ap (λ (t : List ℕ). ring_text next ++ 47 ∷ t) z.spelled ∙ sym (simp append_assoc)) in
     rw (← p.0, ← p.1) ((y.0, up_to z), text)))
 
-transitional_again : (end : ℕ) (next : RingName) (least : ℕ) (rest : List ℕ) → is_digit end ≡ false → IsRing next → IsProcess least → transitional_at end (ring_text next ++ 47 ∷ (decimal least ++ end ∷ rest)) ≡ Ok (Transitional next least, rest)
+transitional_again : (end : ℕ) (next : RingName) (least : ℕ) (rest : List ℕ) → is_digit end ≡ false → IsRing next → IsProcess least → transitional_at end (ring_text next ++ 47 ∷ (decimal least ++ end ∷ rest)) ≡ Ok (Transitional least next, rest)
 unfolding transitional_at
 transitional_again end next least rest other is fits =
     rw (ring_again 47 next (decimal least ++ end ∷ rest) refl is) (
@@ -284,6 +284,6 @@ conf_is end x bytes rest e =
 pub conf_again : (end : ℕ) (x : ConfId) (rest : List ℕ) → is_digit end ≡ false → IsConf x → conf_at end (conf_text x ++ end ∷ rest) ≡ Ok (x, rest)
 unfolding conf_at
 conf_again end (Regular c) rest other is = regular_again end c rest other is
-conf_again end (Transitional next least) rest other is =
+conf_again end (Transitional least next) rest other is =
     let regrouped : (ring_text next ++ codes "/" ++ decimal least) ++ end ∷ rest ≡ ring_text next ++ 47 ∷ (decimal least ++ end ∷ rest) = simp append_assoc in
     rw regrouped (transitional_again end next least rest other is.0 is.1)

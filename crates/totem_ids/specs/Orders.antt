@@ -19,9 +19,9 @@ PlaceBelow a b = (a.proc < b.proc) ⊎ ((a.proc ≡ b.proc) × (a.at < b.at))
 -- regular configurations by ring, before the transitional ones by next ring and then by least member
 abbrev pub ConfBelow : ConfId → ConfId → Type 0
 ConfBelow (Regular a) (Regular b) = RingBelow a b
-ConfBelow (Regular a) (Transitional next least) = Unit {0}
-ConfBelow (Transitional next least) (Regular b) = ⊥
-ConfBelow (Transitional next least) (Transitional later other) = RingBelow next later ⊎ ((next ≡ later) × (least < other))
+ConfBelow (Regular a) (Transitional least next) = Unit {0}
+ConfBelow (Transitional least next) (Regular b) = ⊥
+ConfBelow (Transitional least next) (Transitional other later) = RingBelow next later ⊎ ((next ≡ later) × (least < other))
 
 -- a strict and total order: nothing is below itself, it is transitive, and of two one is below the other or they are the same
 pub record IsStrictOrder {Y : Type 0} (Below : Y → Y → Type 0) : Type 0 where

@@ -32,7 +32,7 @@ unfoldable pub transitional_at : ℕ → List ℕ → Parsed ConfId
 transitional_at end bytes = do
   next ← ring_at 47 bytes
   least ← proc_at end next.1
-  Ok (Transitional next.0 least.0, least.1)
+  Ok (Transitional least.0 next.0, least.1)
 
 -- a configuration, by its letter
 unfoldable pub conf_at : ℕ → List ℕ → Parsed ConfId

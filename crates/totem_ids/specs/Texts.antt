@@ -13,7 +13,7 @@ ring_text c = decimal c.seq ++ codes "." ++ decimal c.rep
 -- a configuration: `r` and its ring, or `t`, the next ring, a slash and the least member
 abbrev pub conf_text : ConfId → List ℕ
 conf_text (Regular c) = codes "r" ++ ring_text c
-conf_text (Transitional next least) = codes "t" ++ ring_text next ++ codes "/" ++ decimal least
+conf_text (Transitional least next) = codes "t" ++ ring_text next ++ codes "/" ++ decimal least
 
 -- a message: its ring, a hash, its number
 abbrev pub message_text : MessageName → List ℕ
@@ -41,7 +41,7 @@ pub record IsRing (c : RingName) : Type 0 where
 -- a configuration's parts are in range
 abbrev pub IsConf : ConfId → Type 0
 IsConf (Regular c) = IsRing c
-IsConf (Transitional next least) = IsRing next × IsProcess least
+IsConf (Transitional least next) = IsRing next × IsProcess least
 
 -- a message's parts are in range
 pub record IsMessage (m : MessageName) : Type 0 where

@@ -24,7 +24,7 @@ use Rattle.totem_laws.specs.Laws.{BrokenIsNotMet, FaultsAreNotMet, EachIsMet}
 
 not_both : (x : ConfId) → IsRegular x → IsTransitional x → ⊥
 not_both (Regular c) r t = t
-not_both (Transitional next least) r t = r
+not_both (Transitional least next) r t = r
 
 unsent : (run : List Log) (places : List Place) → BreaksUnsent run places → MeetsSpec run spec.Unsent → ⊥
 unsent run (e ∷ []) (i, at, (m, d, delivers, never)) ok = never (ok e.proc i m d delivers)
@@ -60,9 +60,9 @@ neighbours : (log : List Entry) (i j : ℕ) → TakesTurns log → AreWrongNeigh
 neighbours log i j ok (x, y, ms, ns, next, inl (r, s)) = not_both y s ((ok.turns i j x y ms ns next).0 r)
 neighbours log i j ok (x, y, ms, ns, next, inr (inl (r, s))) = not_both x ((ok.turns i j x y ms ns next).1 s) r
 neighbours log i j ok (Regular c, y, ms, ns, next, inr (inr (inl (r, t, never)))) = never (ok.from i j c y ms ns t next)
-neighbours log i j ok (Transitional c l, y, ms, ns, next, inr (inr (inl (r, t, never)))) = r
+neighbours log i j ok (Transitional l c, y, ms, ns, next, inr (inr (inl (r, t, never)))) = r
 neighbours log i j ok (x, Regular c, ms, ns, next, inr (inr (inr (inl (t, r, never))))) = never (ok.to i j x c ms ns t next)
-neighbours log i j ok (x, Transitional c l, ms, ns, next, inr (inr (inr (inl (t, r, never))))) = r
+neighbours log i j ok (x, Transitional l c, ms, ns, next, inr (inr (inr (inl (t, r, never))))) = r
 neighbours log i j ok (x, y, ms, ns, next, inr (inr (inr (inr (c, d, least, is_x, is_y, other))))) =
     other (ok.named i j c d least ms ns (rw (is_x, is_y) at next))
 

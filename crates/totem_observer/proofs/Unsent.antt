@@ -43,11 +43,11 @@ module _ {run : List Log} {lines : List Numbering} {list : List Gathered} (all :
     where
       both : (x : ConfId) → IsRegular x → IsTransitional x → ⊥
       both (Regular c) r m = m
-      both (Transitional next least) r m = r
+      both (Transitional least next) r m = r
 
       ring_of : (x : ConfId) → IsRegular x → (c : RingId) × (x ≡ Regular c)
       ring_of (Regular c) r = (c, refl)
-      ring_of (Transitional next least) r = absurd r
+      ring_of (Transitional least next) r = absurd r
 
       from_last : (j : ℕ) → LastBefore (log_of run p) i j → IsChange (log_of run p) j → (c : RingId) × Follows (log_of run p) c t
       from_last j last (y, (ms, at_j)) =
@@ -70,7 +70,7 @@ module _ {run : List Log} {lines : List Numbering} {list : List Gathered} (all :
   unsent_met p i m (Regular c) delivers =
       let stands = (orderly.placed p).named i (Regular c) (Deliver m (Regular c), delivers, refl) in
       sent_in p i stands.from m c (Regular c) delivers stands.change (inl refl)
-  unsent_met p i m (Transitional next least) delivers =
-      let stands = (orderly.placed p).named i (Transitional next least) (Deliver m (Transitional next least), delivers, refl) in
-      let from = origin p stands.from (Transitional next least) stands.change tt in
-      sent_in p i from.1.from m from.0 (Transitional next least) delivers from.1.first.change (inr from.1)
+  unsent_met p i m (Transitional least next) delivers =
+      let stands = (orderly.placed p).named i (Transitional least next) (Deliver m (Transitional least next), delivers, refl) in
+      let from = origin p stands.from (Transitional least next) stands.change tt in
+      sent_in p i from.1.from m from.0 (Transitional least next) delivers from.1.first.change (inr from.1)

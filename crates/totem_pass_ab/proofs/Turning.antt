@@ -97,26 +97,26 @@ one_succession log i j k x x' y y' ms ms' ns ns' a b =
 pub wrong_succession : (x y : ConfId) (ms ns : List ℕ)
     → (IsRegular x × IsRegular y) ⊎ (IsTransitional x × IsTransitional y)
     ⊎ (IsRegular x × IsTransitional y × (All (Contains ms) ns → ⊥)) ⊎ (IsTransitional x × IsRegular y × (All (Contains ns) ms → ⊥))
-    ⊎ ((next c : RingId) × (least : ℕ) × (x ≡ Transitional next least) × (y ≡ Regular c) × (c ≢ next)) → IsWrongSuccession x ms y ns
+    ⊎ ((next c : RingId) × (least : ℕ) × (x ≡ Transitional least next) × (y ≡ Regular c) × (c ≢ next)) → IsWrongSuccession x ms y ns
 wrong_succession (Regular c) (Regular d) ms ns h = tt
-wrong_succession (Regular c) (Transitional n l) ms ns (inl (r, s)) = absurd s
-wrong_succession (Regular c) (Transitional n l) ms ns (inr (inl (s, t))) = absurd s
-wrong_succession (Regular c) (Transitional n l) ms ns (inr (inr (inl (r, t, never)))) = never
-wrong_succession (Regular c) (Transitional n l) ms ns (inr (inr (inr (inl (t, r, never))))) = absurd t
-wrong_succession (Regular c) (Transitional n l) ms ns (inr (inr (inr (inr (m, d, k, is_x, is_y, other))))) = absurd cc
-wrong_succession (Transitional n l) (Regular c) ms ns (inl (r, s)) = absurd r
-wrong_succession (Transitional n l) (Regular c) ms ns (inr (inl (s, t))) = absurd t
-wrong_succession (Transitional n l) (Regular c) ms ns (inr (inr (inl (r, t, never)))) = absurd r
-wrong_succession (Transitional n l) (Regular c) ms ns (inr (inr (inr (inl (t, r, never))))) = inl never
-wrong_succession (Transitional n l) (Regular c) ms ns (inr (inr (inr (inr (m, d, k, is_x, is_y, other))))) = inr (λ e. other cc)
-wrong_succession (Transitional n l) (Transitional m k) ms ns h = tt
+wrong_succession (Regular c) (Transitional l n) ms ns (inl (r, s)) = absurd s
+wrong_succession (Regular c) (Transitional l n) ms ns (inr (inl (s, t))) = absurd s
+wrong_succession (Regular c) (Transitional l n) ms ns (inr (inr (inl (r, t, never)))) = never
+wrong_succession (Regular c) (Transitional l n) ms ns (inr (inr (inr (inl (t, r, never))))) = absurd t
+wrong_succession (Regular c) (Transitional l n) ms ns (inr (inr (inr (inr (m, d, k, is_x, is_y, other))))) = absurd cc
+wrong_succession (Transitional l n) (Regular c) ms ns (inl (r, s)) = absurd r
+wrong_succession (Transitional l n) (Regular c) ms ns (inr (inl (s, t))) = absurd t
+wrong_succession (Transitional l n) (Regular c) ms ns (inr (inr (inl (r, t, never)))) = absurd r
+wrong_succession (Transitional l n) (Regular c) ms ns (inr (inr (inr (inl (t, r, never))))) = inl never
+wrong_succession (Transitional l n) (Regular c) ms ns (inr (inr (inr (inr (m, d, k, is_x, is_y, other))))) = inr (λ e. other cc)
+wrong_succession (Transitional l n) (Transitional k m) ms ns h = tt
 
 pub wrong_neighbours : (log : List Entry) (i j : ℕ) (x y : ConfId) (ms ns : List ℕ) → ChangesNext log i j x y ms ns → IsWrongSuccession x ms y ns → AreWrongNeighbours log i j
 wrong_neighbours log i j (Regular c) (Regular d) ms ns succession w = (Regular c, Regular d, ms, ns, succession, inl (tt, tt))
-wrong_neighbours log i j (Regular c) (Transitional n l) ms ns succession w = (Regular c, Transitional n l, ms, ns, succession, inr (inr (inl (tt, tt, w))))
-wrong_neighbours log i j (Transitional n l) (Regular c) ms ns succession (inl w) = (Transitional n l, Regular c, ms, ns, succession, inr (inr (inr (inl (tt, tt, w)))))
-wrong_neighbours log i j (Transitional n l) (Regular c) ms ns succession (inr w) = (Transitional n l, Regular c, ms, ns, succession, inr (inr (inr (inr (n, c, l, refl, refl, w)))))
-wrong_neighbours log i j (Transitional n l) (Transitional m k) ms ns succession w = (Transitional n l, Transitional m k, ms, ns, succession, inr (inl (tt, tt)))
+wrong_neighbours log i j (Regular c) (Transitional l n) ms ns succession w = (Regular c, Transitional l n, ms, ns, succession, inr (inr (inl (tt, tt, w))))
+wrong_neighbours log i j (Transitional l n) (Regular c) ms ns succession (inl w) = (Transitional l n, Regular c, ms, ns, succession, inr (inr (inr (inl (tt, tt, w)))))
+wrong_neighbours log i j (Transitional l n) (Regular c) ms ns succession (inr w) = (Transitional l n, Regular c, ms, ns, succession, inr (inr (inr (inr (n, c, l, refl, refl, w)))))
+wrong_neighbours log i j (Transitional l n) (Transitional k m) ms ns succession w = (Transitional l n, Transitional k m, ms, ns, succession, inr (inl (tt, tt)))
 
 same_wrong : (x x' y y' : ConfId) (ms ms' ns ns' : List ℕ) → x' ≡ x → ms' ≡ ms → y' ≡ y → ns' ≡ ns → IsWrongSuccession x' ms' y' ns' → IsWrongSuccession x ms y ns
 same_wrong x x' y y' ms ms' ns ns' a b c d h =
@@ -203,7 +203,7 @@ some_after_right run p i j x y ms ns c rest not_first succession right is_c leas
 }
   where
     moves_on : (z : ConfId) → z ≡ y → IsTransitional z
-    moves_on (Transitional n l) e = tt
+    moves_on (Transitional l n) e = tt
     moves_on (Regular d) e = absurd (right (same_wrong x (Regular c) y (Regular d) ms ms ns ns (sym is_c) refl e refl tt))
 
     known : (rest : List Place) → IsOtherOrigin run p c y rest → IsTurnRest run p i j rest
@@ -239,7 +239,7 @@ no_other_to_there run p c t q k j x y ms ns succession never = record { none = �
 
 pub other_here : (run : List Log) (p : ℕ) (c : RingId) (t : ConfId) (q k j : ℕ) (x y : ConfId) (ms ns : List ℕ) → p < q → ChangesNext (log_of run q) k j x y ms ns → IsOfOtherRing c x → y ≡ t
     → IsLeastFrom (IsOtherOrigin run p c t) q k (place q j ∷ [])
-other_here run p c t q k j (Transitional n l) y ms ns lt succession other same = absurd other
+other_here run p c t q k j (Transitional l n) y ms ns lt succession other same = absurd other
 other_here run p c t q k j (Regular d) y ms ns lt succession other same = record {
   least = record {
     holds = (k, refl, (j, refl, (refl, (lt, d, ms, ns, other, rw same at succession))));
@@ -327,7 +327,7 @@ no_turn_faults run never = record { each = λ p. each p; origin = λ p i j q k l
       turns = λ i j x y ms ns succession. right_kinds x y ms ns (right p i j x y ms ns succession);
       from = λ i j c y ms ns moves succession. right_from c y ms ns moves (right p i j (Regular c) y ms ns succession);
       to = λ i j x c ms ns moves succession. right_to x c ms ns moves (right p i j x (Regular c) ms ns succession);
-      named = λ i j next c least ms ns succession. right_name next c least ms ns (right p i j (Transitional next least) (Regular c) ms ns succession);
+      named = λ i j next c least ms ns succession. right_name next c least ms ns (right p i j (Transitional least next) (Regular c) ms ns succession);
     }
 
     origin : (p i j q k l : ℕ) (c d : RingId) (t : ConfId) (ms ns ks ls : List ℕ) → p < q → IsTransitional t

@@ -19,7 +19,7 @@ pub record HasNoSuccession (log : List Entry) (i : ℕ) : Type 0 where
 -- the regular configuration of another ring than c
 abbrev pub IsOfOtherRing : RingId → ConfId → Type 0
 IsOfOtherRing c (Regular d) = c ≢ d
-IsOfOtherRing c (Transitional next least) = ⊥
+IsOfOtherRing c (Transitional least next) = ⊥
 
 -- a log above p's comes to t from another ring than c
 abbrev pub ComesFromElsewhere : List Log → ℕ → RingId → ConfId → ℕ → ℕ → ℕ → Type 0

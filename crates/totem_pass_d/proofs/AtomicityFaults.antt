@@ -62,7 +62,7 @@ record Spans (log : List Entry) (x : ConfId) (ch nx : ℕ) : Type 0 where
 
 spans : (run : List Log) (c : RingId) (stays : List Stay) (stay : Stay) (x : ConfId) (ch nx : ℕ) → Facts run c stays → IsAmong stays stay → IsSpan x stay ch nx → Com (log_of run stay.proc) c x → Spans (log_of run stay.proc) x ch nx
 spans run c stays stay (Regular r) ch nx facts among (is_ch, is_nx) (inr f) = absurd f.transitional
-spans run c stays stay (Transitional n l) ch nx facts among (is_ch, is_nx) (inl same) = absurd cc
+spans run c stays stay (Transitional l n) ch nx facts among (is_ch, is_nx) (inl same) = absurd cc
 spans run c stays stay (Regular r) ch nx facts among (is_ch, is_nx) (inl same) =
     let of = facts.each stay among in
     record {
@@ -70,9 +70,9 @@ spans run c stays stay (Regular r) ch nx facts among (is_ch, is_nx) (inl same) =
       next = λ lt. rw (is_ch, is_nx) (of.is.next (rw is_nx at lt)).1;
       one = λ k next. rw is_nx (next_of_from (log_of run stay.proc) c stay.from stay.turn stay.end k of.is (rw is_ch at next));
     }
-spans run c stays stay (Transitional n l) ch nx facts among (is_ch, is_nx) (inr f) =
+spans run c stays stay (Transitional l n) ch nx facts among (is_ch, is_nx) (inr f) =
     let of = facts.each stay among in
-    let turn = turn_of run c stays stay (Transitional n l) facts among f in
+    let turn = turn_of run c stays stay (Transitional l n) facts among f in
     record {
       change = rw is_ch turn.0;
       next = λ lt. rw (is_ch, is_nx) (of.is.last turn.1 (rw is_nx at lt));
@@ -93,12 +93,12 @@ goes_here run c stays stay x d ch nx facts among span inside to =
 belongs : (run : List Log) (c : RingId) (stays : List Stay) (stay : Stay) (x : ConfId) (ch nx : ℕ) → Facts run c stays → IsAmong stays stay → IsSpan x stay ch nx → ChangesTo (log_of run stay.proc) ch x → Com (log_of run stay.proc) c x
 belongs run c stays stay (Regular r) ch nx facts among (is_ch, is_nx) change =
     inl (same_change (log_of run stay.proc) ch stay.from (Regular r) (Regular c) is_ch change (facts.each stay among).is.change)
-belongs run c stays stay (Transitional n l) ch nx facts among (is_ch, is_nx) change =
+belongs run c stays stay (Transitional l n) ch nx facts among (is_ch, is_nx) change =
     let of = facts.each stay among in
-    let at : ChangesTo (log_of run stay.proc) stay.turn (Transitional n l) = rw is_ch at change in
-    let lt = (of.is.next (change_within (log_of run stay.proc) stay.turn (Transitional n l) at)).0 in
+    let at : ChangesTo (log_of run stay.proc) stay.turn (Transitional l n) = rw is_ch at change in
+    let lt = (of.is.next (change_within (log_of run stay.proc) stay.turn (Transitional l n) at)).0 in
     let turn = of.is.turns lt in
-    let same = same_change (log_of run stay.proc) stay.turn stay.turn turn.conf (Transitional n l) refl turn.change at in
+    let same = same_change (log_of run stay.proc) stay.turn stay.turn turn.conf (Transitional l n) refl turn.change at in
     inr (rw same at turn.follows)
 
 -- a process that goes along without the message

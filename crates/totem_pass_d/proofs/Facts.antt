@@ -47,7 +47,7 @@ pub record Facts (run : List Log) (c : RingId) (stays : List Stay) : Type 0 wher
 
 not_both : (x : ConfId) → IsRegular x → IsTransitional x → ⊥
 not_both (Regular c) r t = t
-not_both (Transitional n l) r t = r
+not_both (Transitional l n) r t = r
 
 -- the entry at the turn of a stay names no configuration
 pub at_turn_no_name : (log : List Entry) (c : RingId) (from turn end i : ℕ) (x : ConfId) → IsStay log c from turn end → turn < end → i ≡ turn → Names log i x → ⊥

@@ -28,7 +28,7 @@ IsAnywhere stay i = Unit {0}
 -- the index at which a stay changes to x, which is c or what follows it, and the index of the next change or of the end
 abbrev pub IsSpan : ConfId → Stay → ℕ → ℕ → Type 0
 IsSpan (Regular c) stay change next = (change ≡ stay.from) × (next ≡ stay.turn)
-IsSpan (Transitional ring least) stay change next = (change ≡ stay.turn) × (next ≡ stay.end)
+IsSpan (Transitional least ring) stay change next = (change ≡ stay.turn) × (next ≡ stay.end)
 
 -- there is no change at the index
 pub record IsNoChange (log : List Entry) (i : ℕ) : Type 0 where

@@ -121,7 +121,7 @@ catches_up at low high safe_to (e ∷ es) rises begins le whole safe =
 -- the finish, given its parts: the old and the new ring, the new members, T, O, the regular part and its last number
 written : RingName → RingName → List ℕ → List ℕ → List ℕ → List message.Message → ℕ → Held → List Entry
 written old ring members transitional obliged regular last held =
-    let between = Transitional ring (id_of (slice_index transitional 0)) in
+    let between = Transitional (id_of (slice_index transitional 0)) ring in
     deliveries (Regular old) regular
     ++ Conf between transitional ∷ []
     ++ deliveries between (rest_from obliged last (held_above last held))

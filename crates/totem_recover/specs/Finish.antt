@@ -40,7 +40,7 @@ rest_from obliged last (e ∷ es) = if e.0 == last + 1 then e.1 ∷ rest_from ob
 
 -- the transitional configuration, named by the new ring and the least identifier of T
 abbrev pub between_rings : Leaving → ConfId
-between_rings r = Transitional r.ring (id_of (slice_index r.transitional 0))
+between_rings r = Transitional (id_of (slice_index r.transitional 0)) r.ring
 
 abbrev pub finish : Leaving → Ring → List Entry
 finish r old =

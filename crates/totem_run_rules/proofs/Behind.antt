@@ -65,9 +65,9 @@ turns_right log at j (Some i) w x ls ms c last from next wrong =
 
 pub one_origin : (log : List Entry) (at j : ℕ) (before : Option ℕ) (d : RingId) (x : ConfId) (ls ms : List ℕ) (c : RingId) → IsTransitional x → IsLastBefore log at before → ComesFrom log before x ms c → ChangesNext log j at (Regular d) x ls ms → c ≡ d
 one_origin log at j before d (Regular e) ls ms c trans last from next = absurd trans
-one_origin log at j None d (Transitional n l) ls ms c trans last from next = (let is : Transitional n l ≡ Regular c = from in cc)
-one_origin log at j (Some i) d (Transitional n l) ls ms c trans last from next =
-    let same = same_entry log i j (Regular d) from.conf ls from.members (one_before log at i j (Regular d) (Transitional n l) ls ms last next) from.change next.first in
+one_origin log at j None d (Transitional l n) ls ms c trans last from next = (let is : Transitional l n ≡ Regular c = from in cc)
+one_origin log at j (Some i) d (Transitional l n) ls ms c trans last from next =
+    let same = same_entry log i j (Regular d) from.conf ls from.members (one_before log at i j (Regular d) (Transitional l n) ls ms last next) from.change next.first in
     let both : Regular c ≡ Regular d = sym from.origin ∙ same.0 in
     cc
 
@@ -76,17 +76,17 @@ one_origin log at j (Some i) d (Transitional n l) ls ms c trans last from next =
 -- a succession that is not wrong meets the requirements
 pub right_kinds : (x y : ConfId) (ms ns : List ℕ) → (IsWrongSuccession x ms y ns → ⊥) → IsRegular x ↔ IsTransitional y
 right_kinds (Regular c) (Regular d) ms ns right = absurd (right tt)
-right_kinds (Regular c) (Transitional n l) ms ns right = (λ _. tt, λ _. tt)
-right_kinds (Transitional n l) (Regular c) ms ns right = (λ h. h, λ h. h)
-right_kinds (Transitional n l) (Transitional m k) ms ns right = absurd (right tt)
+right_kinds (Regular c) (Transitional l n) ms ns right = (λ _. tt, λ _. tt)
+right_kinds (Transitional l n) (Regular c) ms ns right = (λ h. h, λ h. h)
+right_kinds (Transitional l n) (Transitional k m) ms ns right = absurd (right tt)
 
 pub right_from : (c : RingId) (y : ConfId) (ms ns : List ℕ) → IsTransitional y → (IsWrongSuccession (Regular c) ms y ns → ⊥) → All (Contains ms) ns
 right_from c (Regular d) ms ns trans right = absurd trans
-right_from c (Transitional n l) ms ns trans right = elim (all_or_not ms ns) [ inl all ↦ all | inr never ↦ absurd (right never) ]
+right_from c (Transitional l n) ms ns trans right = elim (all_or_not ms ns) [ inl all ↦ all | inr never ↦ absurd (right never) ]
 
 pub right_to : (x : ConfId) (c : RingId) (ms ns : List ℕ) → IsTransitional x → (IsWrongSuccession x ms (Regular c) ns → ⊥) → All (Contains ns) ms
 right_to (Regular d) c ms ns trans right = absurd trans
-right_to (Transitional n l) c ms ns trans right = elim (all_or_not ns ms) [ inl all ↦ all | inr never ↦ absurd (right (inl never)) ]
+right_to (Transitional l n) c ms ns trans right = elim (all_or_not ns ms) [ inl all ↦ all | inr never ↦ absurd (right (inl never)) ]
 
-pub right_name : (next c : RingId) (least : ℕ) (ms ns : List ℕ) → (IsWrongSuccession (Transitional next least) ms (Regular c) ns → ⊥) → c ≡ next
+pub right_name : (next c : RingId) (least : ℕ) (ms ns : List ℕ) → (IsWrongSuccession (Transitional least next) ms (Regular c) ns → ⊥) → c ≡ next
 right_name next c least ms ns right = elim (same_ring_or_not c next) [ inl same ↦ same | inr never ↦ absurd (right (inr never)) ]

@@ -138,7 +138,7 @@ module _ (run : List Log) (firsts : FirstChanges) (k : ℕ) (end : length run �
     turns = λ i j x y ms ns next. right_kinds x y ms ns (not_wrong p i j x y ms ns next);
     from = λ i j c y ms ns trans next. right_from c y ms ns trans (not_wrong p i j (Regular c) y ms ns next);
     to = λ i j x c ms ns trans next. right_to x c ms ns trans (not_wrong p i j x (Regular c) ms ns next);
-    named = λ i j next c least ms ns changes. right_name next c least ms ns (not_wrong p i j (Transitional next least) (Regular c) ms ns changes);
+    named = λ i j next c least ms ns changes. right_name next c least ms ns (not_wrong p i j (Transitional least next) (Regular c) ms ns changes);
   }
 
   one_ring : HasOneOrigin run

@@ -65,7 +65,7 @@ same_ring_or_not c d = same_or_not (both_or_not (cases_eq c.seq d.seq) (cases_eq
 
 pub regular_or_transitional : (x : ConfId) → IsRegular x ⊎ IsTransitional x
 regular_or_transitional (Regular c) = inl tt
-regular_or_transitional (Transitional next least) = inr tt
+regular_or_transitional (Transitional least next) = inr tt
 
 -- loops over a list of processes
 pub all_in_itself : (ms ns : List ℕ) → ms ≡ ns → All (Contains ms) ns

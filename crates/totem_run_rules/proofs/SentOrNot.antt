@@ -19,9 +19,9 @@ use Rattle.totem_run_rules.proofs.Decisions.{both_or_not, same_or_not, below_or_
 
 pub same_conf_or_not : (x y : ConfId) → (x ≡ y) ⊎ (x ≡ y → ⊥)
 same_conf_or_not (Regular c) (Regular d) = same_or_not (same_ring_or_not c d) (λ same. ap Regular same) (λ e. cc)
-same_conf_or_not (Regular c) (Transitional n l) = inr (λ e. cc)
-same_conf_or_not (Transitional n l) (Regular c) = inr (λ e. cc)
-same_conf_or_not (Transitional n l) (Transitional m k) = same_or_not (both_or_not (same_ring_or_not n m) (cases_eq l k)) (λ h. let a = h.0 in let b = h.1 in cc) (λ e. (cc, cc))
+same_conf_or_not (Regular c) (Transitional l n) = inr (λ e. cc)
+same_conf_or_not (Transitional l n) (Regular c) = inr (λ e. cc)
+same_conf_or_not (Transitional l n) (Transitional k m) = same_or_not (both_or_not (same_ring_or_not n m) (cases_eq l k)) (λ h. let a = h.0 in let b = h.1 in cc) (λ e. (cc, cc))
 
 same_message : (m n : MsgId) → m.ring ≡ n.ring → m.number ≡ n.number → m ≡ n
 same_message m n ring number =
@@ -118,7 +118,7 @@ next_change_or_not log i = elim (first_or_none log (λ j e. (i < j) × IsAnyChan
 
 pub transitional_or_not : (x : ConfId) → IsTransitional x ⊎ (IsTransitional x → ⊥)
 transitional_or_not (Regular c) = inr (λ h. h)
-transitional_or_not (Transitional n l) = inl tt
+transitional_or_not (Transitional l n) = inl tt
 
 next_is : (log : List Entry) (c : RingId) (d : ConfId) (i j : ℕ) → IsFirstChange log (Regular c) i → IsNextChange log i j → Follows log c d → ChangesTo log j d
 next_is log c d i j first next f =
@@ -155,7 +155,7 @@ in_or_not log c d = elim (same_conf_or_not d (Regular c)) [
 send_or_not : (log : List Entry) (m : MsgId) (d : ConfId) (q j : ℕ) (e : Entry) → IsSendTo log m d q j e ⊎ (IsSendTo log m d q j e → ⊥)
 send_or_not log m d q j (Conf x ms) = inr (λ h. h)
 send_or_not log m d q j (Send n (Regular c) s) = both_or_not (same_message_or_not n m) (in_or_not log c d)
-send_or_not log m d q j (Send n (Transitional x l) s) = inr (λ h. h)
+send_or_not log m d q j (Send n (Transitional l x) s) = inr (λ h. h)
 send_or_not log m d q j (Deliver n x) = inr (λ h. h)
 send_or_not log m d q j (Fail x) = inr (λ h. h)
 
@@ -189,7 +189,7 @@ has_send run log m d p found = go found.entry found.at found.has
     go : (e : Entry) → slice_get (log_of run p) found.index ≡ Some e → IsSendTo log m d p found.index e → WasSentTo run log m d
     go (Conf x ms) at h = absurd h
     go (Send n (Regular c) s) at (same, inside) = (c, (p, found.index, (s, rw same at at)), inside)
-    go (Send n (Transitional x l) s) at h = absurd h
+    go (Send n (Transitional l x) s) at h = absurd h
     go (Deliver n x) at h = absurd h
     go (Fail x) at h = absurd h
 

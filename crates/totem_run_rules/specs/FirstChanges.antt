@@ -41,7 +41,7 @@ IsLastBefore log at (Some i) = StandsBefore log at i
 -- after a change to w: its own ring for a regular configuration, the ring of w for a transitional one
 abbrev pub IsOrigin : ConfId → ConfId → RingId → Type 0
 IsOrigin w (Regular d) c = c ≡ d
-IsOrigin w (Transitional next least) c = w ≡ Regular c
+IsOrigin w (Transitional least next) c = w ≡ Regular c
 
 -- the change at i may be followed by one to x, and c is the origin
 pub record ComesBehind (log : List Entry) (i : ℕ) (x : ConfId) (ms : List ℕ) (c : RingId) : Type 0 where

@@ -18,6 +18,6 @@ WasSentTo run log m d = (c : RingId) × WasSentIn run m (Regular c) × Com log c
 abbrev pub IsSendTo : List Entry → MsgId → ConfId → ℕ → ℕ → Entry → Type 0
 IsSendTo log m d q j (Conf x ms) = ⊥
 IsSendTo log m d q j (Send n (Regular c) service) = (n ≡ m) × Com log c d
-IsSendTo log m d q j (Send n (Transitional next least) service) = ⊥
+IsSendTo log m d q j (Send n (Transitional least next) service) = ⊥
 IsSendTo log m d q j (Deliver n x) = ⊥
 IsSendTo log m d q j (Fail x) = ⊥

@@ -6,6 +6,6 @@ use Rattle.totem_ids.specs.declared.conf.ConfId.TheVariants.{Regular, Transition
 -- the second of these changes may not be the next after the first
 abbrev pub IsWrongSuccession : ConfId → List ℕ → ConfId → List ℕ → Type 0
 IsWrongSuccession (Regular c) ms (Regular d) ns = Unit {0}
-IsWrongSuccession (Regular c) ms (Transitional next least) ns = All (Contains ms) ns → ⊥
-IsWrongSuccession (Transitional next least) ms (Regular c) ns = (All (Contains ns) ms → ⊥) ⊎ (c ≢ next)
-IsWrongSuccession (Transitional next least) ms (Transitional later other) ns = Unit {0}
+IsWrongSuccession (Regular c) ms (Transitional least next) ns = All (Contains ms) ns → ⊥
+IsWrongSuccession (Transitional least next) ms (Regular c) ns = (All (Contains ns) ms → ⊥) ⊎ (c ≢ next)
+IsWrongSuccession (Transitional least next) ms (Transitional other later) ns = Unit {0}

@@ -53,14 +53,14 @@ no_origin_is log t None h = (λ e. h, λ n. refl)
 no_origin_is log t (Some c) h = (λ e. absurd cc, λ n. absurd (n.never c h.follows))
 
 -- a transitional d belongs to c exactly if it is the result
-pub some_answers : (log : List Entry) (c : RingId) (o : Option ConfId) (t d : ConfId) (next : RingId) (least : ℕ) (b : Bool) → IsFollower log c o → Some t ≡ o → d ≡ Transitional next least → IsTrue b ↔ (t ≡ d) → IsTrue b ↔ Com log c d
+pub some_answers : (log : List Entry) (c : RingId) (o : Option ConfId) (t d : ConfId) (next : RingId) (least : ℕ) (b : Bool) → IsFollower log c o → Some t ≡ o → d ≡ Transitional least next → IsTrue b ↔ (t ≡ d) → IsTrue b ↔ Com log c d
 some_answers log c o t d next least b h is moves same = (λ k. inr ((follower_is log c o h d).0 (sym is ∙ ap (λ (z : ConfId). Some z) (same.0 k))), λ k. from k)
   where
     from : (d ≡ Regular c) ⊎ Follows log c d → IsTrue b
     from (inl e) = absurd cc
     from (inr f) = same.1 (let e : Some t ≡ Some d = is ∙ (follower_is log c o h d).1 f in cc)
 
-pub none_answers : (log : List Entry) (c : RingId) (o : Option ConfId) (d : ConfId) (next : RingId) (least : ℕ) → IsFollower log c o → None ≡ o → d ≡ Transitional next least → IsTrue false ↔ Com log c d
+pub none_answers : (log : List Entry) (c : RingId) (o : Option ConfId) (d : ConfId) (next : RingId) (least : ℕ) → IsFollower log c o → None ≡ o → d ≡ Transitional least next → IsTrue false ↔ Com log c d
 none_answers log c o d next least h is moves = (λ k. absurd cc, λ k. absurd (from k))
   where
     from : (d ≡ Regular c) ⊎ Follows log c d → ⊥

@@ -37,7 +37,7 @@ regular_next log i j x c ms at is lt before = record {
 }
 
 -- the next change is to a transitional one
-pub moves_here : (log : List Entry) (i j : ℕ) (x : ConfId) (next : RingId) (least : ℕ) (ms : List ℕ) → slice_get log j ≡ Some (Conf x ms) → x ≡ Transitional next least → i < j → NoneBetween log i j → MovesNext log i x
+pub moves_here : (log : List Entry) (i j : ℕ) (x : ConfId) (next : RingId) (least : ℕ) (ms : List ℕ) → slice_get log j ≡ Some (Conf x ms) → x ≡ Transitional least next → i < j → NoneBetween log i j → MovesNext log i x
 moves_here log i j x next least ms at is lt before = record {
   next = record { to = j; next = is_next log i j x ms at lt before; change = (ms, at) };
   transitional = rw is tt;

@@ -14,7 +14,7 @@ is_delivery (Fail x) = false
 
 abbrev pub is_regular : ConfId → Bool
 is_regular (Regular c) = true
-is_regular (Transitional next least) = false
+is_regular (Transitional least next) = false
 
 -- a regular configuration is installed
 abbrev pub is_installation : Entry → Bool
