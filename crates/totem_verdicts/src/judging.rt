@@ -4,10 +4,10 @@ ghost use Rattle.totem_ids.specs.Sources.{seen};
 ghost use Rattle.totem_ids.specs.Writing.{held};
 ghost use Rattle.totem_verdicts.specs.Endings.{Judges, Points, bare};
 
-use crate::auditing::audit_io;
-use crate::checking::check_io;
-use crate::drawing::draw_io;
-use crate::explaining::explain_io;
+use crate::audit_stream::audit_io;
+use crate::check_stream::check_io;
+use crate::draw_stream::draw_io;
+use crate::explain_stream::explain_io;
 use crate::telling::{tell_fault, tell_with_words};
 use crate::verdict_fault::VerdictFault;
 use crate::words::Asked;

@@ -15,11 +15,11 @@
 
 mod alone;
 mod answering;
-mod auditing;
-mod checking;
+mod audit_stream;
+mod check_stream;
 mod command_line;
-mod drawing;
-mod explaining;
+mod draw_stream;
+mod explain_stream;
 mod judging;
 mod left_open;
 mod outcome;
@@ -31,11 +31,11 @@ mod words;
 
 pub use alone::auditor;
 pub use answering::answer;
-pub use auditing::audit_io;
-pub use checking::check_io;
+pub use audit_stream::audit_io;
+pub use check_stream::check_io;
 pub use command_line::{listed, no_words};
-pub use drawing::draw_io;
-pub use explaining::explain_io;
+pub use draw_stream::draw_io;
+pub use explain_stream::explain_io;
 pub use judging::judge_io;
 pub use outcome::Outcome;
 pub use run_words::RunWords;

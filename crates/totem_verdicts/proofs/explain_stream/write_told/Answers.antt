@@ -1,7 +1,7 @@
 use Rattle.std.proofs.Common.{ap}
 use Rattle.totem_evs.specs.RunRecord.{RunRecord}
 use Rattle.totem_verdicts.proofs.Reported.{no_told}
-use Rattle.totem_verdicts.proofs.explaining.write_told.Goals as goal
+use Rattle.totem_verdicts.proofs.explain_stream.write_told.Goals as goal
 
 pub returns-in-Ok-explain_no : goal.returns-in-Ok-explain_no
 returns-in-Ok-explain_no g c =

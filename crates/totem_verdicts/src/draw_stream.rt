@@ -4,7 +4,7 @@ ghost use Rattle.totem_ids.specs.Sources.{seen};
 ghost use Rattle.totem_ids.specs.Writing.{held};
 ghost use Rattle.totem_verdicts.specs.DrawIo.{DrawsRun, WritesDrawn};
 
-use crate::auditing::{judge, outcome, read_whole};
+use crate::audit_stream::{judge, outcome, read_whole};
 use crate::outcome::Outcome;
 use crate::report::write_text;
 use crate::verdict_fault::VerdictFault;

@@ -7,7 +7,7 @@ ghost use Rattle.totem_evs.specs.WriteRun.{WritesText};
 ghost use Rattle.totem_audit.specs.Verdicts.{answer_of};
 ghost use Rattle.totem_verdicts.specs.ExplainIo.{ExplainsRun, WritesTold, explained_text, explained_no_text};
 
-use crate::auditing::{judge, outcome, read_whole};
+use crate::audit_stream::{judge, outcome, read_whole};
 use crate::outcome::Outcome;
 use crate::report::{put_fault, write_text};
 use crate::verdict_fault::VerdictFault;

@@ -3,7 +3,7 @@ use Rattle.std.proofs.lemmas.Result.{err_from_is_err_and}
 use Rattle.totem_evs.specs.RunRecord.{RunRecord}
 use Rattle.totem_audit.specs.Verdicts.{answer_of}
 use Rattle.totem_verdicts.proofs.Reported.{audit_failed}
-use Rattle.totem_verdicts.proofs.auditing.audit_io.Goals as goal
+use Rattle.totem_verdicts.proofs.audit_stream.audit_io.Goals as goal
 
 pub returns-in_err-write_report : goal.returns-in_err-write_report
 returns-in_err-write_report g c =

@@ -2,7 +2,7 @@ use Rattle.std.proofs.Common.{rules}
 use Rattle.std.proofs.lemmas.Result.{err_from_is_err_and}
 use Rattle.totem_audit.specs.Verdicts.{answer_of}
 use Rattle.totem_verdicts.proofs.Reported.{audit_failed}
-use Rattle.totem_verdicts.proofs.explaining.explain_io.Goals as goal
+use Rattle.totem_verdicts.proofs.explain_stream.explain_io.Goals as goal
 
 pub returns-in_err-write_told : goal.returns-in_err-write_told
 returns-in_err-write_told g c =
