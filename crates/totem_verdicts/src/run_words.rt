@@ -92,7 +92,7 @@ fn weave_option<'a>(alloc: Global) -> Arg<'a> {
         .long("weave")
         .action(ArgAction::SetTrue)
         .help(
-            "Do not write the run. Look for a schedule: a single order of all that the nodes did on their first ring, 4.1, in which each packet is received after it was sent, and each step is one that the protocol allows. If there is one, write how many steps it has and, for each node, the messages that the ring delivered to it, in the order of delivery. If there is none, write one call of a node (an input, and its answer) that can't be part of such an order, even if any number of each node's last steps are left out",
+            "Do not write the run. Look for a schedule: a single order of all that the nodes did on their first ring, 4.1, in which each packet is received after it was sent, and each step is one that the protocol allows. If there is one, write how many steps it has and, for each node, the messages that the ring delivered to it, in the order of delivery. If there is none, write one call of a node (an input, and its answer) that no such order can contain, not even an order of only the beginnings of what the nodes did",
         )
 }
 

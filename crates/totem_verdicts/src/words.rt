@@ -34,7 +34,7 @@ pub enum Words {
 
 const ENDINGS: &str = "\
 Exit status:
-  0   audit, check, explain: the verdict is yes. sim, run: the run was written. run --weave: there is a schedule
+  0   audit, check, explain: the verdict is yes. sim, explain --script, run: the run was written. run --weave: there is a schedule
   1   audit, check, explain: the verdict is no. run --weave: there is no schedule
   2   the run, script or certificate was refused. run: a node's book, its record of inputs and answers, is full; use fewer ticks
   3   out of memory
