@@ -1,4 +1,3 @@
-pub mod Sought
 pub mod Standing
 pub mod Precedence
 pub mod Causal

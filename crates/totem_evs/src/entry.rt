@@ -92,7 +92,7 @@ impl Entry {
         ensures { IfOk result (λ e. e ≡ self.now) }
     {
         Ok(match self {
-            Entry::Conf(conf, members) => Entry::Conf(*conf, members.try_clone(alloc)?),
+            Entry::Conf(conf, members) => Entry::Conf(*conf, members.try_clone()?),
             Entry::Send(message, conf, service) => Entry::Send(*message, *conf, *service),
             Entry::Deliver(message, conf) => Entry::Deliver(*message, *conf),
             Entry::Fail(conf) => Entry::Fail(*conf),

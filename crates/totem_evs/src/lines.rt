@@ -8,6 +8,7 @@ ghost use Rattle.totem_evs.specs.RunGrammar.{members_at, change_at, send_at, del
 use crate::ending::{Ending, may_be_quiet};
 use crate::entry::Entry;
 use crate::members::Members;
+use crate::repeats::Repeats;
 use crate::stage::OpenLog;
 use std::alloc::Global;
 use totem_ids::{
@@ -27,6 +28,7 @@ fn read_members<S: Source>(
     alloc: Global,
     source: &mut S,
     version: Version,
+    repeats: &mut Repeats,
 ) -> Result<Members, ReadError>
     ensures { Reads (seen S.remaining S.failures source.old)
         (seen S.remaining S.failures source.new) result (members_at version 32 0) }
@@ -42,7 +44,7 @@ fn read_members<S: Source>(
         life_fits(Version::Three, proc);
         procs.push(proc)?;
         if byte == b'\n' {
-            return Ok(Members::of(procs));
+            return Ok(repeats.members(alloc, procs)?);
         }
         if byte != b' ' {
             return Err(ReadError::Text(TextFault::Word));
@@ -58,6 +60,7 @@ fn read_change<S: Source>(
     source: &mut S,
     version: Version,
     log: OpenLog,
+    repeats: &mut Repeats,
 ) -> Result<Line, ReadError>
     ensures read { Reads (seen S.remaining S.failures source.old)
         (seen S.remaining S.failures source.new) result (change_at version (log.entries == 1000000)) }
@@ -68,7 +71,7 @@ fn read_change<S: Source>(
     }
     word(source, b"onf ", TextFault::Word)?;
     let conf = read_conf(source, b' ')?;
-    let members = read_members(alloc, source, version)?;
+    let members = read_members(alloc, source, version, repeats)?;
     Ok(Line::Entry(Entry::Conf(conf, members)))
 }
 
@@ -195,6 +198,7 @@ pub fn read_line<S: Source>(
     source: &mut S,
     version: Version,
     log: OpenLog,
+    repeats: &mut Repeats,
 ) -> Result<Line, ReadError>
     ensures read { Reads (seen S.remaining S.failures source.old)
         (seen S.remaining S.failures source.new) result (line_at version (log.entries == 1000000) (nat_lt 0 log.entries) log.failed) }
@@ -202,7 +206,7 @@ pub fn read_line<S: Source>(
 {
     let letter = next(source)?;
     match letter {
-        b'c' => read_change(alloc, source, version, log),
+        b'c' => read_change(alloc, source, version, log, repeats),
         b's' => read_send(source, log),
         b'd' => read_delivery(source, log),
         b'f' => read_failure(source, log),

@@ -4,6 +4,7 @@ ghost use Rattle.totem_evs.specs.Members.{IsMembers, IsBelow};
 
 use std::alloc::{AllocError, Global};
 use std::marker::Model;
+use std::sync::Arc;
 use totem_ids::{Proc, Refused, are_same, rising};
 
 /// How many members a configuration may have at most.
@@ -12,48 +13,44 @@ const MOST: usize = 32;
 /// The members of a configuration: 1 to 32 processes whose identifiers are strictly ascending, so there is at most one life of each.
 #[derive(Debug, Drop)]
 pub struct Members {
-    procs: Vec<Proc>,
+    procs: Arc<Vec<Proc>>,
 }
 
 impl Model for Members {
     ghost use Rattle.std.specs.Prelude.{ℕ, List};
+    ghost use Rattle.std.specs.Arc.{arc_value};
     ghost use Rattle.totem_evs.specs.Members.{IsMembers};
 
     ghost Value = { List ℕ };
 
-    ghost view = { λ m. m.procs.items };
+    ghost view = { λ m. (arc_value m.procs).items };
 
-    ghost invariant = { λ m. IsMembers m.procs.items };
-}
-
-/// Returns whether the process is one of these.
-fn is_one_of(procs: &[Proc], proc: Proc) -> bool
-    ensures { IsTrue result ↔ Contains procs.now proc }
-{
-    for member in procs {
-        if member.rank() == proc.rank() {
-            return true;
-        }
-    }
-    false
+    ghost invariant = { λ m. IsMembers (arc_value m.procs).items };
 }
 
 impl Members {
     /// Makes the members from these processes. Otherwise refuses the list, with the first rule that it breaks.
-    pub fn new(procs: Vec<Proc>) -> Result<Members, Refused<Vec<Proc>>>
-        ensures { MatchResult result (λ m. (m ≡ procs.items) × IsMembers procs.items)
-            (λ r. (r.value.items ≡ procs.items) × Refuses 1 32 IsBelow procs.items r.fault) }
+    pub fn new(
+        alloc: Global,
+        procs: Vec<Proc>,
+    ) -> Result<Result<Members, Refused<Vec<Proc>>>, AllocError>
+        ensures { IfOk result (λ made. MatchResult made (λ m. (m ≡ procs.items) × IsMembers procs.items)
+            (λ r. (r.value.items ≡ procs.items) × Refuses 1 32 IsBelow procs.items r.fault)) }
     {
-        let procs = rising(1, MOST, procs)?;
-        Ok(Members { procs })
+        match rising(1, MOST, procs) {
+            Ok(procs) => Ok(Ok(Members::of(alloc, procs)?)),
+            Err(refused) => Ok(Err(refused)),
+        }
     }
 
     /// Makes the members from processes that are known to keep the rules.
-    pub fn of(procs: Vec<Proc>) -> Members
+    pub fn of(alloc: Global, procs: Vec<Proc>) -> Result<Members, AllocError>
         requires { IsMembers procs.items }
-        ensures { result ≡ procs.items }
+        ensures { IfOk result (λ m. m ≡ procs.items) }
     {
-        Members { procs }
+        Ok(Members {
+            procs: Arc::new(alloc, procs)?,
+        })
     }
 
     pub fn as_slice(&self) -> &[Proc]
@@ -66,15 +63,7 @@ impl Members {
     pub fn contains(&self, proc: Proc) -> bool
         ensures { IsTrue result ↔ Contains self.now proc }
     {
-        is_one_of(&self.procs, proc)
-    }
-
-    /// Returns the processes as a vector, without taking memory.
-    pub fn into_vec(self) -> Vec<Proc>
-        ensures { result.items ≡ self }
-    {
-        let Members { procs } = self;
-        procs
+        self.procs.contains(&proc)
     }
 
     /// Returns whether the two are the same members: `==` in a form that contracts can use.
@@ -84,11 +73,11 @@ impl Members {
         are_same(self.as_slice(), other.as_slice())
     }
 
-    pub fn try_clone(&self, alloc: Global) -> Result<Members, AllocError>
+    pub fn try_clone(&self) -> Result<Members, AllocError>
         ensures { IfOk result (λ m. m ≡ self.now) }
     {
         Ok(Members {
-            procs: self.procs.to_vec(alloc)?,
+            procs: Arc::try_clone(&self.procs)?,
         })
     }
 }

@@ -57,7 +57,7 @@ fn read_next<S: Source>(
     ensures follows { IfOk result (FollowsIn (writes_quiet version) log) }
 {
     repeats.note(alloc, source.at_hand())?;
-    read_line(alloc, source, version, log)
+    read_line(alloc, source, version, log, repeats)
 }
 
 // Reads the next line of a log that has not ended: an entry, or its end.

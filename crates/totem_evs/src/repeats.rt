@@ -1,19 +1,21 @@
 //! Lines of sends and deliveries that differ from the one before only in the number of their message, as most lines of a log do. They are
 //! read at once, by what they begin with.
-ghost use Rattle.std.specs.Prelude.{◌≡◌, ◌<◌, ◌≤◌, [], Ok, Bool, IfNone, IfSome, false, length, take};
+ghost use Rattle.std.specs.Prelude.{◌≡◌, ◌<◌, ◌≤◌, [], Ok, Bool, IfNone, IfOk, IfSome, false, length, take};
 ghost use Rattle.std.specs.Io.KnownBytes.{Keeps};
 ghost use Rattle.totem_ids.specs.Sources.{Comes, Reads, Settles, seen};
 ghost use Rattle.totem_ids.specs.declared.version.Version.{Version};
 ghost use Rattle.totem_evs.specs.declared.lines.Line.TheVariants as lines;
+ghost use Rattle.totem_evs.specs.Members.{IsMembers};
 ghost use Rattle.totem_evs.specs.Missing.{members_of};
 ghost use Rattle.totem_evs.specs.RunGrammar.{line_at};
 ghost use Rattle.totem_evs.specs.LineStarts.{BeginsWith, start_at, send_start, delivery_start, entry_of};
 
 use crate::entry::Entry;
+use crate::members::Members;
 use std::alloc::{AllocError, Global};
 use totem_ids::{
-    ConfId, FromRead, MsgId, ReadError, RingId, Service, Source, TextFault, next, number_within,
-    read_conf, read_ring, read_service, word,
+    ConfId, FromRead, MsgId, Proc, ReadError, RingId, Service, Source, TextFault, are_same, next,
+    number_within, read_conf, read_ring, read_service, word,
 };
 
 /// How many bytes a start has at most.
@@ -163,12 +165,13 @@ impl Repeat {
     }
 }
 
-/// The starts with which the lines of a run repeat, by the kind of line.
+/// The starts with which the lines of a run repeat, by the kind of line, and the members of the last change.
 #[derive(Drop)]
 pub struct Repeats {
     deliveries: Repeat,
     agreed: Repeat,
     safe: Repeat,
+    members: Option<Members>,
 }
 
 impl Repeats {
@@ -178,7 +181,24 @@ impl Repeats {
             deliveries: Repeat::new(alloc),
             agreed: Repeat::new(alloc),
             safe: Repeat::new(alloc),
+            members: None,
         }
+    }
+
+    /// Makes the members of a change from processes that are known to keep the rules. If they are those of the last change, both share
+    /// one list.
+    pub fn members(&mut self, alloc: Global, procs: Vec<Proc>) -> Result<Members, AllocError>
+        requires { IsMembers procs.items }
+        ensures { IfOk result (λ m. m ≡ procs.items) }
+    {
+        if let Some(last) = &self.members
+            && are_same(last.as_slice(), &procs)
+        {
+            return last.try_clone();
+        }
+        let members = Members::of(alloc, procs)?;
+        self.members = Some(members.try_clone()?);
+        Ok(members)
     }
 
     // Returns the start that the line with which these bytes begin may have.

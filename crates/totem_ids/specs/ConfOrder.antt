@@ -1,9 +1,10 @@
 -- How configurations compare: regular ones by ring, before the transitional ones by next ring and then by least member.
 use Rattle.std.proofs.Common.{◌≡◌, ◌==◌, ◌&&◌, ℕ, Bool, true, false, refl, ◌∙◌}
+use Rattle.std.proofs.Math.Bool.{and_comm}
 use Rattle.std.specs.Ordering.{ordering_then, ordering_reverse, nat_cmp, is_eq, eq_by_cmp, on, then_cmp}
 use Rattle.std.specs.declared.cmp.Ordering.{Ordering}
 use Rattle.std.specs.declared.cmp.Ordering.TheVariants.{Less, Equal, Greater}
-use Rattle.std.specs.Cmp.{IsTotalOrder, nat_cmp_total, on_total, then_total, unsigned_ties}
+use Rattle.std.specs.Cmp.{IsTotalOrder, nat_cmp_total, on_total, then_total, unsigned_ties, both_tied}
 use Rattle.totem_ids.specs.declared.conf.ConfId.{ConfId}
 use Rattle.totem_ids.specs.declared.conf.ConfId.TheVariants.{Regular, Transitional}
 use Rattle.totem_ids.specs.Names.{RingName}
@@ -50,20 +51,8 @@ conf_total = record { antisymm = antisymm; trans = trans; congr = congr }
     congr (Transitional p n) (Transitional q m) (Regular c) h = refl
     congr (Transitional p n) (Transitional q m) (Transitional r l) h = pairs.congr (n, p) (m, q) (l, r) h
 
--- two comparisons in turn answer `Equal` where both do
-both_tied : (r s : Ordering) (p q : Bool) → p ≡ is_eq r → q ≡ is_eq s → (p && q) ≡ is_eq (ordering_then r s)
-both_tied Less s p q e k = rw e refl
-both_tied Equal s p q e k = rw e k
-both_tied Greater s p q e k = rw e refl
-
-turned : (p q : Bool) → (p && q) ≡ (q && p)
-turned true true = refl
-turned true false = refl
-turned false true = refl
-turned false false = refl
-
 ring_ties : (a b : RingName) → ((a.seq == b.seq) && (a.rep == b.rep)) ≡ is_eq (ring_cmp a b)
-ring_ties a b = both_tied (nat_cmp a.seq b.seq) (nat_cmp a.rep b.rep) (a.seq == b.seq) (a.rep == b.rep) (unsigned_ties a.seq b.seq) (unsigned_ties a.rep b.rep)
+ring_ties a b = both_tied (a.seq == b.seq) (a.rep == b.rep) (nat_cmp a.seq b.seq) (nat_cmp a.rep b.rep) (unsigned_ties a.seq b.seq) (unsigned_ties a.rep b.rep)
 
 -- an `==` that compares the fields holds exactly of what compares as `Equal`
 pub conf_ties : (E : ConfId → ConfId → Bool) → ((a b : RingName) → E (Regular a) (Regular b) ≡ ((a.seq == b.seq) && (a.rep == b.rep)))
@@ -74,5 +63,5 @@ pub conf_ties : (E : ConfId → ConfId → Bool) → ((a b : RingName) → E (Re
 conf_ties E regular before after transitional (Regular a) (Regular b) = regular a b ∙ ring_ties a b
 conf_ties E regular before after transitional (Regular a) (Transitional p n) = before a p n
 conf_ties E regular before after transitional (Transitional p n) (Regular b) = after p n b
-conf_ties E regular before after transitional (Transitional p n) (Transitional q m) = transitional p q n m ∙ turned (p == q) ((n.seq == m.seq) && (n.rep == m.rep))
-    ∙ both_tied (ring_cmp n m) (nat_cmp p q) ((n.seq == m.seq) && (n.rep == m.rep)) (p == q) (ring_ties n m) (unsigned_ties p q)
+conf_ties E regular before after transitional (Transitional p n) (Transitional q m) = transitional p q n m ∙ and_comm (p == q) ((n.seq == m.seq) && (n.rep == m.rep))
+    ∙ both_tied ((n.seq == m.seq) && (n.rep == m.rep)) (p == q) (ring_cmp n m) (nat_cmp p q) (ring_ties n m) (unsigned_ties p q)

@@ -107,16 +107,16 @@ pub fn procs(alloc: Global, numbers: &[u16]) -> Result<Vec<Proc>, AllocError> {
 
 /// Returns the copy of members that are accepted, whether 3 and 2 are among them, and their number.
 fn taken_members(alloc: Global, members: Members) -> Result<String, AllocError> {
-    let copy = members.try_clone(alloc)?;
+    let copy = members.try_clone()?;
     let mut text = String::new(alloc);
     push_processes(&mut text, copy.as_slice())?;
     let has = (members.contains(proc(3)), members.contains(proc(2)));
-    write!(text, " {has:?} {}", members.into_vec().len())?;
+    write!(text, " {has:?} {}", members.as_slice().len())?;
     Ok(text)
 }
 
 pub fn members_told(alloc: Global, numbers: &[u16]) -> Result<String, AllocError> {
-    match Members::new(procs(alloc, numbers)?) {
+    match Members::new(alloc, procs(alloc, numbers)?)? {
         Ok(members) => taken_members(alloc, members),
         Err(refused) => refusal(alloc, &refused),
     }

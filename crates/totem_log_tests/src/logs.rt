@@ -29,7 +29,7 @@ fn push_entry(alloc: Global, list: &mut Vec<Entry>, word: &str) -> Result<(), Al
     let entry = match word {
         "send" => Entry::Send(message(), conf(), Service::Safe),
         "deliver" => Entry::Deliver(message(), conf()),
-        "change" => match Members::new(procs(alloc, &[1, 2])?) {
+        "change" => match Members::new(alloc, procs(alloc, &[1, 2])?)? {
             Ok(members) => Entry::Conf(conf(), members),
             Err(_) => Entry::Fail(conf()),
         },

@@ -53,7 +53,7 @@ impl ChangeRegister for Forms {
         };
         let conf = *conf;
         self.changes.meet(Change { proc, conf }, place)?;
-        self.members.meet(conf, members.try_clone(alloc)?)?;
+        self.members.meet(conf, members.try_clone()?)?;
         Ok(())
     }
 }

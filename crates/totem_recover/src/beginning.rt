@@ -31,7 +31,7 @@ pub(crate) fn members_of(alloc: Global, members: &CommitMembers) -> Result<Membe
 {
     let lives = members.lives(alloc)?;
     let _rule = members.as_slice();
-    Ok(members_with(lives))
+    members_with(alloc, lives)
 }
 
 /// Returns the transitional set: the members that come from the ring `old`, in the lives that they reported. `me` is one of them.
@@ -47,7 +47,7 @@ pub(crate) fn transitional_of(
 {
     let lives = members.transitional_lives(alloc, old)?;
     let _rule = members.as_slice();
-    Ok(members_with(lives))
+    members_with(alloc, lives)
 }
 
 /// Returns the obligation union: the processes to which the members from the ring `old` owe the delivery of their messages.

@@ -30,12 +30,12 @@ pub fn ids_of(alloc: Global, procs: &[Proc]) -> Result<Vec<ProcId>, AllocError>
 
 /// Returns the members of a configuration in these lives. Their identifiers have to be those of a ring's members.
 #[tactic(auto, using(crate::proofs::RingLives::none_refuses))]
-pub fn members_with(lives: Vec<Proc>) -> Members
+pub fn members_with(alloc: Global, lives: Vec<Proc>) -> Result<Members, AllocError>
     requires { IsRingMembers (ids_of lives.items) }
-    ensures { result ≡ lives.items }
+    ensures { IfOk result (λ members. members ≡ lives.items) }
 {
-    match Members::new(lives) {
-        Ok(members) => members,
+    match Members::new(alloc, lives)? {
+        Ok(members) => Ok(members),
         Err(_) => unreachable!(),
     }
 }
@@ -46,5 +46,5 @@ pub fn first_members(alloc: Global, ids: &[ProcId]) -> Result<Members, AllocErro
     requires { IsRingMembers ids.now }
     ensures { IfOk result (λ members. members ≡ first_ranks ids.now) }
 {
-    Ok(members_with(first_lives(alloc, ids)?))
+    members_with(alloc, first_lives(alloc, ids)?)
 }

@@ -166,10 +166,10 @@ impl Recovery {
         let mut entries = Vec::new(alloc);
         let old = ConfId::Regular(prev.ring());
         let last = write_regular(&mut entries, &old, prev.held(), prev.handed(), self.high)?;
-        entries.push(Entry::Conf(between, self.transitional.try_clone(alloc)?))?;
+        entries.push(Entry::Conf(between, self.transitional.try_clone()?))?;
         write_rest(&mut entries, &between, prev.held(), last, &self.obliged)?;
         let new = ConfId::Regular(self.ring);
-        entries.push(Entry::Conf(new, self.members.try_clone(alloc)?))?;
+        entries.push(Entry::Conf(new, self.members.try_clone()?))?;
         Ok(entries)
     }
 
@@ -179,8 +179,8 @@ impl Recovery {
         Ok(Recovery {
             me: self.me,
             ring: self.ring,
-            members: self.members.try_clone(alloc)?,
-            transitional: self.transitional.try_clone(alloc)?,
+            members: self.members.try_clone()?,
+            transitional: self.transitional.try_clone()?,
             high: self.high,
             obliged: self.obliged.try_clone(alloc)?,
             obliged_before: self.obliged_before.try_clone(alloc)?,

@@ -6,7 +6,7 @@ use std::alloc::{AllocError, Global};
 use std::collections::VecDeque;
 use std::fmt;
 use std::test::Fail;
-use totem_evs::{Entry, Members};
+use totem_evs::{Entry, Members, Refused};
 use totem_ids::{Proc, ProcId, RingId, Service};
 use totem_node::Input;
 use totem_packets::Packet;
@@ -60,17 +60,20 @@ pub fn procs(alloc: Global, last: u16) -> Result<Vec<ProcId>, AllocError> {
     again!(once_procs(alloc, last))
 }
 
-fn once_first_lives(alloc: Global, procs: &[ProcId]) -> Result<Vec<Proc>, AllocError> {
+fn once_first_lives(
+    alloc: Global,
+    procs: &[ProcId],
+) -> Result<Result<Members, Refused<Vec<Proc>>>, AllocError> {
     let mut list = Vec::new(alloc);
     for proc in procs {
         list.push(Proc::first(*proc))?;
     }
-    Ok(list)
+    Members::new(alloc, list)
 }
 
 /// Returns the first lives of these processes as members.
 pub fn first_lives(alloc: Global, procs: &[ProcId]) -> Result<Members, Fail> {
-    Ok(Members::new(again!(once_first_lives(alloc, procs))?)?)
+    Ok(again!(once_first_lives(alloc, procs))??)
 }
 
 /// Returns the first lives of the processes from 1 to this one as members.

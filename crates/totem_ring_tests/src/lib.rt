@@ -1,4 +1,4 @@
-//! Tests of rings, gatherings and recoveries, by public calls.
+//! Tests of rings, gatherings, recoveries, nodes and scripts, by public calls.
 #![tactic(auto)]
 
 #[cfg(test)]
@@ -7,6 +7,8 @@ mod commits;
 mod exchanges;
 #[cfg(test)]
 mod gatherings;
+#[cfg(test)]
+mod nodes;
 #[cfg(test)]
 mod recoveries;
 #[cfg(test)]
@@ -17,6 +19,10 @@ mod ring_samples;
 mod rings;
 #[cfg(test)]
 mod schedules;
+#[cfg(test)]
+mod script_lines;
+#[cfg(test)]
+mod simulations;
 #[cfg(test)]
 mod tables;
 #[cfg(test)]

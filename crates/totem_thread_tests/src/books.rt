@@ -35,7 +35,7 @@ pub(crate) fn two(alloc: Global) -> Result<Members, Fail> {
     let mut list = Vec::new(alloc);
     list.push(one())?;
     list.push(Proc::first(ProcId::of(2)))?;
-    Ok(Members::new(list)?)
+    Ok(Members::new(alloc, list)??)
 }
 
 /// A client's message `x`.

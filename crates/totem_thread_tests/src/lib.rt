@@ -1,4 +1,4 @@
-//! Tests of networks, books and runs in threads, by public calls.
+//! Tests of networks, books, runs in threads and woven rings, by public calls.
 #![tactic(auto)]
 
 #[cfg(test)]
@@ -8,6 +8,10 @@ mod network_threads;
 #[cfg(test)]
 mod networks;
 #[cfg(test)]
+mod recorded;
+#[cfg(test)]
 mod runs;
 #[cfg(test)]
 mod shared_books;
+#[cfg(test)]
+mod weaves;

@@ -40,7 +40,7 @@ const OPTIONS: [NumberOption; 6] = [
         least: 1,
         most: 1_000_000,
         default: "4000",
-        help: "Length of the run in ticks, from 1 to 1000000. A tick is about one hop of the token. At every eighth tick one node, each in its turn, gets a message to send and a timer event. A node looks for a new ring only at the third timer event after its last token. A run starts only if it can get 4 KB of memory times ticks times nodes; most runs use much less",
+        help: "Length of the run in ticks, from 1 to 1000000. A tick is about one hop of the token. At every eighth tick the next node, in rotation, gets a message to send and a timer event. A node looks for a new ring only at the third timer event after its last token. A run starts only if it can get 4 KB of memory times ticks times nodes; most runs use much less",
     },
     NumberOption {
         name: "seed",
@@ -92,7 +92,7 @@ fn weave_option<'a>(alloc: Global) -> Arg<'a> {
         .long("weave")
         .action(ArgAction::SetTrue)
         .help(
-            "Do not write the run. Look for a schedule: a single order of all that the nodes did on their first ring, 4.1, in which each packet is received after it was sent, and each step is one that the protocol allows. If there is one, write how many steps it has and, for each node, the messages that the ring delivered to it, in the order of delivery. If there is none, write one call of a node (an input, and its answer) that no such order can contain, not even an order of only the beginnings of what the nodes did",
+            "Do not write the run. Look for a schedule: a single order of all that the nodes did on their first ring, 4.1, in which each packet is received after it was sent, and each step is one that the protocol allows. If there is one, write how many steps it has and, for each node, the messages that the ring delivered to it, in the order of delivery. If there is none, write one call (an input, and the node's answer) that is to blame: even if everything after that call, and any number of the last steps of the other nodes, is left out, the remaining steps have no such order",
         )
 }
 

@@ -1,5 +1,5 @@
 use Rattle.std.proofs.Common.{[], ◌∷◌}
-use Rattle.totem_weave_tests.proofs.recorded.book_of.Given as goal
+use Rattle.totem_thread_tests.proofs.recorded.book_of.Given as goal
 
 abbrev pub ghosts-live-L-Ledger : goal.ghosts-live-L-Ledger
 ghosts-live-L-Ledger g a = record { name = a.blank.name; parts = a.blank.parts }

@@ -128,7 +128,7 @@ fn first(alloc: Global, last: u16) -> Result<Members, Fail> {
     for value in 0..last {
         list.push(Proc::first(proc(value.saturating_add(1))))?;
     }
-    Ok(Members::new(list)?)
+    Ok(Members::new(alloc, list)??)
 }
 
 /// Processes, each with a space in front.

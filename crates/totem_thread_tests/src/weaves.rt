@@ -1,5 +1,6 @@
 //! Books that are woven, and books that fit no schedule.
-use crate::recorded::{books, process, procs, ring};
+use crate::books::ring;
+use crate::recorded::{books, process, procs};
 use std::alloc::{AllocError, Global};
 use std::sync::Wait;
 use std::test::*;

@@ -1,6 +1,7 @@
 //! Closed books of nodes on ring 4.1 with the members 1, 2 and 3, from words for the inputs of each node.
 ghost use Rattle.std.specs.Prelude.{◌≡◌};
 
+use crate::books::ring;
 use bytes::Bytes;
 use std::alloc::{AllocError, Global};
 use std::marker::Brand;
@@ -8,19 +9,10 @@ use std::sync::Wait;
 use std::test::Fail;
 use totem_books::{Blank, BookName, ClosedBook, Reply, Seat, SharedBook};
 use totem_evs::Members;
-use totem_ids::{Proc, ProcId, RingId, Service};
+use totem_ids::{Proc, ProcId, Service};
 use totem_node::Input;
 use totem_packets::Packet;
 use totem_ring::first_token;
-
-pub(crate) fn ring() -> RingId
-    ensures { result ≡ record { seq = 4; rep = 1 } }
-{
-    RingId {
-        seq: 4,
-        rep: ProcId::of(1),
-    }
-}
 
 /// Returns the process with this number, in this life.
 pub(crate) fn process(number: u16, life: u16) -> Result<Proc, Fail> {
@@ -168,7 +160,7 @@ pub(crate) fn books<R: Wait>(
     alloc: Global,
     lines: &[(u16, &str)],
 ) -> Result<Vec<ClosedBook>, Fail> {
-    let members = Members::new(procs(alloc, &[1, 2, 3])?)?;
+    let members = Members::new(alloc, procs(alloc, &[1, 2, 3])?)??;
     let mut books = Vec::new(alloc);
     for line in lines {
         write(rt, alloc, &mut books, &members, line.0, line.1)?;
