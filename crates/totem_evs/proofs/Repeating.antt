@@ -1,6 +1,6 @@
 -- An entry whose line repeats, as the next part of a run.
 use Rattle.std.specs.Prelude.{Contains, ◌↔◌, ◌==◌, nat_lt}
-use Rattle.std.proofs.Common.{◌≡◌, ◌⊎◌, ℕ, List, [], false, inl, inr, Option, Some, Ok, sym, subst, arith}
+use Rattle.std.proofs.Common.{refl, ◌≡◌, ◌⊎◌, ℕ, List, [], false, inl, inr, Option, Some, Ok, sym, subst, arith}
 use Rattle.totem_ids.specs.Sources.{Seen, Comes}
 use Rattle.totem_ids.specs.declared.version.Version.{Version}
 use Rattle.totem_ids.proofs.Readers.{begins, called}
@@ -36,5 +36,5 @@ repeated a b s stage log e is begun room goes none fits comes =
     let P : Option OpenLog → Type 0 = λ l. Comes a b (next_at s.stage.version s.stage.logs s.stage.last l) (λ more. Ok (Some (parts.Entry e), more)) in
     let Q : Option OpenLog → Type 0 = λ l. ComesIn s.stage.version s.stage.logs s.stage.last l (Some (parts.Entry e)) in
     let may : MayCome s.stage (Some (parts.Entry e)) = subst Q (sym begun) room in
-    let next = state_entry s stage s.waiting e is may goes (waits_still s.waiting s.begun e none) in
+    let next = state_entry s stage s.begun s.waiting e is may goes refl (waits_still s.waiting s.begun e none) in
     (record { taken = subst P (sym begun) (within_comes a b s.stage.version log e room comes); comes = may; is = fits; goes = next.1 }, next.0)

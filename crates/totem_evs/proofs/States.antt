@@ -46,11 +46,11 @@ state_log s stage begun waiting p is comes goes more h =
     )
 
 -- an entry follows
-pub state_entry : (s : ReadState) (stage : Stage) (waiting : List ℕ) (e : Entry) → IsReadState s → MayCome s.stage (Some (parts.Entry e)) → stage ≡ next_stage s.stage (parts.Entry e)
-    → ((q : ℕ) → Contains waiting q ↔ (Contains s.waiting q ⊎ (Contains (members_of e) q × (Contains s.begun q → ⊥)))) → let t : ReadState = record { stage = stage; begun = s.begun; waiting = waiting } in IsReadState t × Goes s (parts.Entry e) t
-state_entry s stage waiting e is comes goes h =
+pub state_entry : (s : ReadState) (stage : Stage) (begun waiting : List ℕ) (e : Entry) → IsReadState s → MayCome s.stage (Some (parts.Entry e)) → stage ≡ next_stage s.stage (parts.Entry e) → begun ≡ s.begun
+    → ((q : ℕ) → Contains waiting q ↔ (Contains s.waiting q ⊎ (Contains (members_of e) q × (Contains s.begun q → ⊥)))) → let t : ReadState = record { stage = stage; begun = begun; waiting = waiting } in IsReadState t × Goes s (parts.Entry e) t
+state_entry s stage begun waiting e is comes goes same h =
     let waits = waits_entry s.waiting (members_of e) s.begun waiting is.apart h in
-    rw goes (
+    rw (goes, same) (
       record {
         few_logs = is.few_logs;
         few_entries = entries_left s.stage.version s.stage.logs s.stage.last s.stage.log e is.few_entries comes;

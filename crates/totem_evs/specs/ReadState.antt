@@ -14,6 +14,15 @@ use Rattle.totem_evs.specs.Endings.{writes_quiet}
 use Rattle.totem_evs.specs.Missing.{members_of}
 use Rattle.totem_evs.specs.Parts.{first_stage, next_stage}
 
+-- the processes whose logs have begun, and the members that have no log yet
+pub record Enrolled : Type 0 where
+  pub begun : List ℕ
+  pub waiting : List ℕ
+
+-- each of these has begun or waits
+abbrev pub AreEnrolled : List ℕ → List ℕ → List ℕ → Type 0
+AreEnrolled begun waiting members = (q : ℕ) → Contains members q → (Contains begun q → ⊥) → Contains waiting q
+
 -- how far the text has been read, the processes whose logs have begun, and the members that have no log yet
 pub record ReadState : Type 0 where
   pub stage : Stage

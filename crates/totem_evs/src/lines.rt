@@ -33,7 +33,7 @@ fn read_members<S: Source>(
     ensures { Reads (seen S.remaining S.failures source.old)
         (seen S.remaining S.failures source.new) result (members_at version 32 0) }
 {
-    let mut procs = Vec::new(alloc);
+    let mut procs = Vec::with_capacity(alloc, 8)?;
     let mut last = 0u32;
     for _ in 0..32u32 {
         let (proc, byte) = read_process(source, version)?;

@@ -15,9 +15,9 @@ use crate::heads::read_head;
 use crate::lines::{Line, read_line};
 use crate::part::Part;
 use crate::repeats::Repeats;
+use crate::roll::Roll;
 use crate::run_fault::RunFault;
 use crate::stage::{OpenLog, Stage};
-use crate::unlogged::Unlogged;
 use std::alloc::{AllocError, Global};
 use std::marker::Model;
 use totem_ids::{Proc, ReadError, Source, Version};
@@ -97,12 +97,11 @@ fn read_part<S: Source>(
     }
 }
 
-/// How far a run has been read, the processes whose logs have begun, the members that have no log yet, and how lines repeat.
+/// How far a run has been read, the processes whose logs have begun and the members that have none yet, and how lines repeat.
 #[derive(Drop)]
 pub struct PartReader {
     pub stage: Stage,
-    pub begun: Vec<Proc>,
-    pub waiting: Unlogged,
+    pub roll: Roll,
     pub repeats: Repeats,
 }
 
@@ -111,26 +110,7 @@ impl Model for PartReader {
 
     ghost Value = { ReadState };
 
-    ghost view = { λ r. record { stage = r.stage; begun = r.begun.items; waiting = r.waiting } };
-}
-
-fn has_begun(begun: &[Proc], proc: Proc) -> bool
-    ensures { IsTrue result ↔ Contains begun.now proc }
-{
-    begun.contains(&proc)
-}
-
-// Adds to `waiting` those of the members whose logs have not begun.
-fn wait_for(waiting: &mut Unlogged, begun: &[Proc], members: &[Proc]) -> Result<(), AllocError>
-    ensures { OnOk result ((q : ℕ) → Contains waiting.new q
-        ↔ (Contains waiting.old q ⊎ (Contains members.now q × (Contains begun.now q → ⊥)))) }
-{
-    for member in members {
-        if !has_begun(begun, *member) {
-            waiting.add(*member)?;
-        }
-    }
-    Ok(())
+    ghost view = { λ r. record { stage = r.stage; begun = r.roll.begun; waiting = r.roll.waiting } };
 }
 
 impl PartReader {
@@ -145,8 +125,7 @@ impl PartReader {
     {
         PartReader {
             stage: Stage::first(version),
-            begun: Vec::new(alloc),
-            waiting: Unlogged::new(alloc),
+            roll: Roll::new(alloc),
             repeats: Repeats::new(alloc),
         }
     }
@@ -157,8 +136,7 @@ impl PartReader {
         requires comes { MayCome self.old.stage (Some (parts.Log proc)) }
         ensures { OnOk result (IsReadState self.new × Goes self.old (parts.Log proc) self.new) }
     {
-        self.begun.push(proc)?;
-        self.waiting.remove(proc);
+        self.roll.begin(proc)?;
         self.stage = self.stage.with_log(proc);
         Ok(())
     }
@@ -169,7 +147,7 @@ impl PartReader {
         requires comes { MayCome self.old.stage (Some (parts.Entry entry.now)) }
         ensures { OnOk result (IsReadState self.new × Goes self.old (parts.Entry entry.now) self.new) }
     {
-        wait_for(&mut self.waiting, &self.begun, entry.members())?;
+        self.roll.name(entry)?;
         self.stage.pass_entry(entry);
         Ok(())
     }
@@ -230,7 +208,7 @@ impl PartReader {
         ensures limits { IfOk result (λ part. IsReadState self.new) }
     {
         match read_part(alloc, source, self.stage, &mut self.repeats)? {
-            None => match self.waiting.least() {
+            None => match self.roll.least() {
                 None => Ok(None),
                 Some(proc) => Err(RunFault::MissingLog(proc.written(self.stage.version))),
             },

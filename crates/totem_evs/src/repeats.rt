@@ -1,5 +1,5 @@
 //! Lines of sends and deliveries that differ from the one before only in the number of their message, as most lines of a log do. They are
-//! read at once, by what they begin with.
+//! read at once, by what they begin with. Changes mostly repeat the members of the change before, and then share one list with it.
 ghost use Rattle.std.specs.Prelude.{◌≡◌, ◌<◌, ◌≤◌, [], Ok, Bool, IfNone, IfOk, IfSome, false, length, take};
 ghost use Rattle.std.specs.Io.KnownBytes.{Keeps};
 ghost use Rattle.totem_ids.specs.Sources.{Comes, Reads, Settles, seen};

@@ -71,10 +71,9 @@ impl fmt::Debug for RunReader {
     fn fmt<W: fmt::Write>(&self, f: &mut fmt::Formatter<W>) -> fmt::Result {
         let PartReader {
             stage,
-            begun,
-            waiting,
+            roll,
             repeats: _,
         } = &self.parts;
-        write!(f, "RunReader({stage:?}, {begun:?}, {waiting:?})")
+        write!(f, "RunReader({stage:?}, {roll:?})")
     }
 }

@@ -8,7 +8,7 @@ use Rattle.totem_evs.proofs.lines.read_members.Goals as goal
 
 pub returns-in_err-proc : goal.returns-in_err-proc
 returns-in_err-proc g c =
-    let p = err_from_is_err_and c.from_residual.result c.from_residual.ensures.1 in
+    let p = err_from_is_err_and c.from_residual-in_err-proc.result c.from_residual-in_err-proc.ensures.1 in
     rw (p.1, p.2) (failed _ _ _ _ _ _ _ (same_left _ _ _ _ _ c.loop.invariant.so_far (members_step c.args.version c.loop.procs.items (32 - c.loop.counter) (32 - (c.loop.counter + 1)) c.loop.last (omega arith))) c.in_err-proc.ensures.read)
 
 pub returns-then-id-last : goal.returns-then-id-last
@@ -17,7 +17,7 @@ returns-then-id-last g c =
     stops _ _ _ _ (is_within _ _ _ _ _ _ _ (called _ _ _ _ _ _ _ (same_left _ _ _ _ _ c.loop.invariant.so_far (members_step c.args.version c.loop.procs.items (32 - c.loop.counter) (32 - (c.loop.counter + 1)) c.loop.last (omega arith))) c.in_ok-proc.ensures.read) within) refl
 
 pub loop-init : goal.loop-init
-loop-init g c = rw c.new-procs.ensures.items (record {
+loop-init g c = rw c.in_ok-procs.ensures.items (record {
   so_far = same_left _ _ _ _ _ (begins _ _) (members_first c.args.version 32 0);
   count = refl;
   rising = rising_none 0;
