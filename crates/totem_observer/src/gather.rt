@@ -79,15 +79,13 @@ impl<'a> Walk<'a> {
 
     /// Moves past the events with this number, and returns whose they are.
     fn pass(&mut self, number: u32) -> LogSet {
-        let mut logs = LogSet::none();
+        let mut bits = 0u32;
         for (log, (line, passed)) in self.lines.iter().zip(self.passed.iter_mut()).enumerate() {
             let here = line.numbers.as_slice().get(*passed) == Some(&number);
-            if here {
-                logs = logs.with(index_of(log).min(31));
-            }
+            bits |= u32::from(here) << index_of(log).min(31);
             *passed = passed.saturating_add(usize::from(here));
         }
-        logs
+        LogSet::of_bits(bits)
     }
 
     /// Returns the least number that is left, or `None` if there is none.

@@ -22,6 +22,13 @@ impl LogSet {
         LogSet { bits: 0 }
     }
 
+    /// Returns the set of the logs whose bits are set: bit i stands for the log at index i.
+    pub fn of_bits(bits: u32) -> LogSet
+        ensures { result.bits ≡ bits }
+    {
+        LogSet { bits }
+    }
+
     /// Returns the set of all indices that a log can have.
     pub fn all() -> LogSet
         ensures { (log : ℕ) → log < 32 → Has result log }
