@@ -92,7 +92,7 @@ fn weave_option<'a>(alloc: Global) -> Arg<'a> {
         .long("weave")
         .action(ArgAction::SetTrue)
         .help(
-            "Do not write the run. Look for a schedule: a single order of all that the nodes did on their first ring, 4.1, in which each packet is received after it was sent, and each step is one that the protocol allows. If there is one, write how many steps it has and, for each node, the messages that the ring delivered to it, in the order of delivery. If there is none, write one call (an input, and the node's answer) that is to blame: even if everything after that call, and any number of the last steps of the other nodes, is left out, the remaining steps have no such order",
+            "Do not write the run. Look for a schedule: a single order of all that the nodes did on their first ring, 4.1, in which each packet is received after it was sent, and each step is one that the protocol allows. If there is one, write how many steps it has and, for each node, the messages that it got from the ring, in order. If there is none, write one call (an input, and the node's answer) that is to blame: leave out all that its node did after this call, and as much as you like from the ends of what the other nodes did; what remains still has no such order",
         )
 }
 
