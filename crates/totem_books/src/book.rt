@@ -48,14 +48,14 @@ impl Book {
         requires { IsMembers members.now }
         ensures { IfOk result (λ b. b ≡ begun (start_with me ring members.now)) }
     {
-        let listed = Members::of(alloc, members.to_vec(alloc)?)?;
+        let copy = Members::of(alloc, members.to_vec(alloc)?)?;
         let (node, change) = NodeCore::new(alloc, me, ring, members)?;
         let mut entries = Vec::new(alloc);
         entries.push(change)?;
         Ok(Book {
             me,
             ring,
-            members: listed,
+            members: copy,
             node: Level::new(node),
             entries,
             calls: Vec::new(alloc),

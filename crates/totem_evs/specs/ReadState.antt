@@ -15,13 +15,13 @@ use Rattle.totem_evs.specs.Missing.{members_of}
 use Rattle.totem_evs.specs.Parts.{first_stage, next_stage}
 
 -- the processes whose logs have begun, and the members that have no log yet
-pub record Enrolled : Type 0 where
+pub record RosterState : Type 0 where
   pub begun : List ℕ
   pub waiting : List ℕ
 
--- each of these has begun or waits
-abbrev pub AreEnrolled : List ℕ → List ℕ → List ℕ → Type 0
-AreEnrolled begun waiting members = (q : ℕ) → Contains members q → (Contains begun q → ⊥) → Contains waiting q
+-- the log of each of these has begun, or it waits for one
+abbrev pub AreNoted : List ℕ → List ℕ → List ℕ → Type 0
+AreNoted begun waiting members = (q : ℕ) → Contains members q → (Contains begun q → ⊥) → Contains waiting q
 
 -- how far the text has been read, the processes whose logs have begun, and the members that have no log yet
 pub record ReadState : Type 0 where

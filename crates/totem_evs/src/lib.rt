@@ -36,7 +36,7 @@ mod part_reader;
 mod pending;
 mod reading;
 mod repeats;
-mod roll;
+mod roster;
 mod run;
 mod run_fault;
 mod run_reader;

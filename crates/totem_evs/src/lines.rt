@@ -16,6 +16,9 @@ use totem_ids::{
     read_service, word,
 };
 
+/// For how many members space is taken at once. Few configurations have more.
+const USUAL: usize = 8;
+
 /// A line of a log after the first: an entry, or the word that closes the log.
 #[derive(Drop)]
 pub enum Line {
@@ -33,7 +36,7 @@ fn read_members<S: Source>(
     ensures { Reads (seen S.remaining S.failures source.old)
         (seen S.remaining S.failures source.new) result (members_at version 32 0) }
 {
-    let mut procs = Vec::with_capacity(alloc, 8)?;
+    let mut procs = Vec::with_capacity(alloc, USUAL)?;
     let mut last = 0u32;
     for _ in 0..32u32 {
         let (proc, byte) = read_process(source, version)?;
@@ -44,7 +47,7 @@ fn read_members<S: Source>(
         life_fits(Version::Three, proc);
         procs.push(proc)?;
         if byte == b'\n' {
-            return Ok(repeats.members(alloc, procs)?);
+            return Ok(repeats.share_members(alloc, procs)?);
         }
         if byte != b' ' {
             return Err(ReadError::Text(TextFault::Word));

@@ -1,4 +1,4 @@
-ghost use Rattle.std.specs.Prelude.{◌≡◌, ◌<◌, ◌↔◌, IsTrue, Contains, IfOk, MatchResult};
+ghost use Rattle.std.specs.Prelude.{◌≡◌, ◌↔◌, IsTrue, Contains, IfOk, MatchResult};
 ghost use Rattle.totem_ids.specs.Lists.{Refuses};
 ghost use Rattle.totem_evs.specs.Members.{IsMembers, IsBelow};
 
@@ -11,6 +11,7 @@ use totem_ids::{Proc, Refused, are_same, rising};
 const MOST: usize = 32;
 
 /// The members of a configuration: 1 to 32 processes whose identifiers are strictly ascending, so there is at most one life of each.
+/// Copies share one list.
 #[derive(Debug, Drop)]
 pub struct Members {
     procs: Arc<Vec<Proc>>,
@@ -29,7 +30,8 @@ impl Model for Members {
 }
 
 impl Members {
-    /// Makes the members from these processes. Otherwise refuses the list, with the first rule that it breaks.
+    /// Makes the members from these processes. Otherwise refuses the list, with the first rule that it breaks. If
+    /// memory is refused, the list is lost.
     pub fn new(
         alloc: Global,
         procs: Vec<Proc>,
@@ -73,6 +75,7 @@ impl Members {
         are_same(self.as_slice(), other.as_slice())
     }
 
+    /// Returns a copy, which shares the list. Fails only if there are already as many copies as can be counted.
     pub fn try_clone(&self) -> Result<Members, AllocError>
         ensures { IfOk result (λ m. m ≡ self.now) }
     {

@@ -1,5 +1,5 @@
 //! Reads the parts of a run, one after the other.
-ghost use Rattle.std.specs.Prelude.{◌≡◌, ℕ, ◌↔◌, ◌⊎◌, ◌==◌, Contains, Some, IsTrue, IfNone, IfOk, IfSome, OnOk, nat_lt};
+ghost use Rattle.std.specs.Prelude.{◌≡◌, ◌==◌, Some, IfNone, IfOk, IfSome, OnOk, nat_lt};
 ghost use Rattle.std.specs.Io.KnownBytes.{Keeps};
 ghost use Rattle.totem_ids.specs.Sources.{Reads, seen};
 ghost use Rattle.totem_evs.specs.Endings.{writes_quiet};
@@ -15,7 +15,7 @@ use crate::heads::read_head;
 use crate::lines::{Line, read_line};
 use crate::part::Part;
 use crate::repeats::Repeats;
-use crate::roll::Roll;
+use crate::roster::Roster;
 use crate::run_fault::RunFault;
 use crate::stage::{OpenLog, Stage};
 use std::alloc::{AllocError, Global};
@@ -101,7 +101,7 @@ fn read_part<S: Source>(
 #[derive(Drop)]
 pub struct PartReader {
     pub stage: Stage,
-    pub roll: Roll,
+    pub roster: Roster,
     pub repeats: Repeats,
 }
 
@@ -110,7 +110,7 @@ impl Model for PartReader {
 
     ghost Value = { ReadState };
 
-    ghost view = { λ r. record { stage = r.stage; begun = r.roll.begun; waiting = r.roll.waiting } };
+    ghost view = { λ r. record { stage = r.stage; begun = r.roster.begun; waiting = r.roster.waiting } };
 }
 
 impl PartReader {
@@ -125,7 +125,7 @@ impl PartReader {
     {
         PartReader {
             stage: Stage::first(version),
-            roll: Roll::new(alloc),
+            roster: Roster::new(alloc),
             repeats: Repeats::new(alloc),
         }
     }
@@ -136,7 +136,7 @@ impl PartReader {
         requires comes { MayCome self.old.stage (Some (parts.Log proc)) }
         ensures { OnOk result (IsReadState self.new × Goes self.old (parts.Log proc) self.new) }
     {
-        self.roll.begin(proc)?;
+        self.roster.note_log(proc)?;
         self.stage = self.stage.with_log(proc);
         Ok(())
     }
@@ -147,7 +147,7 @@ impl PartReader {
         requires comes { MayCome self.old.stage (Some (parts.Entry entry.now)) }
         ensures { OnOk result (IsReadState self.new × Goes self.old (parts.Entry entry.now) self.new) }
     {
-        self.roll.name(entry)?;
+        self.roster.note_entry(entry)?;
         self.stage.pass_entry(entry);
         Ok(())
     }
@@ -208,7 +208,7 @@ impl PartReader {
         ensures limits { IfOk result (λ part. IsReadState self.new) }
     {
         match read_part(alloc, source, self.stage, &mut self.repeats)? {
-            None => match self.roll.least() {
+            None => match self.roster.least() {
                 None => Ok(None),
                 Some(proc) => Err(RunFault::MissingLog(proc.written(self.stage.version))),
             },

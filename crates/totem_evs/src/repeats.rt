@@ -187,7 +187,7 @@ impl Repeats {
 
     /// Makes the members of a change from processes that are known to keep the rules. If they are those of the last change, both share
     /// one list.
-    pub fn members(&mut self, alloc: Global, procs: Vec<Proc>) -> Result<Members, AllocError>
+    pub fn share_members(&mut self, alloc: Global, procs: Vec<Proc>) -> Result<Members, AllocError>
         requires { IsMembers procs.items }
         ensures { IfOk result (λ m. m ≡ procs.items) }
     {

@@ -21,7 +21,8 @@ pub enum Next {
     End,
 }
 
-/// Reads a run part by part. It keeps what the rules need, and none of the text.
+/// Reads a run part by part. It keeps what the rules need, and what is likely to come again: how lines begin, and the members of the last
+/// change.
 #[derive(Drop)]
 pub struct RunReader {
     alloc: Global,
@@ -71,9 +72,9 @@ impl fmt::Debug for RunReader {
     fn fmt<W: fmt::Write>(&self, f: &mut fmt::Formatter<W>) -> fmt::Result {
         let PartReader {
             stage,
-            roll,
+            roster,
             repeats: _,
         } = &self.parts;
-        write!(f, "RunReader({stage:?}, {roll:?})")
+        write!(f, "RunReader({stage:?}, {roster:?})")
     }
 }

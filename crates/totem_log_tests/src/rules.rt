@@ -23,7 +23,7 @@ fn first() -> LogSet {
 }
 
 fn second() -> LogSet {
-    LogSet::of_bits(0b10)
+    LogSet::from_bits(0b10)
 }
 
 fn both() -> LogSet {

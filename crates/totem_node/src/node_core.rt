@@ -69,8 +69,8 @@ impl NodeCore {
         ensures entry { IfOk result (λ made. made.1 ≡ first_change ring members.now) }
     {
         let ids = ids_of(alloc, members)?;
-        let listed = Members::of(alloc, members.to_vec(alloc)?)?;
-        let change = Entry::Conf(ConfId::Regular(ring), listed);
+        let members = Members::of(alloc, members.to_vec(alloc)?)?;
+        let change = Entry::Conf(ConfId::Regular(ring), members);
         let node = NodeCore {
             me: me.id(),
             life: Life::of(me.life()),

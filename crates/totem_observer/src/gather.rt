@@ -85,7 +85,7 @@ impl<'a> Walk<'a> {
             bits |= u32::from(here) << index_of(log).min(31);
             *passed = passed.saturating_add(usize::from(here));
         }
-        LogSet::of_bits(bits)
+        LogSet::from_bits(bits)
     }
 
     /// Returns the least number that is left, or `None` if there is none.

@@ -1,29 +1,18 @@
 //! Nodes, tested by direct calls: inputs are given as words, and each step is reported as text.
+use crate::values::{proc, ring};
 use bytes::Bytes;
 use std::alloc::{AllocError, Global};
 use std::fmt;
 use std::fmt::Write;
 use std::test::Fail;
 use totem_evs::{Entry, Members};
-use totem_ids::{Proc, ProcId, RingId, Service};
+use totem_ids::{Proc, ProcId, Service};
 use totem_node::{Input, NodeCore, NodeFault, StepOut};
 use totem_packets::{
     Body, CommitMember, CommitMembers, CommitToken, Join, Message, Number, Packet, Payload,
     Processes, Round, TokenSeq,
 };
 use totem_ring::{Act, To, first_token};
-
-fn proc(number: u16) -> ProcId {
-    ProcId::of(number.max(1))
-}
-
-/// Returns a ring with the representative 1.
-fn ring(seq: u32) -> RingId {
-    RingId {
-        seq: seq.max(1),
-        rep: proc(1),
-    }
-}
 
 /// Returns a client's message of this many bytes.
 fn submit(alloc: Global, bytes: usize) -> Result<Input, AllocError> {

@@ -1,18 +1,16 @@
 //! Closed books of nodes on ring 4.1 with the members 1, 2 and 3, from words for the inputs of each node.
 ghost use Rattle.std.specs.Prelude.{◌≡◌};
 
-use crate::books::ring;
-use bytes::Bytes;
+use crate::books::{ring, start, submit};
 use std::alloc::{AllocError, Global};
 use std::marker::Brand;
 use std::sync::Wait;
 use std::test::Fail;
 use totem_books::{Blank, BookName, ClosedBook, Reply, Seat, SharedBook};
 use totem_evs::Members;
-use totem_ids::{Proc, ProcId, Service};
+use totem_ids::{Proc, ProcId};
 use totem_node::Input;
 use totem_packets::Packet;
-use totem_ring::first_token;
 
 /// Returns the process with this number, in this life.
 pub(crate) fn process(number: u16, life: u16) -> Result<Proc, Fail> {
@@ -59,11 +57,8 @@ fn packet(alloc: Global, books: &[ClosedBook], word: &str) -> Result<Option<Pack
 /// Returns the input of a word: `submit`, `first` for the ring's first token, `timer`, or a packet that a book has.
 fn input(alloc: Global, books: &[ClosedBook], word: &str) -> Result<Input, Fail> {
     match word {
-        "submit" => Ok(Input::Submit {
-            service: Service::Agreed,
-            payload: Bytes::from_static(b"x"),
-        }),
-        "first" => Ok(Input::Packet(Packet::Token(first_token(alloc, ring())))),
+        "submit" => Ok(submit()),
+        "first" => Ok(start(alloc)),
         "timer" => Ok(Input::Timer),
         _ => Ok(Input::Packet(packet(alloc, books, word)?.ok_or("no book tells this packet")?)),
     }

@@ -23,7 +23,7 @@ impl LogSet {
     }
 
     /// Returns the set of the logs whose bits are set: bit i stands for the log at index i.
-    pub fn of_bits(bits: u32) -> LogSet
+    pub fn from_bits(bits: u32) -> LogSet
         ensures { result.bits ≡ bits }
     {
         LogSet { bits }

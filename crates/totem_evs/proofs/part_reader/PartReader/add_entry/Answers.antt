@@ -5,4 +5,4 @@ pub returns : goal.returns
 returns c =
     let limits = rw (← c.self.view_is) at c.requires.limits in
     let comes = rw (← c.self.view_is) at c.requires.comes in
-    rw (← c.self.view_is) (state_entry _ _ _ _ c.args.entry.now limits comes c.pass_entry.ensures c.in_ok-name.ensures.begun c.in_ok-name.ensures.waiting)
+    rw (← c.self.view_is) (state_entry _ _ _ _ c.args.entry.now limits comes c.pass_entry.ensures c.in_ok-note_entry.ensures.begun c.in_ok-note_entry.ensures.waiting)

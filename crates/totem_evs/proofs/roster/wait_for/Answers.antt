@@ -1,7 +1,7 @@
 use Rattle.std.proofs.lemmas.List.{take_all}
 use Rattle.totem_evs.proofs.Waits.{waits_more, waits_same, taken_more}
-use Rattle.totem_evs.proofs.roll.wait_for.Goals as goal
-use Rattle.totem_evs.proofs.roll.wait_for.Goals.{then-not-has_begun+in_ok-add, else-not-has_begun}
+use Rattle.totem_evs.proofs.roster.wait_for.Goals as goal
+use Rattle.totem_evs.proofs.roster.wait_for.Goals.{then-not-has_begun+in_ok-add, else-not-has_begun}
 
 pub loop-member-preserved : goal.loop-member-preserved
 loop-member-preserved c =

@@ -1,4 +1,4 @@
-use Rattle.totem_evs.proofs.roll.Roll.least.Goals as goal
+use Rattle.totem_evs.proofs.roster.Roster.least.Goals as goal
 
 pub returns-clause-least : goal.returns-clause-least
 returns-clause-least c = rw (← c.self.view_is) c.least.ensures.least

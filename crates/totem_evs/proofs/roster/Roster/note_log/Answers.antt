@@ -1,4 +1,4 @@
-use Rattle.totem_evs.proofs.roll.Roll.begin.Goals as goal
+use Rattle.totem_evs.proofs.roster.Roster.note_log.Goals as goal
 
 pub returns-clause-waiting : goal.returns-clause-waiting
 returns-clause-waiting c = rw (← c.self.view_is) c.remove.ensures

@@ -1,5 +1,5 @@
 use Rattle.std.proofs.Common.{inr}
-use Rattle.totem_evs.proofs.roll.Roll.enrol.Goals as goal
+use Rattle.totem_evs.proofs.roster.Roster.note_members.Goals as goal
 
 pub invariant_of-self-2 : goal.invariant_of-self-2
 invariant_of-self-2 c = λ q has none.

@@ -1,6 +1,0 @@
-use Rattle.std.proofs.lemmas.Bool.{OnTrue_from}
-use Rattle.totem_evs.specs.ReadState.{AreEnrolled}
-use Rattle.totem_evs.proofs.roll.Roll.are_named.Goals as goal
-
-pub returns-in-Some : goal.returns-in-Some
-returns-in-Some c = OnTrue_from _ (AreEnrolled c.args.self.now.begun c.args.self.now.waiting c.args.members.now) (λ same. rw (← c.self.view_is) (rw (c.is.ensures.0 same) at (rw c.in-Some.is at c.self.invariant)))
