@@ -1,5 +1,5 @@
 //! Decides whether a token is refused, and takes one that is not; and sends a token again (docs/PROTOCOL.md, "The node"). What its ring has
-//! against a token is in totem_ring `belonging`.
+//! against a token, such as that it is old or repeated, is in totem_ring `refusals`; commit tokens are in `commits`.
 ghost use Rattle.std.specs.Prelude.{◌≡◌, None, Err, IfOk, IfSome, false};
 ghost use Rattle.totem_ring.specs.Refusals.{token_refusal};
 ghost use Rattle.totem_ring.specs.Steps.{given};

@@ -13,13 +13,13 @@
 //! Nothing is claimed about several rings that follow each other, nor that anything is ever delivered.
 #![tactic(auto)]
 
-mod belonging;
 mod departure;
 mod fault;
 mod held;
 mod moves;
 mod order;
 mod outcome;
+mod refusals;
 mod requests;
 mod start;
 mod state;

@@ -1,5 +1,5 @@
-//! A member's state on its ring, and all its steps except the visit of the token. Module `belonging` says which
-//! messages and tokens belong on the ring.
+//! A member's state on its ring, and all its steps except the visit of the token. Module `refusals` says why
+//! messages and tokens are refused.
 ghost use Rattle.std.specs.Prelude.{◌≡◌, ◌==◌, ◌+◌, ◌<◌, ◌++◌, length, position, take, IfOk, IfSome, OnOk, MatchResult, Ok};
 ghost use Rattle.totem_ring.specs.Rings.{same_ring};
 ghost use Rattle.totem_ring.specs.Steps.{kept_after};

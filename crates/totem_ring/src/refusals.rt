@@ -1,5 +1,5 @@
-//! Which messages and tokens belong on a member's ring, and why others don't (docs/PROTOCOL.md, "The ring"). Whether a node refuses a
-//! message or a token depends on its state, too: that is decided in totem_node, `messages` and `tokens`.
+//! Why a member's ring refuses a message or a token, such as an old or a repeated one (docs/PROTOCOL.md, "The ring"). Whether a node
+//! refuses it depends on its state, too: that is decided in totem_node, `messages` and `tokens`.
 ghost use Rattle.std.specs.Prelude.{◌≡◌};
 ghost use Rattle.totem_ring.specs.Refusals.{is_none_or_member, is_above};
 
