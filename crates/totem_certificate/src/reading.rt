@@ -1,4 +1,5 @@
-//! The reader of certificates (docs/SPECIFICATIONS.md, "Certificate text"). What its text shares with that of a run is read by totem_evs `heads`.
+//! The reader of certificates (docs/SPECIFICATIONS.md, "Certificate text"). What its text shares with that of a run is read by
+//! totem_evs `heads`.
 ghost use Rattle.totem_ids.specs.Sources.{Reads, seen};
 ghost use Rattle.totem_certificate.specs.CertGrammar.{numbers_at, lines_at, cert_at};
 ghost use Rattle.totem_certificate.specs.Reading.{ReadsCert};
