@@ -27,7 +27,7 @@ use Rattle.totem_observer.specs.declared.gathered.Gathered.{Gathered}
 use Rattle.totem_observer.specs.declared.gathered.Stay.{Stay}
 use Rattle.totem_observer.specs.Events.{IsEventAt}
 use Rattle.totem_observer.specs.Ends.{HasSuch, IsAny}
-use Rattle.totem_observer.specs.Lists.{ComesBefore, IsLinked, IsThere, IsGotAt, IsSentAt, AreAsListed}
+use Rattle.totem_observer.specs.Lists.{ComesBefore, IsLinked, IsThere, IsGotAt, IsSentAt, IsSentIn, AreAsListed}
 use Rattle.totem_observer.specs.Seen.{IsReplayed, IsSeen}
 use Rattle.totem_run_rules.specs.Orderly.{IsOrderly}
 use Rattle.totem_observer.proofs.Numbers.{below_or_not, one_at, entry_of, one_event, one_number, same_index, entries_of}
@@ -297,27 +297,41 @@ module _ {run : List Log} {lines : List Numbering} {g : Gathered} {traffic : Tra
 
   pub sent_at : (k : ℕ) (sent : Sent) → slice_get g.sent.items k ≡ Some sent → SentAt k sent
   sent_at k sent at =
-      let is = seen.lists.sent.each k (slice_get_within g.sent.items k sent at) in
-      subst (λ (s : Sent). SentAt k s) (one_at g.sent.items k is.sent sent is.sent_is at) (of is)
+      let within = slice_get_within g.sent.items k sent at in
+      let is = seen.lists.sent.each k within in
+      let there = (seen.ends.all.exact is.sent.sender).0 is.among in
+      let replayed = seen.lists.replayed.each there.at there.stay there.before there.stands in
+      subst (λ (s : Sent). SentAt k s) (one_at g.sent.items k is.sent sent is.sent_is at) (of is there.stay there.of replayed (replayed.sends.each k is.sent within is.sent_is (sym there.of)))
     where
-      of : (is : IsSentAt run lines g k) → SentAt k is.sent
-      of is =
-          let event : IsEventAt run lines is.sent.sender is.origin.at (Send is.sent.message (Regular g.ring) is.origin.service) is.number = subst (λ (e : Entry). IsEventAt run lines is.sent.sender is.origin.at e is.number) is.send.is is.event in
-          let log : IsLogAt run is.sent.sender is.event.log.proc = record { log = is.event.log; stands = is.event.log_is; proc = refl } in
+      of : (is : IsSentAt g traffic.logs k) (stay : Stay) → stay.log ≡ is.sent.sender → (r : IsReplayed run lines g stay) → IsSentIn r.log.entries r.line.numbers g stay k → SentAt k is.sent
+      of is stay by r here =
+          let o = here.is in
+          let same : o.sent ≡ is.sent = one_at g.sent.items k o.sent is.sent o.sent_is is.sent_is in
+          let number : o.number ≡ is.number = one_at g.sent_numbers.items k o.number is.number o.number_is is.number_is in
+          let send : here.entry ≡ Send is.sent.message (Regular g.ring) o.origin.service = subst (λ (s : Sent). here.entry ≡ Send s.message (Regular g.ring) o.origin.service) same o.send.is in
+          let event : IsEventAt run lines is.sent.sender here.at (Send is.sent.message (Regular g.ring) o.origin.service) is.number = record {
+            log = r.log;
+            line = r.line;
+            log_is = subst (λ (l : ℕ). slice_get run l ≡ Some r.log) by r.log_is;
+            line_is = subst (λ (l : ℕ). slice_get lines l ≡ Some r.line) by r.line_is;
+            entry_is = here.stands ∙ ap Some send;
+            number_is = o.own_number ∙ ap Some number;
+          } in
+          let log : IsLogAt run is.sent.sender r.log.proc = record { log = r.log; stands = event.log_is; proc = refl } in
           record {
-            p = is.event.log.proc;
-            at = is.origin.at;
-            service = is.origin.service;
+            p = r.log.proc;
+            at = here.at;
+            service = o.origin.service;
             number = is.number;
             log = log;
-            entry = entry_of run lines is.sent.sender is.event.log.proc is.origin.at (Send is.sent.message (Regular g.ring) is.origin.service) is.number is_run.rising log event;
+            entry = entry_of run lines is.sent.sender r.log.proc here.at (Send is.sent.message (Regular g.ring) o.origin.service) is.number is_run.rising log event;
             event = event;
             number_is = is.number_is;
             before = is.before;
             linked = is.linked;
-            origin = is.origin;
-            origin_is = is.origin_is;
-            origin_at = refl;
+            origin = o.origin;
+            origin_is = o.origin_is;
+            origin_at = o.at_is;
             kind = refl;
           }
 

@@ -25,8 +25,9 @@ use Rattle.totem_ids.specs.declared.message.MsgId.{MsgId}
 use Rattle.totem_evs.specs.declared.entry.Entry.{Entry}
 use Rattle.totem_evs.specs.declared.entry.Entry.TheVariants.{Deliver}
 use Rattle.totem_traffic_rules.specs.declared.traffic.Got.{Got}
+use Rattle.totem_traffic_rules.specs.declared.traffic.Sent.{Sent}
 use Rattle.totem_traffic_rules.specs.Clean.{IsBy}
-use Rattle.totem_observer.specs.Lists.{EachBelow, AreSkipped, IsDeliveryOf, IsListed, AreAsListed}
+use Rattle.totem_observer.specs.Lists.{EachBelow, AreSkipped, AreUnsent, IsOriginAt, AreSentIn, IsDeliveryOf, IsListed, AreAsListed}
 
 same_or_not : (a b : ℕ) → (a ≡ b) ⊎ (a ≢ b)
 same_or_not a b = grind arith
@@ -239,6 +240,14 @@ skipped_more gots log from n got at never so_far = record {
   ];
 }
 
+pub unsent_more : (sents : List Sent) (log from n : ℕ) (sent : Sent) → slice_get sents n ≡ Some sent → (sent.sender ≡ log → ⊥) → AreUnsent sents log from n → AreUnsent sents log from (n + 1)
+unsent_more sents log from n sent at never so_far = record {
+  none = λ k other le lt stands by. elim (before_or_at k n lt) [
+    | inl under ↦ so_far.none k other le under stands by
+    | inr level ↦ (let same : other ≡ sent = one_at sents n other sent (rw level at stands) at in never (rw same at by))
+  ];
+}
+
 -- ---- what is listed
 
 module _ (entries : List Entry) (numbers : List ℕ) (g : Gathered) (stay : Stay) where
@@ -250,6 +259,21 @@ module _ (entries : List Entry) (numbers : List ℕ) (g : Gathered) (stay : Stay
       | inr level ↦ (let same : y ≡ x = one_at entries at y x (rw level at there) stands in rw (level, same) here)
     ];
     delivered = so_far.delivered;
+  }
+
+  -- the next entry sends what is listed at k, the next that the log sends
+  pub sent_more : (at n k m : ℕ) (x : Entry) → slice_get entries at ≡ Some x → AreUnsent g.sent.items stay.log n k → IsOriginAt numbers g stay.log k at x → m ≤ k + 1 → AreSentIn entries numbers g stay n → AreSentIn entries numbers g stay m
+  sent_more at n k m x stands unsent here le so_far = record {
+    each = λ j sent lt there by. elim (before_or_at j k (omega arith)) [
+      | inl under ↦ elim (below_or_not j n) [ inl before ↦ so_far.each j sent before there by | inr behind ↦ absurd (unsent.none j sent behind under there by) ]
+      | inr level ↦ rw level (record { at = at; entry = x; stands = stands; is = here })
+    ];
+  }
+
+  -- the log sends nothing else
+  pub sent_all : (n k : ℕ) → AreUnsent g.sent.items stay.log n k → length g.sent.items ≤ k → AreSentIn entries numbers g stay n → AreSentIn entries numbers g stay (length g.sent.items)
+  sent_all n k unsent all so_far = record {
+    each = λ j sent lt there by. elim (below_or_not j n) [ inl under ↦ so_far.each j sent under there by | inr behind ↦ absurd (unsent.none j sent behind (omega arith) there by) ];
   }
 
   -- the next entry delivers what is listed at k, the next that the log delivers

@@ -20,9 +20,8 @@ use Rattle.totem_traffic_rules.specs.Traffics.{IsLogAt, AreLogsOf, DeliversBehin
 use Rattle.totem_traffic_rules.proofs.Facts.{has_log}
 use Rattle.totem_observer.specs.declared.gathered.Origin.{Origin}
 use Rattle.totem_observer.specs.declared.gathered.Gathered.{Gathered}
-use Rattle.totem_observer.specs.Events.{IsEventAt}
 use Rattle.totem_observer.specs.Lists.{is_safe, ComesBefore, IsThere, IsOriginAt, IsGotAt}
-use Rattle.totem_observer.proofs.Numbers.{below_or_not, one_at, event_of, one_event, in_order, by_number}
+use Rattle.totem_observer.proofs.Numbers.{below_or_not, one_at, event_of, in_order, by_number}
 use Rattle.totem_observer.proofs.Listed.{Verified, Listed, SentAt, before_turn, behind_turn, follows_here, own_entry, stay_around, got_at, listed, found, sent_at, number_of_send, one_got, one_sent}
 
 module _ {run : List Log} {lines : List Numbering} {g : Gathered} {traffic : Traffic} (v : Verified run lines g traffic) where
@@ -159,19 +158,13 @@ module _ {run : List Log} {lines : List Numbering} {g : Gathered} {traffic : Tra
       let l = log.0 in
       let s = stay_around v l p i (Regular g.ring) log.1 (Send m (Regular g.ring) service, at, refl) (inl refl) in
       let bounds = s.is.here i (Regular g.ring) (Send m (Regular g.ring) service, at, refl) (inl refl) in
-      let event = event_of run lines l p i (Send m (Regular g.ring) service) is_run.rising certified.matches log.1 at in
       let told = s.replayed.are.listed i (Send m (Regular g.ring) service) bounds.0 bounds.1 (own_entry v l p i (Send m (Regular g.ring) service) s log.1 at) in
-      of l log.1 event.0 event.1 told.0 s.stay.log told.1 s.log
+      of l log.1 s.replayed.line.numbers told.0 s.stay.log told.1 s.log
     where
-      of : (l : ℕ) → IsLogAt run l p → (n : ℕ) → IsEventAt run lines l i (Send m (Regular g.ring) service) n → (k y : ℕ) (o : IsOriginAt g y k i) → y ≡ l → HasSent run g.sent.items p m
-      of l log n event k y o same =
-          let s = sent_at v k o.sent o.sent_is in
-          let origins : s.origin ≡ o.origin = one_at g.origins.items k s.origin o.origin s.origin_is o.origin_is in
-          let at_i : s.at ≡ i = sym s.origin_at ∙ ap (λ (x : Origin). x.at) origins ∙ o.at_is in
+      of : (l : ℕ) → IsLogAt run l p → (numbers : List ℕ) (k y : ℕ) (o : IsOriginAt numbers g y k i (Send m (Regular g.ring) service)) → y ≡ l → HasSent run g.sent.items p m
+      of l log numbers k y o same =
           let sender : o.sent.sender ≡ l = o.sender ∙ same in
-          let here : IsEventAt run lines l i (Send o.sent.message (Regular g.ring) s.service) s.number =
-          subst (λ (j : ℕ). IsEventAt run lines l j (Send o.sent.message (Regular g.ring) s.service) s.number) at_i (subst (λ (j : ℕ). IsEventAt run lines j s.at (Send o.sent.message (Regular g.ring) s.service) s.number) sender s.event) in
-          let entries = (one_event run lines l i (Send o.sent.message (Regular g.ring) s.service) (Send m (Regular g.ring) service) s.number n here event).0 in
+          let entries = o.send.is in
           let message : o.sent.message ≡ m = cc in
           record { at = k; sent = o.sent; stands = o.sent_is; message = message; sender = subst (λ (j : ℕ). IsLogAt run j p) (sym sender) log }
 

@@ -8,8 +8,6 @@ use Rattle.totem_ids.specs.declared.message.Service.{Service}
 use Rattle.totem_ids.specs.declared.message.Service.TheVariants as services
 use Rattle.totem_evs.specs.declared.entry.Entry.{Entry}
 use Rattle.totem_evs.specs.declared.entry.Entry.TheVariants.{Conf, Send, Deliver, Fail}
-use Rattle.totem_evs.specs.declared.log.Log.{Log}
-use Rattle.totem_evs.specs.Certificates.{Numbering}
 use Rattle.totem_traffic_rules.specs.declared.log_set.LogSet.{LogSet}
 use Rattle.totem_traffic_rules.specs.declared.traffic.Sent.{Sent}
 use Rattle.totem_traffic_rules.specs.declared.traffic.Got.{Got}
@@ -18,7 +16,6 @@ use Rattle.totem_traffic_rules.specs.Clean.{IsBy}
 use Rattle.totem_observer.specs.declared.gathered.Origin.{Origin}
 use Rattle.totem_observer.specs.declared.gathered.Gathered.{Gathered}
 use Rattle.totem_observer.specs.declared.gathered.Stay.{Stay}
-use Rattle.totem_observer.specs.Events.{IsEventAt}
 
 -- it holds for each index below n
 pub record EachBelow (Holds : ℕ → Type 0) (n : ℕ) : Type 0 where
@@ -51,17 +48,13 @@ pub record IsGotBy (gots : List Got) (k log : ℕ) : Type 0 where
 pub record IsLinked (gots : List Got) (k : ℕ) (sent : Sent) : Type 0 where
   pub each : (log : ℕ) → Has sent.by log → IsGotBy gots k log
 
--- the k-th message was sent as the lists say
-pub record IsSentAt (run : List Log) (lines : List Numbering) (g : Gathered) (k : ℕ) : Type 0 where
+-- the k-th message was sent by one of these logs, and stands as the lists say among what is delivered
+pub record IsSentAt (g : Gathered) (logs : LogSet) (k : ℕ) : Type 0 where
   pub sent : Sent
-  pub origin : Origin
   pub number : ℕ
-  pub entry : Entry
   pub sent_is : slice_get g.sent.items k ≡ Some sent
-  pub origin_is : slice_get g.origins.items k ≡ Some origin
   pub number_is : slice_get g.sent_numbers.items k ≡ Some number
-  pub event : IsEventAt run lines sent.sender origin.at entry number
-  pub send : IsSendOf entry g.ring sent.message origin.service
+  pub among : Has logs sent.sender
   pub before : ComesBefore g.got_numbers.items sent.before number
   pub linked : IsLinked g.got.items k sent
 
@@ -101,19 +94,23 @@ pub record IsDeliveryOf (numbers : List ℕ) (g : Gathered) (stay : Stay) (k at 
   pub own_number : slice_get numbers at ≡ Some number
   pub there : IsThere got stay at
 
--- what is listed at k was sent by this log, at this index
-pub record IsOriginAt (g : Gathered) (log k at : ℕ) : Type 0 where
+-- the entry at this index of the log sends what is listed at k, with its number
+pub record IsOriginAt (numbers : List ℕ) (g : Gathered) (log k at : ℕ) (e : Entry) : Type 0 where
   pub sent : Sent
   pub origin : Origin
+  pub number : ℕ
   pub sent_is : slice_get g.sent.items k ≡ Some sent
   pub origin_is : slice_get g.origins.items k ≡ Some origin
+  pub number_is : slice_get g.sent_numbers.items k ≡ Some number
   pub sender : sent.sender ≡ log
   pub at_is : origin.at ≡ at
+  pub own_number : slice_get numbers at ≡ Some number
+  pub send : IsSendOf e g.ring sent.message origin.service
 
 -- what the entry sends or delivers is listed, and a change is where the stay turns
 abbrev pub IsListed : List ℕ → Gathered → Stay → ℕ → Entry → Type 0
 IsListed numbers g stay at (Conf x members) = at ≡ stay.turn
-IsListed numbers g stay at (Send m x service) = (k : ℕ) × IsOriginAt g stay.log k at
+IsListed numbers g stay at (Send m x service) = (k : ℕ) × IsOriginAt numbers g stay.log k at (Send m x service)
 IsListed numbers g stay at (Deliver m x) = (k : ℕ) × IsDeliveryOf numbers g stay k at m
 IsListed numbers g stay at (Fail x) = Unit {0}
 
@@ -126,6 +123,21 @@ pub record IsDeliveredAt (entries : List Entry) (numbers : List ℕ) (g : Gather
   pub until : at < stay.end
   pub entry : slice_get entries at ≡ Some (Deliver message conf)
   pub is : IsDeliveryOf numbers g stay k at message
+
+-- an entry of the stay sends what is listed at k
+pub record IsSentIn (entries : List Entry) (numbers : List ℕ) (g : Gathered) (stay : Stay) (k : ℕ) : Type 0 where
+  pub at : ℕ
+  pub entry : Entry
+  pub stands : slice_get entries at ≡ Some entry
+  pub is : IsOriginAt numbers g stay.log k at entry
+
+-- the log sends none of what is listed from one index on and before the other
+pub record AreUnsent (sents : List Sent) (log from to : ℕ) : Type 0 where
+  pub none : (k : ℕ) (sent : Sent) → from ≤ k → k < to → slice_get sents k ≡ Some sent → sent.sender ≡ log → ⊥
+
+-- of what is listed before the index n, the entries of the stay send all that the log sends
+pub record AreSentIn (entries : List Entry) (numbers : List ℕ) (g : Gathered) (stay : Stay) (n : ℕ) : Type 0 where
+  pub each : (k : ℕ) (sent : Sent) → k < n → slice_get g.sent.items k ≡ Some sent → sent.sender ≡ stay.log → IsSentIn entries numbers g stay k
 
 -- the log delivers none of what is listed from one index on and before the other
 pub record AreSkipped (gots : List Got) (log from to : ℕ) : Type 0 where

@@ -14,7 +14,7 @@ use Rattle.totem_observer.specs.StaysIn.{IsBounded}
 use Rattle.totem_observer.specs.Ends.{AreEnds}
 use Rattle.totem_observer.specs.Members.{AreMemberLogs}
 use Rattle.totem_observer.specs.Turns.{HasFollowings}
-use Rattle.totem_observer.specs.Lists.{EachBelow, IsSentAt, IsGotAt, AreAsListed}
+use Rattle.totem_observer.specs.Lists.{EachBelow, IsSentAt, IsGotAt, AreAsListed, AreSentIn}
 
 -- the stay is one of its log, begins with the number of the configuration, and its entries agree with the lists
 pub record IsReplayed (run : List Log) (lines : List Numbering) (g : Gathered) (stay : Stay) : Type 0 where
@@ -25,6 +25,7 @@ pub record IsReplayed (run : List Log) (lines : List Numbering) (g : Gathered) (
   pub bounded : IsBounded log.entries g.ring stay
   pub number : slice_get line.numbers stay.from ≡ Some g.number
   pub are : AreAsListed log.entries line.numbers g stay stay.end (length g.got.items)
+  pub sends : AreSentIn log.entries line.numbers g stay (length g.sent.items)
 
 -- so do the first n stays
 pub record AreReplayed (run : List Log) (lines : List Numbering) (g : Gathered) (n : ℕ) : Type 0 where
@@ -34,7 +35,7 @@ pub record AreReplayed (run : List Log) (lines : List Numbering) (g : Gathered) 
 pub record AreTrue (run : List Log) (lines : List Numbering) (g : Gathered) (logs : LogSet) : Type 0 where
   pub got_rise : RisesBefore g.got_numbers.items (length g.got_numbers.items)
   pub sent_rise : RisesBefore g.sent_numbers.items (length g.sent_numbers.items)
-  pub sent : EachBelow (IsSentAt run lines g) (length g.sent.items)
+  pub sent : EachBelow (IsSentAt g logs) (length g.sent.items)
   pub got : EachBelow (IsGotAt g logs) (length g.got.items)
   pub replayed : AreReplayed run lines g (length g.stays.items)
 

@@ -1,18 +1,20 @@
 //! Tests whether the lists of a configuration and the entries of a stay agree.
 ghost use Rattle.std.specs.Prelude.{◌≤◌, ◌<◌, length};
 ghost use Rattle.std.specs.Bool.{OnTrue};
-ghost use Rattle.totem_observer.specs.Lists.{AreSkipped, IsThere, IsDeliveryOf, IsOriginAt, AreAsListed};
+ghost use Rattle.totem_observer.specs.Lists.{AreSkipped, AreUnsent, AreSentIn, IsSendOf, IsThere, IsDeliveryOf, IsOriginAt, AreAsListed};
 ghost use Rattle.totem_observer.specs.Seen.{IsReplayed};
 
 use crate::gathered::{Gathered, Stay};
 use crate::stay::is_bounded;
 use totem_certificate::Line;
 use totem_evs::{Entry, Log};
-use totem_ids::MsgId;
+use totem_ids::{ConfId, MsgId, RingId, Service};
 use totem_traffic_rules::{Got, Sent};
 
-/// Returns the index of the next message that this log sent, in the list of what was sent. It is a guess, to be tested.
-fn next_sent(list: &[Sent], from: usize, log: u32) -> usize {
+/// Returns the index of the next message that this log sends, or the length of the list if there is none.
+fn next_sent(list: &[Sent], from: usize, log: u32) -> usize
+    ensures { AreUnsent list.now log from result }
+{
     for index in from..list.len() {
         if list[index].sender == log {
             return index;
@@ -34,9 +36,28 @@ fn next_got(list: &[Got], from: usize, log: u32) -> usize
     list.len()
 }
 
-/// Returns whether the message at `index` in the list of what was sent is listed as sent by the log's entry at `at`.
-fn is_origin_at(gathered: &Gathered, log: u32, index: usize, at: usize) -> bool
-    ensures { OnTrue result (IsOriginAt gathered.now log index at) }
+/// Returns whether the entry sends the message in the ring's regular configuration, by this service.
+fn is_send_of(entry: &Entry, ring: &RingId, message: &MsgId, service: Service) -> bool
+    ensures { OnTrue result (IsSendOf entry.now ring.now message.now service) }
+{
+    match entry {
+        Entry::Send(other, ConfId::Regular(conf), kind) => {
+            *other == *message && *conf == *ring && *kind == service
+        }
+        _ => false,
+    }
+}
+
+/// Returns whether the log's entry at `at` is the send that is listed at `index`.
+fn is_origin_at(
+    numbers: &[u32],
+    gathered: &Gathered,
+    log: u32,
+    index: usize,
+    at: usize,
+    entry: &Entry,
+) -> bool
+    ensures { OnTrue result (IsOriginAt numbers.now gathered.now log index at entry.now) }
 {
     let Some(sent) = gathered.sent_at(index) else {
         return false;
@@ -44,7 +65,19 @@ fn is_origin_at(gathered: &Gathered, log: u32, index: usize, at: usize) -> bool
     let Some(origin) = gathered.origin_at(index) else {
         return false;
     };
-    sent.sender == log && origin.at as usize == at
+    let Some(number) = gathered.sent_number_at(index) else {
+        return false;
+    };
+    if sent.sender != log || origin.at as usize != at {
+        return false;
+    }
+    if at >= numbers.len() || numbers[at] != number {
+        return false;
+    }
+    if !is_send_of(entry, &gathered.ring, &sent.message, origin.service) {
+        return false;
+    }
+    true
 }
 
 /// Returns whether the log of the stay is listed as delivering the message in the configuration that it is in at `at`, and only there.
@@ -92,20 +125,22 @@ fn is_delivery_of(
     true
 }
 
-/// Returns whether the lists have what the entries of the stay send and deliver, and nothing else that its log delivers.
-#[tactic(auto, using(crate::proofs::Steps::listed_all))]
+/// Returns whether the lists have what the entries of the stay send and deliver, and nothing else that its log sends or delivers.
+#[tactic(auto, using(crate::proofs::Steps::listed_all, crate::proofs::Steps::sent_all))]
 fn are_as_listed(entries: &[Entry], numbers: &[u32], gathered: &Gathered, stay: &Stay) -> bool
     requires some { stay.now.from < stay.now.end }
     requires within { stay.now.end ≤ length entries.now }
-    ensures { OnTrue result (AreAsListed entries.now numbers.now gathered.now stay.now stay.now.end (length gathered.now.got.items)) }
+    ensures listed { OnTrue result (AreAsListed entries.now numbers.now gathered.now stay.now stay.now.end (length gathered.now.got.items)) }
+    ensures sends { OnTrue result (AreSentIn entries.now numbers.now gathered.now stay.now (length gathered.now.sent.items)) }
 {
     let mut sent = 0;
     let mut got = 0;
     for at in stay.from + 1..stay.end {
-        match &entries[at] {
+        let entry = &entries[at];
+        match entry {
             Entry::Send(_, _, _) => {
                 let index = next_sent(&gathered.sent, sent, stay.log);
-                if !is_origin_at(gathered, stay.log, index, at) {
+                if !is_origin_at(numbers, gathered, stay.log, index, at, entry) {
                     return false;
                 }
                 sent = index.saturating_add(1);
@@ -124,6 +159,9 @@ fn are_as_listed(entries: &[Entry], numbers: &[u32], gathered: &Gathered, stay: 
             }
             Entry::Fail(_) => {}
         }
+    }
+    if next_sent(&gathered.sent, sent, stay.log) < gathered.sent.len() {
+        return false;
     }
     if next_got(&gathered.got, got, stay.log) < gathered.got.len() {
         return false;

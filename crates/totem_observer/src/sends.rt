@@ -1,44 +1,10 @@
-//! Tests whether the lists of a configuration agree with the logs about what was sent and delivered there.
-ghost use Rattle.std.specs.Prelude.{◌≡◌, ◌<◌, IfSome, length};
+//! Tests whether the lists of a configuration agree with each other about what was sent and delivered there.
+ghost use Rattle.std.specs.Prelude.{◌≡◌, ◌<◌, length};
 ghost use Rattle.std.specs.Bool.{OnTrue};
-ghost use Rattle.totem_observer.specs.Events.{IsEventAt};
-ghost use Rattle.totem_observer.specs.Lists.{EachBelow, IsSendOf, ComesBefore, IsLinked, IsSentAt, IsGotAt};
+ghost use Rattle.totem_observer.specs.Lists.{EachBelow, ComesBefore, IsLinked, IsSentAt, IsGotAt};
 
 use crate::gathered::Gathered;
-use totem_certificate::Line;
-use totem_evs::{Entry, Log};
-use totem_ids::{ConfId, MsgId, RingId, Service};
 use totem_traffic_rules::{LogSet, Sent};
-
-/// An entry and its number.
-#[derive(Clone, Copy)]
-struct Event<'a> {
-    entry: &'a Entry,
-    number: u32,
-}
-
-/// Returns the event at this index of a log, or `None` unless it has an entry and a number.
-fn event_at<'a>(logs: &'a [Log], lines: &[Line], log: usize, at: usize) -> Option<Event<'a>>
-    ensures { IfSome result (λ event. IsEventAt logs.now lines.now log at event.entry.now event.number) }
-{
-    let line = lines.get(log)?;
-    let log = logs.get(log)?;
-    let entry = log.entries.as_slice().get(at)?;
-    let number = line.numbers.as_slice().get(at).copied()?;
-    Some(Event { entry, number })
-}
-
-/// Returns whether the entry sends the message in the ring's regular configuration, by this service.
-fn is_send_of(entry: &Entry, ring: &RingId, message: &MsgId, service: Service) -> bool
-    ensures { OnTrue result (IsSendOf entry.now ring.now message.now service) }
-{
-    match entry {
-        Entry::Send(other, ConfId::Regular(conf), kind) => {
-            *other == *message && *conf == *ring && *kind == service
-        }
-        _ => false,
-    }
-}
 
 /// Returns whether a send with this number is before the messages that are delivered from this index on.
 fn comes_before(numbers: &[u32], before: u32, number: u32) -> bool
@@ -63,9 +29,10 @@ fn is_linked(sent: &Sent, index: usize, place: Option<u32>, gathered: &Gathered)
     got.sent as usize == index && sent.by.is_within(got.by())
 }
 
-/// Returns whether the message at this index of the list was sent as the lists say.
-fn is_sent(logs: &[Log], lines: &[Line], gathered: &Gathered, index: usize) -> bool
-    ensures { OnTrue result (IsSentAt logs.now lines.now gathered.now index) }
+/// Returns whether the message at this index of the list was sent by one of these logs, and stands as the lists say among what is
+/// delivered. That the log has the send is tested along its entries.
+fn is_sent(gathered: &Gathered, logs: LogSet, index: usize) -> bool
+    ensures { OnTrue result (IsSentAt gathered.now logs index) }
 {
     let Some(sent) = gathered.sent_at(index) else {
         return false;
@@ -73,16 +40,10 @@ fn is_sent(logs: &[Log], lines: &[Line], gathered: &Gathered, index: usize) -> b
     let Some(origin) = gathered.origin_at(index) else {
         return false;
     };
-    let Some(event) = event_at(logs, lines, sent.sender as usize, origin.at as usize) else {
-        return false;
-    };
     let Some(number) = gathered.sent_number_at(index) else {
         return false;
     };
-    if event.number != number {
-        return false;
-    }
-    if !is_send_of(event.entry, &gathered.ring, &sent.message, origin.service) {
+    if !logs.contains(sent.sender) {
         return false;
     }
     if !comes_before(&gathered.got_numbers, sent.before, number) {
@@ -94,13 +55,13 @@ fn is_sent(logs: &[Log], lines: &[Line], gathered: &Gathered, index: usize) -> b
     true
 }
 
-/// Returns whether each message of the list was sent as the lists say.
+/// Returns whether each message of the list was sent by one of these logs, and stands as the lists say among what is delivered.
 #[tactic(auto, using(crate::proofs::Steps::each_more))]
-pub fn all_are_sent(logs: &[Log], lines: &[Line], gathered: &Gathered) -> bool
-    ensures { OnTrue result (EachBelow (IsSentAt logs.now lines.now gathered.now) (length gathered.now.sent.items)) }
+pub fn all_are_sent(gathered: &Gathered, logs: LogSet) -> bool
+    ensures { OnTrue result (EachBelow (IsSentAt gathered.now logs) (length gathered.now.sent.items)) }
 {
     for index in 0..gathered.sent.len() {
-        if !is_sent(logs, lines, gathered, index) {
+        if !is_sent(gathered, logs, index) {
             return false;
         }
     }

@@ -33,7 +33,7 @@ fn are_true(logs: &[Log], lines: &[Line], gathered: &Gathered, set: LogSet) -> b
 {
     rises(&gathered.got_numbers)
         && rises(&gathered.sent_numbers)
-        && all_are_sent(logs, lines, gathered)
+        && all_are_sent(gathered, set)
         && all_are_got(gathered, set)
         && are_replayed(logs, lines, gathered)
 }

@@ -2,4 +2,4 @@ use Rattle.totem_observer.specs.Lists.{EachBelow, IsSentAt}
 use Rattle.totem_observer.proofs.sends.all_are_sent.Given as goal
 
 abbrev pub invariant-loop-index : goal.invariant-loop-index
-invariant-loop-index l = EachBelow (IsSentAt l.logs l.lines l.gathered) l.index
+invariant-loop-index l = EachBelow (IsSentAt l.gathered l.logs) l.index
