@@ -51,7 +51,7 @@ fn wait_for(waiting: &mut Unlogged, begun: &[Proc], members: &[Proc]) -> Result<
 }
 
 impl Roster {
-    /// Returns the roll before the first log.
+    /// Returns the roster before the first log.
     pub fn new(alloc: Global) -> Roster
         ensures { (result.begun ≡ []) × (result.waiting ≡ []) }
     {
