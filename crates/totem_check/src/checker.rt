@@ -1,12 +1,12 @@
 //! The checker of runs and certificates (docs/SPECIFICATIONS.md, "The checker").
 //!
-//! What stands under a yes: `certified` of totem_certificate_check, which compares the certificate with the logs (1.1 and 6.1); `observe` of
+//! What a yes depends on: `certified` of totem_certificate_check, which compares the certificate with the logs (1.1 and 6.1); `observe` of
 //! totem_observer, which gathers the traffic of each configuration along the certificate and compares it with the logs (1.3); and the
-//! rules of totem_run_rules and totem_traffic_rules, a module for each of the other specifications; over what runs and certificates are
-//! (totem_ids, totem_evs, totem_certificate). totem_verdicts reads the two texts and prints the answer.
+//! rules of totem_run_rules and totem_traffic_rules, for the other specifications. All of them use the definitions of runs and
+//! certificates in totem_ids, totem_evs and totem_certificate. totem_verdicts reads the two texts and prints the answer.
 //!
-//! If a rule says no, the passes (totem_pass_ab, totem_pass_d, over totem_table) search for what is broken. If they found nothing, the answer
-//! would be yes all the same, and they would stand under it too; but no such run is known.
+//! If a rule says no, the passes (totem_pass_ab and totem_pass_d, with totem_table) search for what is broken. If they found nothing, the
+//! answer would be yes all the same, and would depend on them, too; but no such run is known.
 ghost use Rattle.std.specs.Prelude.{◌≡◌, IfOk};
 ghost use Rattle.totem_evs.specs.Answers.{HasCertificate};
 ghost use Rattle.totem_evs.specs.Certificates.{Certified};

@@ -4,7 +4,7 @@
 //! pending and who waits (`Checks`, specs/Checks); a refusal is right (`RefusesRightly`), and `Broken` names the first fault that the
 //! audit would list (`IsFirstFault`). Out of memory says nothing.
 //!
-//! Module `checker` begins with what stands under a yes.
+//! Module `checker` begins with what a yes depends on.
 #![tactic(auto)]
 
 mod check_fault;

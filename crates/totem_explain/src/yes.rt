@@ -1,4 +1,4 @@
-//! The explanation of a yes.
+//! The explanation of a yes. What a yes of the checker depends on is in totem_check, `checker`.
 use crate::counts::summary;
 use crate::fate::fate_of;
 use std::alloc::{AllocError, Global};

@@ -18,7 +18,7 @@ use crate::node_core::NodeCore;
 use crate::outcome::StepOut;
 use crate::reporting::greater;
 use crate::state::{Recovering, State};
-use crate::tokens::refused_by_new;
+use crate::token_refusal::refused_by_new;
 use crate::transition::Transition;
 use std::alloc::{AllocError, Global};
 use totem_member::{Act, Gather, MemberFault, Phase, Shown, commit_act, on_commit};

@@ -33,6 +33,7 @@ mod ring_step;
 mod state;
 mod step;
 mod timers;
+mod token_refusal;
 mod tokens;
 mod told;
 mod transition;

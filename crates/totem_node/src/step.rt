@@ -1,4 +1,4 @@
-//! Decides whether a step is refused, and takes one that is not: the module of its input does both.
+//! Decides whether a step is refused, and takes one that is not: the modules of its input do both.
 ghost use Rattle.std.specs.Prelude.{◌≡◌, Err, IfSome};
 ghost use Rattle.totem_node.specs.Table.{on_packet, step};
 ghost use Rattle.totem_node.specs.declared.fault.NodeFault.TheVariants.{Memory};

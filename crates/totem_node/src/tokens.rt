@@ -1,30 +1,22 @@
-//! Decides whether a token is refused, and takes one that is not; and sends a token again (docs/PROTOCOL.md, "The node"). What its ring has
-//! against a token, such as that it is old or repeated, is in totem_ring `refusals`; commit tokens are in `commits`.
+//! Takes a token that is not refused (`token_refusal`), and sends a token again (docs/PROTOCOL.md, "The node").
 ghost use Rattle.std.specs.Prelude.{◌≡◌, None, Err, IfOk, IfSome, false};
 ghost use Rattle.totem_ring.specs.Refusals.{token_refusal};
 ghost use Rattle.totem_ring.specs.Steps.{given};
-ghost use Rattle.totem_node.specs.Refusals.{refused_by_new, IsTaken, Tells};
+ghost use Rattle.totem_node.specs.Refusals.{IsTaken};
 ghost use Rattle.totem_node.specs.Visiting.{visit_told, visit_installed};
 ghost use Rattle.totem_node.specs.Table.{on_token};
 ghost use Rattle.totem_node.specs.Answers.{IsTold, IsStep, IsResent};
 
-use crate::fault::{NodeFault, of_its_ring};
+use crate::fault::NodeFault;
 use crate::leaving::visit_with_next;
 use crate::node_core::NodeCore;
 use crate::outcome::StepOut;
-use crate::state::{Recovering, State};
+use crate::state::State;
 use crate::told::{one_step, visit_sends, visit_steps, write_deliveries};
 use std::alloc::Global;
 use totem_ids::ConfId;
 use totem_packets::{Body, Token};
 use totem_ring::{Act, RingState};
-
-/// Returns why the new ring would refuse this token.
-pub(crate) fn refused_by_new(x: &Recovering, token: &Token) -> Option<NodeFault>
-    ensures { result ≡ refused_by_new x.now token.now }
-{
-    of_its_ring(x.ring.token_refusal_with(x.recovery.coming_bodies(), token))
-}
 
 /// Gives these bodies to a ring, lets it take a token, and returns what a node reports of it: the sends are written first, then the
 /// deliveries.
@@ -68,21 +60,6 @@ pub fn resend(alloc: Global, ring: &RingState) -> Result<StepOut, NodeFault>
 }
 
 impl NodeCore {
-    /// Returns why the node would refuse a token.
-    #[tactic(auto, using(crate::proofs::Foretelling::installed_tells, crate::proofs::Foretelling::visit_tells))]
-    pub(crate) fn token_refusal(&self, token: &Token) -> Option<NodeFault>
-        ensures { Tells result false (on_token self.now token.now self.now.state) }
-    {
-        match &self.state {
-            State::Operational => of_its_ring(
-                self.installed.token_refusal_with(&self.waiting, token),
-            ),
-            State::Gathering(_) => Some(NodeFault::Stale),
-            State::Committing(_) => Some(NodeFault::Stale),
-            State::InRecovery(x) => refused_by_new(x, token),
-        }
-    }
-
     /// Takes the installed ring's token, which the ring would not refuse.
     #[tactic(auto, using(crate::proofs::Visits::installed_takes))]
     pub(crate) fn visit_installed(

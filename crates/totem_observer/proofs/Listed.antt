@@ -292,7 +292,6 @@ module _ {run : List Log} {lines : List Numbering} {g : Gathered} {traffic : Tra
     pub linked : IsLinked g.got.items k sent
     pub origin : Origin
     pub origin_is : slice_get g.origins.items k ≡ Some origin
-    pub origin_at : origin.at ≡ at
     pub kind : service ≡ origin.service
 
   pub sent_at : (k : ℕ) (sent : Sent) → slice_get g.sent.items k ≡ Some sent → SentAt k sent
@@ -331,7 +330,6 @@ module _ {run : List Log} {lines : List Numbering} {g : Gathered} {traffic : Tra
             linked = is.linked;
             origin = o.origin;
             origin_is = o.origin_is;
-            origin_at = o.at_is;
             kind = refl;
           }
 

@@ -103,7 +103,6 @@ pub record IsOriginAt (numbers : List ℕ) (g : Gathered) (log k at : ℕ) (e : 
   pub origin_is : slice_get g.origins.items k ≡ Some origin
   pub number_is : slice_get g.sent_numbers.items k ≡ Some number
   pub sender : sent.sender ≡ log
-  pub at_is : origin.at ≡ at
   pub own_number : slice_get numbers at ≡ Some number
   pub send : IsSendOf e g.ring sent.message origin.service
 

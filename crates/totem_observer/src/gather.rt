@@ -256,13 +256,7 @@ impl Gatherer {
         Ok(())
     }
 
-    fn send(
-        &mut self,
-        message: MsgId,
-        service: Service,
-        next: &Next,
-        at: usize,
-    ) -> Result<(), AllocError> {
+    fn send(&mut self, message: MsgId, service: Service, next: &Next) -> Result<(), AllocError> {
         let sender = next.log;
         let log = sender as usize;
         if sender >= 32 || log >= self.standing.len() || self.standing[log] >= self.list.len() {
@@ -277,11 +271,7 @@ impl Gatherer {
             before: index_of(gathered.got.len()),
             by: LogSet::none(),
         })?;
-        gathered.origins.push(Origin {
-            at: index_of(at),
-            service,
-            got: None,
-        })?;
+        gathered.origins.push(Origin { service, got: None })?;
         gathered.sent_numbers.push(next.number)?;
         self.spots.insert(
             message,
@@ -318,13 +308,12 @@ impl Gatherer {
         Ok(())
     }
 
-    /// Enters the next events. `entry`, at index `at`, is that of the first log.
+    /// Enters the next events. `entry` is that of the first log.
     fn enter(
         &mut self,
         alloc: Global,
         logs: &[Log],
         entry: &Entry,
-        at: usize,
         next: &Next,
         passed: &[usize],
     ) -> Result<(), AllocError> {
@@ -335,7 +324,7 @@ impl Gatherer {
                 self.behind = self.behind.union(next.logs);
                 Ok(())
             }
-            Entry::Send(message, _, service) => self.send(*message, *service, next, at),
+            Entry::Send(message, _, service) => self.send(*message, *service, next),
             Entry::Deliver(message, _) => self.deliver(*message, next),
             Entry::Fail(_) => Ok(()),
         }
@@ -369,7 +358,7 @@ pub fn gather(alloc: Global, logs: &[Log], lines: &[Line]) -> Result<Vec<Gathere
         let Some(entry) = log.entries.as_slice().get(at) else {
             break;
         };
-        gatherer.enter(alloc, logs, entry, at, &next, &walk.passed)?;
+        gatherer.enter(alloc, logs, entry, &next, &walk.passed)?;
     }
     Ok(gatherer.list)
 }

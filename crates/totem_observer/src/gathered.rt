@@ -17,11 +17,9 @@ pub struct Stay {
     ghost in_range: { log < 32 },
 }
 
-/// Where a message was sent, and whether it is delivered.
+/// How a message was sent, and whether it is delivered.
 #[derive(Clone, Copy)]
 pub struct Origin {
-    /// The index of the send in the log of the sender.
-    pub at: u32,
     pub service: Service,
     /// Its index in the list of what is delivered, or `None` if no process delivers it.
     pub got: Option<u32>,
@@ -36,7 +34,7 @@ pub struct Gathered {
     /// The stays of logs in it.
     pub stays: Vec<Stay>,
     pub sent: Vec<Sent>,
-    /// For each message sent, where it was sent.
+    /// For each message sent, how it was sent.
     pub origins: Vec<Origin>,
     /// For each message sent, the number of the send.
     pub sent_numbers: Vec<u32>,
@@ -80,7 +78,7 @@ impl Gathered {
         self.sent.get(index).copied()
     }
 
-    /// Returns where the message at this index was sent.
+    /// Returns how the message at this index was sent.
     pub fn origin_at(&self, index: usize) -> Option<Origin>
         ensures { result ≡ slice_get self.now.origins.items index }
     {

@@ -8,11 +8,10 @@
 //!   to 7 (`settled`, proofs/Settled; `totem_check::check` says so).
 //! - What `None` or `false` means is left open.
 //!
-//! The walk that gathers promises nothing. No table, search or pass of the audit stands under what is observed.
+//! The walk that gathers promises nothing. What is observed depends on no table, search or pass of the audit.
 #![tactic(auto)]
 
 mod covered;
-mod deliveries;
 mod ends;
 mod following;
 mod gather;
@@ -20,6 +19,7 @@ mod gathered;
 mod judging;
 mod members;
 mod pending;
+mod replay;
 mod sends;
 mod stay;
 mod traffic;

@@ -3,11 +3,11 @@ ghost use Rattle.std.specs.Prelude.{◌≤◌, IfOk, IfSome, length};
 ghost use Rattle.std.specs.Bool.{OnTrue};
 ghost use Rattle.totem_observer.specs.Seen.{AreReplayed, AreTrue, HasMembers, IsSeen};
 
-use crate::deliveries::is_replayed;
 use crate::ends::ends_of;
 use crate::following::following_in;
 use crate::gathered::{Gathered, Stay};
 use crate::members::member_logs;
+use crate::replay::is_replayed;
 use crate::sends::{all_are_got, all_are_sent};
 use std::alloc::{AllocError, Global};
 use totem_certificate::Line;

@@ -1,5 +1,5 @@
 //! 2.1: where a quiet log ends, each member ends too or may still arrive (docs/SPECIFICATIONS.md, "2 Changes of configuration"). This is
-//! the search, which names what breaks it. A yes comes from the rule, totem_run_rules `ends_2_1`.
+//! the search, which names what breaks it. The rule, which is tried first, is totem_run_rules `ends_2_1`.
 ghost use Rattle.std.specs.Prelude.{IfOk};
 ghost use Rattle.totem_evs.specs.Answers.{Finds};
 

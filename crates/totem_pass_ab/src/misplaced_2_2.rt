@@ -1,5 +1,5 @@
 //! 2.2: each entry is where it is allowed (docs/SPECIFICATIONS.md, "2 Changes of configuration"). This is the search, which names what
-//! breaks it. A yes comes from the rule, totem_run_rules `misplaced_2_2`.
+//! breaks it. The rule, which is tried first, is totem_run_rules `misplaced_2_2`.
 ghost use Rattle.std.specs.Prelude.{IfOk};
 ghost use Rattle.totem_evs.specs.Answers.{Finds};
 

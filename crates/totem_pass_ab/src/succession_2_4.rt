@@ -1,5 +1,5 @@
 //! 2.4: regular and transitional configurations alternate (docs/SPECIFICATIONS.md, "2 Changes of configuration"). This is the search, which
-//! names what breaks it. A yes comes from the rule, totem_run_rules `succession_2_4` and `changes_2_3`.
+//! names what breaks it. The rule, which is tried first, is totem_run_rules `succession_2_4` and `changes_2_3`.
 ghost use Rattle.std.specs.Prelude.{◌≡◌, ◌↔◌, ℕ, ◌<◌, IsTrue, IfSome, IfOk, MatchOption, length};
 ghost use Rattle.std.specs.Bool.{OnFalse};
 ghost use Rattle.std.specs.Option.{option_copied};

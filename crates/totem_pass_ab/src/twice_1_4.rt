@@ -1,5 +1,5 @@
 //! 1.4: each message is sent and delivered once (docs/SPECIFICATIONS.md, "1 Basic delivery"). This is the search, which names what breaks
-//! it. A yes comes from the rule, totem_run_rules `once_1_4`.
+//! it. The rule, which is tried first, is totem_run_rules `once_1_4`.
 ghost use Rattle.std.specs.Prelude.{◌≡◌, ◌↔◌, ℕ, ◌<◌, List, Contains, IsTrue, IfOk};
 ghost use Rattle.totem_evs.specs.Events.{IsTransitional};
 ghost use Rattle.std.specs.Bool.{OnTrue};

@@ -1,5 +1,5 @@
 //! 1.3: a message that is delivered was sent for its configuration (docs/SPECIFICATIONS.md, "1 Basic delivery"). This is the search, which
-//! names what breaks it. A yes comes from the rule, totem_observer `deliveries` and `sends`.
+//! names what breaks it. The rule, which is tried first, is totem_observer `replay` and `sends`.
 ghost use Rattle.std.specs.Prelude.{◌≡◌, ◌↔◌, ◌<◌, IsTrue, IfSome, IfNone, IfOk, MatchOption, length};
 ghost use Rattle.std.specs.Bool.{OnTrue};
 ghost use Rattle.totem_evs.specs.Events.{IsTransitional, log_of};

@@ -1,5 +1,5 @@
 //! Why a member's ring refuses a message or a token, such as an old or a repeated one (docs/PROTOCOL.md, "The ring"). Whether a node
-//! refuses it depends on its state, too: that is decided in totem_node, `messages` and `tokens`.
+//! refuses it depends on its state, too: that is decided in totem_node, `messages` and `token_refusal`.
 ghost use Rattle.std.specs.Prelude.{◌≡◌};
 ghost use Rattle.totem_ring.specs.Refusals.{is_none_or_member, is_above};
 

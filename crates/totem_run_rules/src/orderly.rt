@@ -50,7 +50,7 @@ fn walk<'a>(
     Ok(true)
 }
 
-/// Returns `true` only if the run meets the specifications, provided that it has a certificate.
+/// Returns `true` only if a run that has a certificate meets 1.4 and 2.2 to 2.4.
 pub fn is_orderly(alloc: Global, run: &Run) -> Result<bool, AllocError>
     requires { HasCertificate run.now.logs }
     ensures { IfOk result (λ ok. OnTrue ok (IsOrderly run.now.logs)) }

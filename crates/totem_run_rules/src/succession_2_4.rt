@@ -1,7 +1,7 @@
 //! 2.4: the first configuration of a log is regular, then transitional and regular ones take turns, and each transitional one leads to the
-//! regular one that it names (docs/SPECIFICATIONS.md, "2 Changes of configuration"). That all logs come to a configuration from one ring is
-//! for `changes_2_3` to test. This is the rule for one change; `orderly` applies it along each log. What breaks it is searched by
-//! totem_pass_ab `succession_2_4`.
+//! regular one that it names, and has only members of the regular ones before and after it (docs/SPECIFICATIONS.md, "2 Changes of
+//! configuration"). This is the rule for one change. `changes_2_3` applies it to each change, on the walk of `orderly` along each log, and
+//! also tests that all logs come to a configuration from one ring. What breaks it is searched by totem_pass_ab `succession_2_4`.
 ghost use Rattle.std.specs.Prelude.{◌≡◌, ◌↔◌, ◌<◌, All, Contains, IfSome, IsTrue, length};
 ghost use Rattle.totem_ids.specs.declared.conf.ConfId.TheVariants.{Regular};
 ghost use Rattle.totem_run_rules.specs.FirstChanges.{ComesFrom};

@@ -56,6 +56,10 @@ adds_no_row by lacking n rows never adds = record {
   ];
 }
 
+-- what holds for the rows before the end of the set holds for all
+pub adds_all : (by lacking : LogSet) (n : ℕ) (rows : Rows) → ((log : ℕ) → Has by log → log < n) → AddsToRows by lacking n rows → AddsToRows by lacking 32 rows
+adds_all by lacking n rows above adds = record { each = λ log other lt a b. adds.each log other (above log a) a b }
+
 pub ruleset rows_added = (keeps_all, keeps_on, adds_none, adds_row, adds_no_row)
 
 pub apart_none : (rows : Rows) (by others : LogSet) → RowsAreApart rows by others 0
@@ -63,6 +67,9 @@ apart_none rows by others = record { none = λ log other lt a b h. omega arith }
 
 pub apart_nothing : (rows : Rows) (by others : LogSet) (end : ℕ) → ((other : ℕ) → Has others other → ⊥) → RowsAreApart rows by others end
 apart_nothing rows by others end none = record { none = λ log other lt a b h. none other h }
+
+pub apart_to_all : (rows : Rows) (by others : LogSet) (n : ℕ) → ((log : ℕ) → Has by log → log < n) → RowsAreApart rows by others n → RowsAreApart rows by others 32
+apart_to_all rows by others n above apart = record { none = λ log other lt a b h. apart.none log other (above log a) a b h }
 
 pub apart_row : (rows : Rows) (by others : LogSet) (n : ℕ) → (Has by n → ⊥) ⊎ RowIsApart rows n others → RowsAreApart rows by others n → RowsAreApart rows by others (n + 1)
 apart_row rows by others n here apart = record {

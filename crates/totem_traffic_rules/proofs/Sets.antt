@@ -1,10 +1,12 @@
 -- Sets of logs as numbers.
-use Rattle.std.proofs.Common.{◌≡◌, ◌≢◌, ◌⊎◌, ◌↔◌, inl, inr, ℕ, ◌*◌, ◌-◌, ◌%◌, ◌^◌, ◌<◌, ◌≤◌, min, max, sym, ◌∙◌, ap, arith, w32}
+use Rattle.std.proofs.Common.{◌≡◌, ◌≢◌, ◌⊎◌, ◌↔◌, inl, inr, ℕ, suc, ◌+◌, ◌*◌, ◌-◌, ◌/◌, ◌%◌, ◌^◌, ◌<◌, ◌≤◌, min, max, sym, ◌∙◌, ap, arith, w32}
 use Rattle.std.specs.Prelude.{bit_and, bit_or}
-use Rattle.std.specs.Int.{bit_at, bit_not, trailing_zeros}
+use Rattle.std.specs.Int.{bit_at, bit_not, trailing_zeros, leading_zeros}
 use Rattle.std.proofs.lemmas.Nat.Bits.{bit_at-lt, bit_at-zero, bit_at_or, bit_at_and, bit_at_not, bit_at_above, bit_at_ones, bit_at_set_same, bit_at_set_other, bit_at_clear_same, bit_at_clear_other, bit_at-trailing_zeros, same_from_bits}
+use Rattle.std.proofs.lemmas.Nat.{leading_length}
+use Rattle.std.proofs.Math.Nat.{div-eq_of_lt-le, pow-succ'}
 use Rattle.totem_traffic_rules.specs.declared.log_set.LogSet.{LogSet}
-use Rattle.totem_traffic_rules.specs.LogSets.{Has, IsEmpty, IsWithin, AreApart, IsLeast}
+use Rattle.totem_traffic_rules.specs.LogSets.{Has, IsEmpty, IsWithin, AreApart, IsLeast, IsEnd}
 
 -- ---- one bit
 
@@ -131,4 +133,19 @@ least_of set fits some =
     let known = bit_at-trailing_zeros w32 set.bits (omega arith) fits in
     record { within = known.0; has = known.1; first = λ other lt h. let none = known.2 other lt in omega arith }
 
-pub ruleset operations = (none_is_empty, empty_is_none, all_have, with_same, with_others, without_same, without_others, union_of, intersection_of, minus_of, within_of, apart_of, least_of)
+-- the highest digit of a number
+top : (a m : ℕ) → 0 < m → a < 2 ^ m → 2 ^ m ≤ 2 * a + 1 → bit_at a (m - 1) ≡ 1
+top a m some under over =
+    let next : m ≡ suc (m - 1) = omega arith in
+    let twice : 2 ^ m ≡ 2 * 2 ^ (m - 1) = ap (λ n. 2 ^ n) next ∙ pow-succ' 2 (m - 1) in
+    let once : a / 2 ^ (m - 1) ≡ 1 = div-eq_of_lt-le (2 ^ (m - 1)) (omega arith) (omega arith) in
+    ap (λ n. n % 2) once
+
+pub end_of : (set : LogSet) → set.bits < 2 ^ 32 → IsEnd set (32 - leading_zeros w32 set.bits)
+unfolding Has
+end_of set fits =
+    let (m, known, under, over) = leading_length 32 set.bits fits in
+    let end : 32 - leading_zeros w32 set.bits ≡ m = omega arith in
+    record { within = omega arith; above = λ log has. elim (less_or_not log m) [ inl lt ↦ omega arith | inr past ↦ absurd (let none = bit_at_above set.bits m log under past in omega arith) ]; last = λ some. ap (λ n. bit_at set.bits (n - 1)) end ∙ top set.bits m (omega arith) under over }
+
+pub ruleset operations = (none_is_empty, empty_is_none, all_have, with_same, with_others, without_same, without_others, union_of, intersection_of, minus_of, within_of, apart_of, least_of, end_of)

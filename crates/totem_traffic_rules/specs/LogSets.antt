@@ -1,5 +1,5 @@
 -- Sets of logs.
-use Rattle.std.specs.Prelude.{◌≡◌, ℕ, ◌<◌, List, slice_get, Some}
+use Rattle.std.specs.Prelude.{◌≡◌, ℕ, ◌-◌, ◌<◌, ◌≤◌, List, slice_get, Some}
 use Rattle.std.specs.Int.{bit_at}
 use Rattle.totem_traffic_rules.specs.declared.log_set.LogSet.{LogSet}
 
@@ -21,6 +21,12 @@ pub record AreIn (sets : List LogSet) (other : LogSet) : Type 0 where
 -- the sets have no log in common
 pub record AreApart (set other : LogSet) : Type 0 where
   pub none : (log : ℕ) → Has set log → Has other log → ⊥
+
+-- the set has no log from this index on, and has the log before it unless it is empty
+pub record IsEnd (set : LogSet) (end : ℕ) : Type 0 where
+  pub within : end ≤ 32
+  pub above : (log : ℕ) → Has set log → log < end
+  pub last : 0 < end → Has set (end - 1)
 
 -- the set has this log, and none before it
 pub record IsLeast (set : LogSet) (log : ℕ) : Type 0 where

@@ -1,9 +1,6 @@
 //! Sets of logs of a run, by their index in it.
 ghost use Rattle.std.specs.Prelude.{◌≡◌, ◌≢◌, ◌⊎◌, ◌↔◌, ℕ, ◌<◌, IsTrue, IfSome, IfNone};
 
-/// How many logs a run has at most.
-pub const MOST: u32 = 32;
-
 /// A set of at most 32 logs.
 #[derive(Clone, Copy, Debug)]
 pub struct LogSet {
@@ -13,7 +10,7 @@ pub struct LogSet {
 
 #[tactic(auto, using(crate::proofs::Sets::operations))]
 impl LogSet {
-    ghost use Rattle.totem_traffic_rules.specs.LogSets.{Has, IsWithin, AreApart, IsEmpty, IsLeast};
+    ghost use Rattle.totem_traffic_rules.specs.LogSets.{Has, IsWithin, AreApart, IsEmpty, IsLeast, IsEnd};
 
     /// Returns the empty set.
     pub fn none() -> LogSet
@@ -117,5 +114,12 @@ impl LogSet {
             return None;
         }
         Some(self.bits.trailing_zeros())
+    }
+
+    /// Returns the index after that of the last log of the set, or 0 if the set is empty.
+    pub(crate) fn end(self) -> u32
+        ensures { IsEnd self result }
+    {
+        32 - self.bits.leading_zeros()
     }
 }

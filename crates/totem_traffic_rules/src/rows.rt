@@ -3,7 +3,7 @@ ghost use Rattle.std.specs.Prelude.{◌≡◌, ◌<◌, ℕ};
 ghost use Rattle.std.specs.Bool.{OnFalse};
 ghost use Rattle.totem_traffic_rules.specs.LogSets.{AreIn};
 
-use crate::log_set::{LogSet, MOST};
+use crate::log_set::LogSet;
 
 /// For each log, the logs that lack something that it has.
 #[derive(Drop)]
@@ -46,7 +46,7 @@ impl Rows {
         if lacking.is_empty() {
             return;
         }
-        for log in 0..MOST {
+        for log in 0..by.end() {
             if by.contains(log) {
                 self.add_to_row(log, lacking);
             }
@@ -69,7 +69,7 @@ impl Rows {
         if others.is_apart(self.lacking) {
             return false;
         }
-        for log in 0..MOST {
+        for log in 0..by.end() {
             if by.contains(log) && self.row_meets(log, others) {
                 return true;
             }

@@ -1,5 +1,5 @@
 //! From the text of a run and its certificate to the checker's report. The verdict is that of totem_check, whose module `checker` begins
-//! with what stands under a yes.
+//! with what a yes depends on.
 ghost use Rattle.std.specs.Prelude.{◌≡◌, []};
 ghost use Rattle.totem_ids.specs.Sources.{seen};
 ghost use Rattle.totem_ids.specs.Writing.{held};

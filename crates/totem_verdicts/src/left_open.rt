@@ -1,4 +1,5 @@
-//! The lines of a yes: what a run leaves open (docs/SPECIFICATIONS.md, "Report text").
+//! The lines of a yes: what a run leaves open (docs/SPECIFICATIONS.md, "Report text"). What a yes of the checker depends on is in
+//! totem_check, `checker`.
 ghost use Rattle.std.specs.List.{flat_map};
 ghost use Rattle.totem_ids.specs.Writing.{Writes, held};
 ghost use Rattle.totem_verdicts.specs.Report.{pending_line, waiting_line, yes_text};

@@ -40,7 +40,7 @@ const OPTIONS: [NumberOption; 6] = [
         least: 1,
         most: 1_000_000,
         default: "4000",
-        help: "Length of the run in ticks, from 1 to 1000000. A tick is about one hop of the token. At every eighth tick the next node, in rotation, gets a message to send and a timer event. A node that misses the token looks for a new ring only at the third timer event since it got the token. A run starts only if it can get 4 KB of memory times ticks times nodes; most runs use much less",
+        help: "Length of the run in ticks, from 1 to 1000000. A tick is about one hop of the token. At every eighth tick the next node, in rotation, gets a message to send and a timer event. A node looks for a new ring at the third timer event after it last had the token. A run starts only if it can get 4 KB of memory times ticks times nodes; most runs use much less",
     },
     NumberOption {
         name: "seed",
@@ -92,7 +92,7 @@ fn weave_option<'a>(alloc: Global) -> Arg<'a> {
         .long("weave")
         .action(ArgAction::SetTrue)
         .help(
-            "Do not write the run. Look for a schedule: a single order of all that the nodes did on their first ring, 4.1, in which each packet is received after it was sent, and each step is one that the protocol allows. If there is one, write how many steps it has and, for each node, the messages that it got from the ring, in order. If there is none, write one call (an input, and the node's answer) that is to blame, in this sense: even if what its node did is cut off right after this call, and what the other nodes did is cut off anywhere, there is no such order",
+            "Do not write the run. Look for a schedule: a single order of all that the nodes did on their first ring, 4.1, in which each packet is received after it was sent, and each step is one that the protocol allows. If there is one, write how many steps it has and, for each node, the messages that it got from the ring, in order. If there is none, write one call (an input, and the node's answer) that is to blame: keep what its node did up to and including this call, and of what each other node did any beginning, however short; there is no schedule of what is kept",
         )
 }
 
