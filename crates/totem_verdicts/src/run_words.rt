@@ -72,7 +72,7 @@ const OPTIONS: [NumberOption; 6] = [
         least: 0,
         most: 255,
         default: "0",
-        help: "How many later packets may overtake a packet, from 0 to 255. With 2 or more, tokens are delayed so long that nodes form new rings again and again, and deliver next to nothing",
+        help: "How many later packets may overtake a packet, from 0 to 255. With 2 or more, and sometimes with 1, tokens are delayed so long that nodes form new rings again and again, and deliver next to nothing",
     },
 ];
 
@@ -92,7 +92,7 @@ fn weave_option<'a>(alloc: Global) -> Arg<'a> {
         .long("weave")
         .action(ArgAction::SetTrue)
         .help(
-            "Do not write the run. Look for a schedule: a single order of all that the nodes did on their first ring, 4.1, in which each packet is received after it was sent, and each step is one that the protocol allows. If there is one, write how many steps it has and, for each node, the messages that it got from the ring, in order. If there is none, write one call (an input, and the node's answer) that is to blame: keep what its node did up to and including this call, and of what each other node did any beginning, however short; there is no schedule of what is kept",
+            "Do not write the run. Look for a schedule: a single order of all that the nodes did on their first ring, 4.1, in which each packet is received after it was sent, and each step is one that the protocol allows. If there is one, write how many steps it has and, for each node, the messages that it got from the ring, in order. If there is none, write one call (an input, and the node's answer) that is to blame: the steps of its node up to and including this call fit no schedule, no matter how many of the first steps of each other node are taken with them",
         )
 }
 
