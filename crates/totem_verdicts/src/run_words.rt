@@ -92,7 +92,7 @@ fn weave_option<'a>(alloc: Global) -> Arg<'a> {
         .long("weave")
         .action(ArgAction::SetTrue)
         .help(
-            "Do not write the run. Look for a schedule: a single order of all that the nodes did on their first ring, 4.1, in which each packet is received after it was sent, and each step is one that the protocol allows. If there is one, write how many steps it has and, for each node, the messages that it got from the ring, in order. If there is none, write one call (an input, and the node's answer) that is to blame: the steps of its node up to and including this call fit no schedule, no matter how many of the first steps of each other node are taken with them",
+            "Do not write the run. Look for a schedule: a single order of all that the nodes did on their first ring, 4.1, in which each packet is received after it was sent, and each step is one that the protocol allows. If there is one, write how many steps it has and, for each node, the messages that it got from the ring, in order. If there is none, write one call (an input, and the node's answer) that is to blame (docs/PROTOCOL.md, The woven ring, says in which sense)",
         )
 }
 
