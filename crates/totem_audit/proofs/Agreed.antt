@@ -11,9 +11,9 @@ use Rattle.totem_evs.specs.Answers.{ListsRings, ListsConfigurations, Yes, IsAnsw
 use Rattle.totem_evs.specs.Certificates.{Numbering}
 use Rattle.totem_evs.specs.Unsettled.{AreWaiting}
 use Rattle.totem_evs.proofs.Synchronous.{MeetsConfigurations, MeetsEach}
-use Rattle.totem_observer.specs.declared.judging.View.{View}
-use Rattle.totem_observer.specs.Judged.{Agree}
-use Rattle.totem_observer.proofs.Settled.{configurations}
+use Rattle.totem_judge.specs.declared.judging.View.{View}
+use Rattle.totem_judge.specs.Judged.{Agree}
+use Rattle.totem_judge.proofs.Settled.{configurations}
 use Rattle.totem_audit.specs.Early.{IsViewOf, IsOrdered}
 use Rattle.totem_audit.proofs.AllRings.{all_rings}
 use Rattle.totem_audit.proofs.Rings.{is_first, in_rest}

@@ -7,8 +7,8 @@ use Rattle.totem_evs.specs.RunRecord.{RunRecord}
 use Rattle.totem_evs.specs.Certificates.{Numbering}
 use Rattle.totem_evs.specs.Positions.{IsPositions}
 use Rattle.totem_certificate.specs.Keeping.{certificate_version}
-use Rattle.totem_observer.specs.declared.judging.View.{View}
-use Rattle.totem_observer.specs.Judged.{IsView}
+use Rattle.totem_judge.specs.declared.judging.View.{View}
+use Rattle.totem_judge.specs.Judged.{IsView}
 use Rattle.totem_audit.specs.declared.first_passes.Passed.{Passed}
 use Rattle.totem_audit.specs.declared.first_passes.FirstPasses.{FirstPasses}
 use Rattle.totem_audit.specs.declared.first_passes.FirstPasses.TheVariants.{Broken, Ordered}

@@ -19,7 +19,7 @@ use std::sync::Wait;
 use std::thread::Threads;
 use totem_certificate::Certificate;
 use totem_evs::{Fault, Pending, Run};
-use totem_observer::View;
+use totem_judge::View;
 use totem_pass_d::{Jobs, pass_d_of, pending_of, waiting};
 use totem_table::Changes;
 

@@ -4,8 +4,8 @@ use std::alloc::{AllocError, Global};
 use totem_audit::{Verdict, Workers, audit, early};
 use totem_evs::{Run, read_run};
 use totem_ids::FromRead;
+use totem_judge_run::{deliveries_are_once, sends_are_once};
 use totem_pass_ab::{pass_a, pass_b};
-use totem_run_rules::{deliveries_are_once, sends_are_once};
 use totem_table::{Changes, Row as Numbers, Table, numbers_tell_confs, numbers_tell_messages};
 
 fn push_verdict(text: &mut String, verdict: &Verdict) -> Result<(), AllocError> {

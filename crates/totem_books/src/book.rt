@@ -12,6 +12,7 @@ use crate::level::Level;
 use crate::reply::Reply;
 use std::alloc::{AllocError, Global};
 use std::marker::Model;
+use std::sync::Arc;
 use totem_evs::{Entry, Members};
 use totem_ids::{Proc, RingId};
 use totem_node::{Input, NodeCore};
@@ -48,7 +49,7 @@ impl Book {
         requires { IsMembers members.now }
         ensures { IfOk result (λ b. b ≡ begun (start_with me ring members.now)) }
     {
-        let copy = Members::of(alloc, members.to_vec(alloc)?)?;
+        let copy = Members::of(Arc::new(alloc, members.to_vec(alloc)?)?);
         let (node, change) = NodeCore::new(alloc, me, ring, members)?;
         let mut entries = Vec::new(alloc);
         entries.push(change)?;

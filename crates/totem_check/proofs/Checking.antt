@@ -7,15 +7,15 @@ use Rattle.totem_evs.specs.Certificates.{Numbering, Certified}
 use Rattle.totem_evs.specs.Synchrony.{IsVirtuallySynchronous}
 use Rattle.totem_pass_ab.specs.Listed.{ListsFirst}
 use Rattle.totem_evs.proofs.Synchronous.{meets_passes, meets_configurations, synchronous, sound}
-use Rattle.totem_certificate_check.specs.declared.certificate_fault.CertificateFault.{CertificateFault}
-use Rattle.totem_certificate_check.specs.declared.certificate_fault.CertificateFault.TheVariants as certificate
+use Rattle.totem_judge_certificate.specs.declared.certificate_fault.CertificateFault.{CertificateFault}
+use Rattle.totem_judge_certificate.specs.declared.certificate_fault.CertificateFault.TheVariants as certificate
 use Rattle.totem_check.specs.declared.checker.Accepted.{Accepted}
 use Rattle.totem_check.specs.declared.check_fault.CheckFault.{CheckFault}
 use Rattle.totem_check.specs.declared.check_fault.CheckFault.TheVariants as faults
 use Rattle.totem_check.specs.CheckFaults.{check_fault}
-use Rattle.totem_certificate_check.specs.Certifying.{Answers}
+use Rattle.totem_judge_certificate.specs.Certifying.{Answers}
 use Rattle.totem_check.specs.Checks.{IsAcceptable, IsFirstFault, HasPassed, IsEarlyFault, Judges, BeginsWith, Checks, RefusesRightly}
-use Rattle.totem_certificate_check.proofs.Exactly.{not_certified}
+use Rattle.totem_judge_certificate.proofs.Exactly.{not_certified}
 
 -- ---- the first fault
 

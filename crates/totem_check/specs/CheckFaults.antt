@@ -1,7 +1,7 @@
 -- The checker's faults, their numbers and their names (docs/SPECIFICATIONS.md, "The checker").
 use Rattle.std.specs.Prelude.{ℕ, List, codes}
-use Rattle.totem_certificate_check.specs.declared.certificate_fault.CertificateFault.{CertificateFault}
-use Rattle.totem_certificate_check.specs.declared.certificate_fault.CertificateFault.TheVariants as certificate
+use Rattle.totem_judge_certificate.specs.declared.certificate_fault.CertificateFault.{CertificateFault}
+use Rattle.totem_judge_certificate.specs.declared.certificate_fault.CertificateFault.TheVariants as certificate
 use Rattle.totem_check.specs.declared.check_fault.CheckFault.{CheckFault}
 use Rattle.totem_check.specs.declared.check_fault.CheckFault.TheVariants as faults
 

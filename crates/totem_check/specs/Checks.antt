@@ -8,10 +8,10 @@ use Rattle.totem_evs.specs.Faults.{Breaks}
 use Rattle.totem_evs.specs.Answers.{No, Lists, IsAnswered, pass_a, pass_b}
 use Rattle.totem_evs.specs.Certificates.{Numbering, Matches, Certified}
 use Rattle.totem_check.specs.declared.checker.Accepted.{Accepted}
-use Rattle.totem_certificate_check.specs.declared.certificate_fault.CertificateFault.TheVariants as certificate
+use Rattle.totem_judge_certificate.specs.declared.certificate_fault.CertificateFault.TheVariants as certificate
 use Rattle.totem_check.specs.declared.check_fault.CheckFault.{CheckFault}
 use Rattle.totem_check.specs.declared.check_fault.CheckFault.TheVariants as faults
-use Rattle.totem_certificate_check.specs.Certifying.{Answers, Rise}
+use Rattle.totem_judge_certificate.specs.Certifying.{Answers, Rise}
 
 -- the lines certify the run, and it meets specifications 1 to 7
 pub record IsAcceptable (run : List Log) (lines : List Numbering) : Type 0 where

@@ -5,8 +5,8 @@ ghost use Rattle.totem_check.specs.CheckFaults.{fault_number, fault_name};
 
 use std::alloc::{AllocError, Global};
 use thiserror::Error;
-use totem_certificate_check::CertificateFault;
 use totem_evs::Fault;
+use totem_judge_certificate::CertificateFault;
 
 /// Why a run with a certificate was not accepted. Each reason is sought in the whole run before the next one.
 #[derive(Debug, Drop, Error)]

@@ -1,8 +1,8 @@
 //! The checker of runs and certificates (docs/SPECIFICATIONS.md, "The checker").
 //!
-//! What a yes depends on: `certified` of totem_certificate_check, which compares the certificate with the logs (1.1 and 6.1); `observe` of
-//! totem_observer, which gathers the traffic of each configuration along the certificate and compares it with the logs (1.3); and the
-//! rules of totem_run_rules and totem_traffic_rules, for the other specifications. All of them use the definitions of runs and
+//! What a yes depends on: `certified` of totem_judge_certificate, which compares the certificate with the logs (1.1 and 6.1); `observe` of
+//! totem_judge, which gathers the traffic of each configuration along the certificate and compares it with the logs (1.3); and the
+//! rules of totem_judge_run and totem_judge_traffic, for the other specifications. All of them use the definitions of runs and
 //! certificates in totem_ids, totem_evs and totem_certificate. totem_verdicts reads the two texts and prints the answer.
 //!
 //! If a rule says no, the passes (totem_pass_ab and totem_pass_d, with totem_table) search for what is broken. If they found nothing, the
@@ -11,21 +11,21 @@ ghost use Rattle.std.specs.Prelude.{◌≡◌, IfOk};
 ghost use Rattle.totem_evs.specs.Answers.{HasCertificate};
 ghost use Rattle.totem_evs.specs.Certificates.{Certified};
 ghost use Rattle.totem_table.specs.Changes.{AreChanges};
-ghost use Rattle.totem_traffic_rules.specs.Traffics.{AreTraffic};
-ghost use Rattle.totem_observer.specs.Judged.{IsView};
+ghost use Rattle.totem_judge_traffic.specs.Traffics.{AreTraffic};
+ghost use Rattle.totem_judge.specs.Judged.{IsView};
 ghost use Rattle.totem_check.specs.Checks.{HasPassed, IsEarlyFault, Judges, Checks, RefusesRightly, BeginsWith};
 
 use crate::check_fault::CheckFault;
 use std::alloc::{AllocError, Global};
 use totem_certificate::Certificate;
-use totem_certificate_check::certified;
 use totem_evs::{Fault, Pending, Run, Waiting};
-use totem_observer::{View, observe};
+use totem_judge::{View, observe};
+use totem_judge_certificate::certified;
+use totem_judge_run::waiting;
+use totem_judge_traffic::Observed;
 use totem_pass_ab::pass_a_and_b;
 use totem_pass_d::{Jobs, pass_d_of, pending_of};
-use totem_run_rules::waiting;
 use totem_table::Changes;
-use totem_traffic_rules::Observed;
 
 /// What the checker accepts: the certificate certifies the run, the run meets the specifications, and these ascending lists
 /// have what is pending and which processes wait.

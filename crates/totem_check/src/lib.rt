@@ -12,4 +12,4 @@ mod checker;
 
 pub use check_fault::CheckFault;
 pub use checker::{Accepted, check};
-pub use totem_certificate_check::{CertificateFault, certified};
+pub use totem_judge_certificate::{CertificateFault, certified};

@@ -1,11 +1,12 @@
 ghost use Rattle.std.specs.Prelude.{◌≡◌, ◌↔◌, IsTrue, Contains, IfOk, MatchResult};
+ghost use Rattle.std.specs.Arc.{arc_value};
 ghost use Rattle.totem_ids.specs.Lists.{Refuses};
 ghost use Rattle.totem_evs.specs.Members.{IsMembers, IsBelow};
 
-use std::alloc::{AllocError, Global};
+use std::alloc::AllocError;
 use std::marker::Model;
 use std::sync::Arc;
-use totem_ids::{Proc, Refused, are_same, rising};
+use totem_ids::{Proc, Refused, are_same, rising_fault};
 
 /// How many members a configuration may have at most.
 const MOST: usize = 32;
@@ -30,29 +31,26 @@ impl Model for Members {
 }
 
 impl Members {
-    /// Makes the members from these processes. Otherwise refuses the list, with the first rule that it breaks. If
-    /// memory is refused, the list is lost.
-    pub fn new(
-        alloc: Global,
-        procs: Vec<Proc>,
-    ) -> Result<Result<Members, Refused<Vec<Proc>>>, AllocError>
-        ensures { IfOk result (λ made. MatchResult made (λ m. (m ≡ procs.items) × IsMembers procs.items)
-            (λ r. (r.value.items ≡ procs.items) × Refuses 1 32 IsBelow procs.items r.fault)) }
+    /// Makes the members from these processes. Otherwise refuses the list, with the first rule that it breaks. Takes no memory.
+    pub fn new(procs: Arc<Vec<Proc>>) -> Result<Members, Refused<Arc<Vec<Proc>>>>
+        ensures { MatchResult result (λ m. (m ≡ (arc_value procs).items) × IsMembers (arc_value procs).items)
+            (λ r. (arc_value r.value ≡ arc_value procs) × Refuses 1 32 IsBelow (arc_value procs).items r.fault) }
     {
-        match rising(1, MOST, procs) {
-            Ok(procs) => Ok(Ok(Members::of(alloc, procs)?)),
-            Err(refused) => Ok(Err(refused)),
+        match rising_fault(1, MOST, &procs) {
+            None => Ok(Members { procs }),
+            Some(fault) => Err(Refused {
+                fault,
+                value: procs,
+            }),
         }
     }
 
     /// Makes the members from processes that are known to keep the rules.
-    pub fn of(alloc: Global, procs: Vec<Proc>) -> Result<Members, AllocError>
-        requires { IsMembers procs.items }
-        ensures { IfOk result (λ m. m ≡ procs.items) }
+    pub fn of(procs: Arc<Vec<Proc>>) -> Members
+        requires { IsMembers (arc_value procs).items }
+        ensures { result ≡ (arc_value procs).items }
     {
-        Ok(Members {
-            procs: Arc::new(alloc, procs)?,
-        })
+        Members { procs }
     }
 
     pub fn as_slice(&self) -> &[Proc]

@@ -13,6 +13,7 @@ ghost use Rattle.totem_evs.specs.LineStarts.{BeginsWith, start_at, send_start, d
 use crate::entry::Entry;
 use crate::members::Members;
 use std::alloc::{AllocError, Global};
+use std::sync::Arc;
 use totem_ids::{
     ConfId, FromRead, MsgId, Proc, ReadError, RingId, Service, Source, TextFault, are_same, next,
     number_within, read_conf, read_ring, read_service, word,
@@ -196,7 +197,7 @@ impl Repeats {
         {
             return last.try_clone();
         }
-        let members = Members::of(alloc, procs)?;
+        let members = Members::of(Arc::new(alloc, procs)?);
         self.members = Some(members.try_clone()?);
         Ok(members)
     }

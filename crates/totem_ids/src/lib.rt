@@ -53,7 +53,7 @@ pub use laws::{
     ring_spelling,
 };
 pub use life::{Proc, WrittenProc};
-pub use lists::{Keyed, Listed, are_same, bounded, copied, rising};
+pub use lists::{Keyed, Listed, are_same, bounded, copied, rising, rising_fault};
 pub use message::{MsgId, Service};
 pub use names::{read_conf, read_message, read_ring};
 pub use pieces::Pieces;

@@ -56,6 +56,36 @@ fn keep_their_rules<T: Listed>(list: &[T])
     }
 }
 
+/// Returns `None` if the list has `least` to `most` elements, and otherwise the first rule that it breaks.
+fn bounds_fault<T: Listed>(least: usize, most: usize, list: &[T]) -> Option<ListFault>
+    requires { least ≤ 1 }
+    ensures broken { IfSome result (λ fault. Refuses least most Anyhow list.now fault) }
+    ensures kept { IfNone result (IsListOf least most Anyhow T.keeps list.now) }
+{
+    if list.len() < least {
+        return Some(ListFault::Empty);
+    }
+    if most < list.len() {
+        return Some(ListFault::TooMany(most));
+    }
+    keep_their_rules(list);
+    None
+}
+
+/// Returns `None` if the list has `least` to `most` elements and they are strictly ascending, and otherwise the first rule that it
+/// breaks.
+pub fn rising_fault<T: Keyed>(least: usize, most: usize, list: &[T]) -> Option<ListFault>
+    requires { least ≤ 1 }
+    ensures broken { IfSome result (λ fault. Refuses least most (λ a b. T.key_of a < T.key_of b) list.now fault) }
+    ensures kept { IfNone result (IsListOf least most (λ a b. T.key_of a < T.key_of b) T.keeps list.now) }
+{
+    if let Some(fault) = bounds_fault(least, most, list) {
+        return Some(fault);
+    }
+    let at = first_fall(list)?;
+    Some(ListFault::NotRising(at))
+}
+
 /// Returns the list if it has `least` to `most` elements. Otherwise refuses it, with the first rule that it breaks.
 pub fn bounded<T: Listed>(
     least: usize,
@@ -66,15 +96,10 @@ pub fn bounded<T: Listed>(
     ensures { MatchResult result (λ v. (v.items ≡ list.items) × IsListOf least most Anyhow T.keeps list.items)
         (λ r. (r.value.items ≡ list.items) × Refuses least most Anyhow list.items r.fault) }
 {
-    let fault = if list.len() < least {
-        ListFault::Empty
-    } else if most < list.len() {
-        ListFault::TooMany(most)
-    } else {
-        keep_their_rules(&list);
-        return Ok(list);
-    };
-    Err(Refused { fault, value: list })
+    match bounds_fault(least, most, &list) {
+        None => Ok(list),
+        Some(fault) => Err(Refused { fault, value: list }),
+    }
 }
 
 /// Returns the list if it has `least` to `most` elements and they are strictly ascending. Otherwise refuses it, with the first rule
@@ -84,13 +109,9 @@ pub fn rising<T: Keyed>(least: usize, most: usize, list: Vec<T>) -> Result<Vec<T
     ensures { MatchResult result (λ v. (v.items ≡ list.items) × IsListOf least most (λ a b. T.key_of a < T.key_of b) T.keeps list.items)
         (λ r. (r.value.items ≡ list.items) × Refuses least most (λ a b. T.key_of a < T.key_of b) list.items r.fault) }
 {
-    let list = bounded(least, most, list)?;
-    match first_fall(&list) {
+    match rising_fault(least, most, &list) {
         None => Ok(list),
-        Some(at) => Err(Refused {
-            fault: ListFault::NotRising(at),
-            value: list,
-        }),
+        Some(fault) => Err(Refused { fault, value: list }),
     }
 }
 

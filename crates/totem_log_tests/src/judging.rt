@@ -1,14 +1,14 @@
-//! The observer and the rules: they report what a good run leaves open, and don't say yes to a run that breaks a specification.
+//! The judge and its rules: they report what a good run leaves open, and don't say yes to a run that breaks a specification.
 use crate::values::is_told;
 use std::alloc::{AllocError, Global};
 use std::process::Abort;
 use totem_evs::{Pending, Run, read_run};
 use totem_ids::{FromRead, MsgId, Proc, ProcId, RingId};
-use totem_observer::observe;
+use totem_judge::observe;
+use totem_judge_run::{in_order, walk_to_change};
 use totem_order::{Order, positions};
-use totem_run_rules::{in_order, walk_to_change};
 
-/// Adds the answer of the observer and the rules on a run, with the certificate that the auditor makes of it.
+/// Adds the answer of the judge and its rules on a run, with the certificate that the auditor makes of it.
 fn push_judged(alloc: Global, text: &mut String, run: &Run) -> Result<(), AllocError> {
     let Order::Positions(certificate) = positions(alloc, run)? else {
         return text.push_str("no certificate");

@@ -1,4 +1,4 @@
-//! Tests of runs, certificates, the rules and the observer, by public calls.
+//! Tests of runs, certificates, the rules and the judge, by public calls.
 #![tactic(auto)]
 
 #[cfg(test)]

@@ -1,6 +1,7 @@
 //! Numbers, lines, certificates and members: each constructor, each copy, and what is refused.
 use crate::values::{push_lines, push_processes};
 use std::alloc::{AllocError, Global};
+use std::sync::Arc;
 use totem_evs::{Members, Refused};
 use totem_ids::{Proc, ProcId};
 use totem_order::{Certificate, Line, Lines, Numbers};
@@ -116,8 +117,8 @@ fn taken_members(alloc: Global, members: Members) -> Result<String, AllocError> 
 }
 
 pub fn members_told(alloc: Global, numbers: &[u16]) -> Result<String, AllocError> {
-    match Members::new(alloc, procs(alloc, numbers)?)? {
+    match Members::new(Arc::new(alloc, procs(alloc, numbers)?)?) {
         Ok(members) => taken_members(alloc, members),
-        Err(refused) => refusal(alloc, &refused),
+        Err(refused) => format!(in alloc; "{:?} of {}", refused.fault, refused.value.len()),
     }
 }

@@ -2,6 +2,7 @@
 use crate::lists::{proc, procs, refusal};
 use crate::values::push_log;
 use std::alloc::{AllocError, Global};
+use std::sync::Arc;
 use totem_evs::{Ending, Entries, Entry, Fault, Log, Logs, Members, Part, Places, Run, SpecNo};
 use totem_ids::{ConfId, MsgId, Place, Proc, ProcId, RingId, Service};
 
@@ -29,7 +30,7 @@ fn push_entry(alloc: Global, list: &mut Vec<Entry>, word: &str) -> Result<(), Al
     let entry = match word {
         "send" => Entry::Send(message(), conf(), Service::Safe),
         "deliver" => Entry::Deliver(message(), conf()),
-        "change" => match Members::new(alloc, procs(alloc, &[1, 2])?)? {
+        "change" => match Members::new(Arc::new(alloc, procs(alloc, &[1, 2])?)?) {
             Ok(members) => Entry::Conf(conf(), members),
             Err(_) => Entry::Fail(conf()),
         },

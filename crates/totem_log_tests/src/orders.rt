@@ -3,8 +3,8 @@ use crate::values::is_told;
 use std::alloc::{AllocError, Global};
 use totem_evs::{Run, read_run};
 use totem_ids::FromRead;
+use totem_judge_run::{end_together, first_misplaced, is_orderly, sends_are_once, waiting};
 use totem_order::{Order, positions};
-use totem_run_rules::{end_together, first_misplaced, is_orderly, sends_are_once, waiting};
 
 /// Adds whether a run that has a certificate is orderly, and the number of waiting processes if it is.
 fn push_waiting(alloc: Global, text: &mut String, run: &Run) -> Result<(), AllocError> {

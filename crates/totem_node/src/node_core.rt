@@ -4,6 +4,7 @@ ghost use Rattle.std.specs.Prelude.{◌≡◌, IfOk};
 use crate::state::State;
 use std::alloc::{AllocError, Global};
 use std::marker::Model;
+use std::sync::Arc;
 use totem_evs::{Entry, Members};
 use totem_ids::{ConfId, Proc, ProcId, RingId};
 use totem_packets::{Body, Life, Number, Processes};
@@ -69,7 +70,7 @@ impl NodeCore {
         ensures entry { IfOk result (λ made. made.1 ≡ first_change ring members.now) }
     {
         let ids = ids_of(alloc, members)?;
-        let members = Members::of(alloc, members.to_vec(alloc)?)?;
+        let members = Members::of(Arc::new(alloc, members.to_vec(alloc)?)?);
         let change = Entry::Conf(ConfId::Regular(ring), members);
         let node = NodeCore {
             me: me.id(),

@@ -14,7 +14,7 @@ use Rattle.totem_evs.specs.Answers.{Meets, Finds, IsLeast}
 use Rattle.totem_table.specs.Search.{place, HoldsOfNone}
 use Rattle.totem_pass_ab.specs.Pairs.{IsOneOrTwo}
 use Rattle.totem_pass_ab.specs.Bad.{IsForeignChange, AreTwoForms, IsSendBetween, AreTwice}
-use Rattle.totem_run_rules.proofs.Decisions.{contains_or_not, same_list_or_not, regular_or_transitional}
+use Rattle.totem_judge_run.proofs.Decisions.{contains_or_not, same_list_or_not, regular_or_transitional}
 
 -- the least list of one of two equivalent forms is the least of the other
 pub finds : {F : Type 0} (run : List Log) (k : SpecNo) (H : List Place → Type 0) (r : Result (Option (List Place)) F) → (HoldsOfNone H → Meets run k) → ((ps : List Place) → H ps → Breaks run k ps)

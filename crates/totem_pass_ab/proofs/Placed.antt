@@ -9,7 +9,7 @@ use Rattle.totem_evs.specs.Changes.{StaysInPlace}
 use Rattle.totem_evs.specs.ChangeFaults.{IsMisplaced, BreaksPlace}
 use Rattle.totem_evs.specs.Answers.{IsLeastBreak}
 use Rattle.totem_evs.proofs.LogOf.{Rising, log_of_at}
-use Rattle.totem_run_rules.proofs.Placed.{EachBefore}
+use Rattle.totem_judge_run.proofs.Placed.{EachBefore}
 use Rattle.totem_table.specs.Search.{place, IsLeastInLog}
 use Rattle.totem_table.proofs.Searching.{NoneBeforeLog, least_here}
 use Rattle.totem_pass_ab.proofs.Starting.{Begins, EachBegins, begins_at, least_of_all}

@@ -19,7 +19,7 @@ use Rattle.totem_evs.specs.Events.{log_of}
 use Rattle.totem_evs.specs.Delivery.{DeliversOnce}
 use Rattle.totem_pass_ab.specs.declared.twice_1_4.Delivery.{Delivery}
 use Rattle.totem_pass_ab.specs.Met.{IsMet, Knows}
-use Rattle.totem_run_rules.specs.Orderly.{DeliveriesAreOnce, SendsAreOnce}
+use Rattle.totem_judge_run.specs.Orderly.{DeliveriesAreOnce, SendsAreOnce}
 use Rattle.totem_table.specs.Registers.{Keeps, KnowsRun}
 use Rattle.totem_pass_ab.specs.Noted.{DeliverOnceBut, DeliversEachOnce, KnowsAct}
 use Rattle.totem_table.specs.Search.{place, HoldsOfNone}

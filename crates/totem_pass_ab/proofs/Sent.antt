@@ -17,10 +17,10 @@ use Rattle.totem_evs.specs.DeliveryFaults.{IsUnsent, BreaksUnsent}
 use Rattle.totem_table.specs.Search.{place, NoneFrom, IsLeastFrom, NoneOf, IsLeastOf, HoldsOfNone}
 use Rattle.totem_pass_ab.specs.Pairs.{IsOne}
 use Rattle.totem_pass_ab.specs.Turns.{HasNoSuccession}
-use Rattle.totem_run_rules.specs.Ends.{NeverChangesTo}
-use Rattle.totem_run_rules.specs.Sent.{WasSentTo, IsSendTo}
+use Rattle.totem_judge_run.specs.Ends.{NeverChangesTo}
+use Rattle.totem_judge_run.specs.Sent.{WasSentTo, IsSendTo}
 use Rattle.totem_evs.proofs.NextChanges.{same_first}
-use Rattle.totem_run_rules.proofs.SentOrNot.{sent_or_not}
+use Rattle.totem_judge_run.proofs.SentOrNot.{sent_or_not}
 use Rattle.totem_pass_ab.proofs.Starting.{Begins, EachBegins, begins_at, one_begins, none_of_all}
 use Rattle.totem_pass_ab.proofs.Turning.{one_succession}
 use Rattle.std.specs.Bool.{OnTrue}

@@ -19,13 +19,13 @@ use Rattle.totem_evs.specs.Answers.{ComesFirst, IsLeast, TakeTurns}
 use Rattle.totem_table.specs.Search.{place, NoneFrom, IsLeastFrom, HoldsOfNone}
 use Rattle.totem_evs.specs.Following.{IsNextOrEnd}
 use Rattle.totem_evs.proofs.NextChanges.{no_change, one_next}
-use Rattle.totem_run_rules.specs.Succession.{IsWrongSuccession}
+use Rattle.totem_judge_run.specs.Succession.{IsWrongSuccession}
 use Rattle.totem_pass_ab.specs.Turns.{HasNoSuccession, IsOfOtherRing, IsOtherOrigin, IsTurnRest, IsTurnFault}
 use Rattle.totem_evs.proofs.LogOf.{less_or_not}
 use Rattle.totem_pass_ab.proofs.Starting.{Begins, EachBegins, begins_at, none_known}
 use Rattle.totem_ids.proofs.Orderings.{place_strict}
-use Rattle.totem_run_rules.proofs.Behind.{right_kinds, right_from, right_to, right_name}
-use Rattle.totem_run_rules.proofs.Decisions.{same_ring_or_not, regular_or_transitional}
+use Rattle.totem_judge_run.proofs.Behind.{right_kinds, right_from, right_to, right_name}
+use Rattle.totem_judge_run.proofs.Decisions.{same_ring_or_not, regular_or_transitional}
 use Rattle.std.specs.declared.cmp.Ordering.{Ordering}
 use Rattle.std.specs.Cmp.{IsTotalOrder}
 use Rattle.std.specs.BTreeMap.{BTreeMap}

@@ -1,5 +1,5 @@
 //! 2.3: each configuration has one form (docs/SPECIFICATIONS.md, "2 Changes of configuration"). This is the search, which names what breaks
-//! it. The rule, which is tried first, is totem_run_rules `changes_2_3`.
+//! it. The rule, which is tried first, is totem_judge_run `changes_2_3`.
 ghost use Rattle.std.specs.Prelude.{◌≡◌, ◌↔◌, ℕ, ◌<◌, List, IsTrue, IfOk, MatchOption};
 ghost use Rattle.totem_evs.specs.Answers.{Finds};
 ghost use Rattle.totem_table.specs.Changes.{AreChanges};

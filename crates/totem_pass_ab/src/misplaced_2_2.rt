@@ -1,11 +1,11 @@
 //! 2.2: each entry is where it is allowed (docs/SPECIFICATIONS.md, "2 Changes of configuration"). This is the search, which names what
-//! breaks it. The rule, which is tried first, is totem_run_rules `misplaced_2_2`.
+//! breaks it. The rule, which is tried first, is totem_judge_run `misplaced_2_2`.
 ghost use Rattle.std.specs.Prelude.{IfOk};
 ghost use Rattle.totem_evs.specs.Answers.{Finds};
 
 use std::alloc::{AllocError, Global};
 use totem_evs::{Places, Run, SpecNo};
-use totem_run_rules::first_misplaced;
+use totem_judge_run::first_misplaced;
 use totem_table::begin_at;
 
 /// Finds the least event that breaks 2.2.

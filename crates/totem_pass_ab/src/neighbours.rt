@@ -6,7 +6,7 @@ ghost use Rattle.totem_pass_ab.specs.Turns.{HasNoSuccession};
 
 use totem_evs::{Entry, Members};
 use totem_ids::ConfId;
-use totem_run_rules::walk_to_change;
+use totem_judge_run::walk_to_change;
 
 /// Returns whether this is a transitional configuration.
 pub fn is_transitional(conf: &ConfId) -> bool

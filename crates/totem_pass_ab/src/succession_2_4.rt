@@ -1,5 +1,5 @@
 //! 2.4: regular and transitional configurations alternate (docs/SPECIFICATIONS.md, "2 Changes of configuration"). This is the search, which
-//! names what breaks it. The rule, which is tried first, is totem_run_rules `succession_2_4` and `changes_2_3`.
+//! names what breaks it. The rule, which is tried first, is totem_judge_run `succession_2_4` and `changes_2_3`.
 ghost use Rattle.std.specs.Prelude.{◌≡◌, ◌↔◌, ℕ, ◌<◌, IsTrue, IfSome, IfOk, MatchOption, length};
 ghost use Rattle.std.specs.Bool.{OnFalse};
 ghost use Rattle.std.specs.Option.{option_copied};
@@ -18,7 +18,7 @@ use std::alloc::{AllocError, Global};
 use std::collections::BTreeMap;
 use totem_evs::{Entry, Places, Run, SpecNo};
 use totem_ids::{ConfId, Proc, RingId};
-use totem_run_rules::is_wrong_succession;
+use totem_judge_run::is_wrong_succession;
 use totem_table::{ChangeRegister, Changes, Relation, begin_at, enter_changes, least, places_of};
 
 /// What is noted of the logs that come to a configuration from regular ones: the ranks of their processes are at most `rank`, and at

@@ -1,5 +1,5 @@
 //! 1.4: each message is sent and delivered once (docs/SPECIFICATIONS.md, "1 Basic delivery"). This is the search, which names what breaks
-//! it. The rule, which is tried first, is totem_run_rules `once_1_4`.
+//! it. The rule, which is tried first, is totem_judge_run `once_1_4`.
 ghost use Rattle.std.specs.Prelude.{◌≡◌, ◌↔◌, ℕ, ◌<◌, List, Contains, IsTrue, IfOk};
 ghost use Rattle.totem_evs.specs.Events.{IsTransitional};
 ghost use Rattle.std.specs.Bool.{OnTrue};
@@ -14,7 +14,7 @@ use crate::pairs::{Standing, Test, least_bad};
 use std::alloc::{AllocError, Global};
 use totem_evs::{Entry, Places, Run, SpecNo};
 use totem_ids::{MsgId, Place, Proc};
-use totem_run_rules::{deliveries_are_once, sends_are_once};
+use totem_judge_run::{deliveries_are_once, sends_are_once};
 use totem_table::{Register, enter_run};
 
 /// A message, and a process that delivers it.

@@ -1,5 +1,5 @@
 //! 1.3: a message that is delivered was sent for its configuration (docs/SPECIFICATIONS.md, "1 Basic delivery"). This is the search, which
-//! names what breaks it. The rule, which is tried first, is totem_observer `replay` and `sends`.
+//! names what breaks it. The rule, which is tried first, is totem_judge `replay` and `sends`.
 ghost use Rattle.std.specs.Prelude.{◌≡◌, ◌↔◌, ◌<◌, IsTrue, IfSome, IfNone, IfOk, MatchOption, length};
 ghost use Rattle.std.specs.Bool.{OnTrue};
 ghost use Rattle.totem_evs.specs.Events.{IsTransitional, log_of};
@@ -8,8 +8,8 @@ ghost use Rattle.totem_evs.specs.Answers.{Finds};
 ghost use Rattle.totem_evs.specs.DeliveryFaults.{BreaksUnsent};
 ghost use Rattle.totem_table.specs.Changes.{AreChanges};
 ghost use Rattle.totem_pass_ab.specs.Pairs.{IsOne};
-ghost use Rattle.totem_run_rules.specs.Ends.{IsChangeTo, NeverChangesTo};
-ghost use Rattle.totem_run_rules.specs.Sent.{IsSendTo, WasSentTo};
+ghost use Rattle.totem_judge_run.specs.Ends.{IsChangeTo, NeverChangesTo};
+ghost use Rattle.totem_judge_run.specs.Sent.{IsSendTo, WasSentTo};
 ghost use Rattle.totem_pass_ab.specs.Noted.{KnowsSend, WereSent, KnowsRegularChange, AreFollowed};
 
 use crate::neighbours::{is_transitional, succession_at};

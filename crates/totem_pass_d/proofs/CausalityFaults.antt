@@ -21,8 +21,8 @@ use Rattle.totem_pass_d.specs.Acts.{IsAmong, DeliversNot}
 use Rattle.totem_pass_d.specs.Search.{IsInside, EachBeginsWithin, NoneWithin, IsLeastWithin, BeginsWithin, IsOneEvent}
 use Rattle.totem_pass_d.specs.Searched.{IsSurprise, IsEffect}
 use Rattle.totem_pass_d.proofs.Deciding.{delivery_or_not}
-use Rattle.totem_run_rules.proofs.Decisions.{both_or_not, below_or_not}
-use Rattle.totem_run_rules.proofs.SentOrNot.{in_or_not}
+use Rattle.totem_judge_run.proofs.Decisions.{both_or_not, below_or_not}
+use Rattle.totem_judge_run.proofs.SentOrNot.{in_or_not}
 use Rattle.totem_pass_d.proofs.Facts.{Facts, delivery_inside}
 use Rattle.totem_pass_d.proofs.Searching.{no_event, only_event, begins_inside, Starts, sends_there, there_sends, index_of, begins_at}
 use Rattle.std.specs.Bool.{OnTrue, OnFalse}
@@ -32,7 +32,7 @@ use Rattle.std.specs.BTreeSet as sorted
 use Rattle.std.proofs.lemmas.Grind.{not_there}
 use Rattle.std.proofs.lemmas.Option.{slice_get_within}
 use Rattle.totem_evs.specs.Changes.{Names}
-use Rattle.totem_traffic_rules.proofs.Rowing.{before_or_at}
+use Rattle.totem_judge_traffic.proofs.Rowing.{before_or_at}
 use Rattle.totem_pass_d.specs.Suspects.{Handles, ComesBefore, ComesNotBefore, IsEarlier, IsSuspect, HasAllOf, IsNoted, AreNotedFrom, AreNoted, AreSuspects}
 
 -- one delivery of a message in c and in what follows it

@@ -23,18 +23,18 @@ use Rattle.std.proofs.lemmas.Map.Keys.{Less-from_sorted}
 use Rattle.std.proofs.lemmas.Map.Views.{btree_set_contains_iff}
 use Rattle.totem_ids.specs.contracts.ring.RingIdOrd.TheImpl as ring
 use Rattle.totem_ids.specs.contracts.ring.RingIdOrd.TheImpl.Laws.{total-law}
-use Rattle.totem_run_rules.proofs.PendingOrder.{below_from_less}
+use Rattle.totem_judge_run.proofs.PendingOrder.{below_from_less}
 use Rattle.totem_pass_d.specs.Comings.{KnowsComing, AreComings, HoldsComings}
 use Rattle.totem_evs.specs.Runs.{IsRun, IsLog}
 use Rattle.totem_evs.specs.Following.{NeverFails}
 use Rattle.totem_evs.proofs.LogOf.{log_of_at, log_of_cases, in_order}
-use Rattle.totem_traffic_rules.proofs.Rowing.{before_or_at}
+use Rattle.totem_judge_traffic.proofs.Rowing.{before_or_at}
 use Rattle.totem_pass_d.specs.declared.stays.Stay.{Stay}
-use Rattle.totem_run_rules.specs.Stays.{IsStay}
+use Rattle.totem_judge_run.specs.Stays.{IsStay}
 use Rattle.totem_pass_d.specs.Stays.{IsStayFrom, IsStayOf, HasStay, AreStays}
-use Rattle.totem_run_rules.proofs.Staying.{is_stay}
+use Rattle.totem_judge_run.proofs.Staying.{is_stay}
 use Rattle.totem_evs.proofs.Pushing.{nothing, before_push, stands_before, stands_last}
-use Rattle.totem_run_rules.proofs.LogEnds.{ending_of_at, quiet_never_fails}
+use Rattle.totem_judge_run.proofs.LogEnds.{ending_of_at, quiet_never_fails}
 
 -- an entry that is not a change changes to no configuration
 pub spares_coming : (by_ring : RingId → RingId → Ordering) (by_change : Change → Change → Ordering) (rings : BTreeSet RingId) (indices : BTreeMap Change ℕ) (p : ℕ) (log : List Entry) (i : ℕ) → (IsChange log i → ⊥)

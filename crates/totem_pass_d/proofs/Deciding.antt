@@ -7,8 +7,8 @@ use Rattle.totem_evs.specs.declared.entry.Entry.{Entry}
 use Rattle.totem_evs.specs.declared.entry.Entry.TheVariants.{Conf, Deliver}
 use Rattle.totem_evs.specs.Events.{ChangesTo, Delivers}
 use Rattle.totem_evs.specs.Following.{Com, HasDelivered}
-use Rattle.totem_run_rules.proofs.Decisions.{both_or_not}
-use Rattle.totem_run_rules.proofs.SentOrNot.{first_or_none, same_message_or_not, change_to_or_not, change_of, in_or_not}
+use Rattle.totem_judge_run.proofs.Decisions.{both_or_not}
+use Rattle.totem_judge_run.proofs.SentOrNot.{first_or_none, same_message_or_not, change_to_or_not, change_of, in_or_not}
 
 -- a change to x
 pub changes_or_not : (log : List Entry) (x : ConfId) → ((i : ℕ) × ChangesTo log i x) ⊎ ((i : ℕ) → ChangesTo log i x → ⊥)

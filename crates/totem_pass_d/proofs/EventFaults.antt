@@ -4,7 +4,7 @@ use Rattle.totem_ids.specs.declared.ring.RingId.{RingId}
 use Rattle.totem_evs.specs.declared.log.Log.{Log}
 use Rattle.totem_evs.specs.Events.{IsQuiet, log_of, ChangesTo, Delivers}
 use Rattle.totem_evs.specs.Following.{FailedIn, StaysIn, OpenIn, Com, DeliversIn, HasDelivered, DeliversOrEnds}
-use Rattle.totem_traffic_rules.proofs.Rowing.{before_or_at}
+use Rattle.totem_judge_traffic.proofs.Rowing.{before_or_at}
 use Rattle.totem_pass_d.specs.declared.stays.Stay.{Stay}
 use Rattle.totem_pass_d.specs.Stays.{IsExcused, IsStayOf}
 use Rattle.std.specs.Prelude.{All}
@@ -27,7 +27,7 @@ use Rattle.totem_pass_d.specs.Acts.{HasCome, NeverComes, DeliversNot}
 use Rattle.totem_pass_d.specs.Search.{IsInside, IsBrokenAlone}
 use Rattle.totem_pass_d.specs.Reached.{IsSafeIn, AreMembersAt, HoldsNotOfAll}
 use Rattle.totem_pass_d.proofs.Deciding.{changes_or_not, has_delivered_or_not}
-use Rattle.totem_run_rules.proofs.Decisions.{both_or_not}
+use Rattle.totem_judge_run.proofs.Decisions.{both_or_not}
 use Rattle.totem_pass_d.proofs.Facts.{Facts, StayFacts, at_turn_no_name}
 use Rattle.totem_pass_d.proofs.Reaching.{is_among_members, is_member, safe_in}
 

@@ -13,10 +13,10 @@ use Rattle.totem_evs.specs.Changes.{Names}
 use Rattle.totem_evs.specs.Following.{Com, DeliversIn}
 use Rattle.totem_evs.specs.Answers.{MeetsPasses}
 use Rattle.totem_evs.proofs.LogOf.{less_or_not}
-use Rattle.totem_run_rules.proofs.Staying.{names_no_change}
+use Rattle.totem_judge_run.proofs.Staying.{names_no_change}
 use Rattle.totem_pass_d.specs.declared.stays.Stay.{Stay}
 use Rattle.totem_pass_d.specs.declared.stays.Stays.{Stays}
-use Rattle.totem_run_rules.specs.Stays.{IsStay}
+use Rattle.totem_judge_run.specs.Stays.{IsStay}
 use Rattle.totem_pass_d.specs.Stays.{IsStayOf, HasStay, AreStays}
 use Rattle.totem_pass_d.specs.Acts.{IsAmong}
 use Rattle.totem_pass_d.specs.Search.{IsInside, StandsInside}

@@ -19,7 +19,7 @@ use Rattle.totem_evs.specs.AgreementFaults.{IsGap}
 use Rattle.totem_evs.specs.Answers.{ComesFirst, MeetsPasses}
 use Rattle.totem_evs.proofs.LogOf.{less_or_not}
 use Rattle.totem_evs.proofs.Pushing.{Along}
-use Rattle.totem_traffic_rules.proofs.Rowing.{before_or_at}
+use Rattle.totem_judge_traffic.proofs.Rowing.{before_or_at}
 use Rattle.totem_table.specs.Search.{place, NoneFrom, IsLeastFrom, HoldsOfNone}
 use Rattle.totem_pass_d.specs.declared.stays.Stay.{Stay}
 use Rattle.totem_pass_d.specs.declared.stays.Sending.{Sending}

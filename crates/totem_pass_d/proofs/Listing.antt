@@ -10,8 +10,8 @@ use Rattle.totem_evs.specs.declared.spec.SpecNo.{SpecNo}
 use Rattle.totem_evs.specs.declared.spec.SpecNo.TheVariants as spec
 use Rattle.totem_evs.specs.Answers.{FindsIn, ListsRings, ListsEach, ListsConfigurations, AreRings, specs_d}
 use Rattle.totem_table.specs.Search.{listed}
-use Rattle.totem_traffic_rules.specs.declared.agreed.Shown.{Shown}
-use Rattle.totem_traffic_rules.specs.Clean.{IsAllShown, IsNoneShown}
+use Rattle.totem_judge_traffic.specs.declared.agreed.Shown.{Shown}
+use Rattle.totem_judge_traffic.specs.Clean.{IsAllShown, IsNoneShown}
 use Rattle.totem_pass_d.specs.declared.findings.Findings.{Findings}
 use Rattle.totem_pass_d.specs.declared.pass.Found.{Found}
 use Rattle.totem_pass_d.specs.Findings.{AreFindings, AreMet, AreNone, GrowsBy, AreFound, all_found}

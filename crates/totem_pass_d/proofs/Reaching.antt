@@ -16,11 +16,11 @@ use Rattle.totem_evs.specs.Delivery.{WasSentFor}
 use Rattle.totem_evs.specs.Following.{Follows, Com}
 use Rattle.totem_evs.specs.Answers.{MeetsPasses}
 use Rattle.totem_evs.proofs.LogOf.{less_or_not}
-use Rattle.totem_traffic_rules.proofs.Rowing.{before_or_at}
+use Rattle.totem_judge_traffic.proofs.Rowing.{before_or_at}
 use Rattle.totem_evs.proofs.NextChanges.{same_first, one_next}
-use Rattle.totem_run_rules.proofs.Staying.{names_no_change, same_change}
+use Rattle.totem_judge_run.proofs.Staying.{names_no_change, same_change}
 use Rattle.totem_pass_d.specs.declared.stays.Sending.{Sending}
-use Rattle.totem_run_rules.specs.Stays.{IsStay}
+use Rattle.totem_judge_run.specs.Stays.{IsStay}
 use Rattle.totem_pass_d.specs.Acts.{IsSendingOf}
 use Rattle.totem_pass_d.specs.Reached.{IsSafeIn, AreMembersAt}
 

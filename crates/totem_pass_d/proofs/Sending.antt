@@ -14,9 +14,9 @@ use Rattle.totem_evs.specs.declared.entry.Entry.TheVariants.{Send, Deliver}
 use Rattle.totem_evs.specs.declared.log.Log.{Log}
 use Rattle.totem_evs.specs.Events.{Sends, log_of, Delivers}
 use Rattle.totem_evs.specs.Answers.{MeetsPasses}
-use Rattle.totem_traffic_rules.proofs.Rowing.{before_or_at}
+use Rattle.totem_judge_traffic.proofs.Rowing.{before_or_at}
 use Rattle.totem_ids.proofs.Exact.{equal_at, apart_or_at, exact_message}
-use Rattle.totem_run_rules.specs.Stays.{IsStay}
+use Rattle.totem_judge_run.specs.Stays.{IsStay}
 use Rattle.totem_pass_d.specs.declared.stays.Stay.{Stay}
 use Rattle.totem_pass_d.specs.declared.stays.Sending.{Sending}
 use Rattle.totem_pass_d.specs.Stays.{HasStay, AreStays}

@@ -3,7 +3,7 @@ use Rattle.std.proofs.Common.{◌≡◌, ◌⊎◌, ◌↔◌, ℕ, ◌+◌, ◌
 use Rattle.std.specs.Prelude.{Contains}
 use Rattle.std.proofs.lemmas.List.Elements.{Contains-push, Contains-append_left, Contains-push_cases}
 use Rattle.totem_evs.specs.declared.pending.Pending.{Pending}
-use Rattle.totem_traffic_rules.proofs.Rowing.{before_or_at}
+use Rattle.totem_judge_traffic.proofs.Rowing.{before_or_at}
 use Rattle.totem_pass_d.specs.Pendings.{Adds, IsPendingIn, IsPendingFor}
 use Rattle.std.specs.Bool.{OnTrue, OnFalse}
 use Rattle.std.specs.Option.{IsSome}
@@ -22,8 +22,8 @@ use Rattle.totem_evs.specs.Events.{log_of, ChangesTo}
 use Rattle.totem_evs.specs.Following.{HasDelivered, StaysIn, OpenIn, FailedIn}
 use Rattle.totem_evs.specs.Unsettled.{IsPending}
 use Rattle.totem_evs.specs.Answers.{AreRings}
-use Rattle.totem_run_rules.specs.Endings.{HoldsPending, HasFailed}
-use Rattle.totem_run_rules.specs.Ends.{GoesOn}
+use Rattle.totem_judge_run.specs.Endings.{HoldsPending, HasFailed}
+use Rattle.totem_judge_run.specs.Ends.{GoesOn}
 use Rattle.totem_pass_d.specs.declared.stays.Stay.{Stay}
 use Rattle.totem_pass_d.specs.declared.stays.Sending.{Sending}
 use Rattle.totem_pass_d.specs.declared.stays.Stays.{Stays}

@@ -5,7 +5,7 @@ use Rattle.totem_ids.specs.contracts.ring.RingIdOrd.TheImpl as ring
 use Rattle.totem_table.specs.contracts.keys.ChangeOrd.TheImpl as change
 use Rattle.totem_evs.specs.declared.log.Log.{Log}
 use Rattle.totem_evs.specs.Answers.{MeetsPasses, AreRings}
-use Rattle.totem_traffic_rules.specs.Traffics.{AreTraffic}
+use Rattle.totem_judge_traffic.specs.Traffics.{AreTraffic}
 use Rattle.totem_pass_d.specs.declared.findings.Findings.{Findings}
 use Rattle.totem_pass_d.specs.declared.jobs.Jobs.{Jobs}
 use Rattle.totem_pass_d.specs.Comings.{HoldsComings}

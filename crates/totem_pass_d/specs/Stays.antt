@@ -7,7 +7,7 @@ use Rattle.totem_evs.specs.declared.log.Log.{Log}
 use Rattle.totem_evs.specs.Events.{ChangesTo, IsQuiet, log_of}
 use Rattle.totem_evs.specs.Following.{NeverFails}
 use Rattle.totem_evs.specs.declared.ending.Ending.TheVariants.{Quiet}
-use Rattle.totem_run_rules.specs.Stays.{AreNextTwo, IsStay}
+use Rattle.totem_judge_run.specs.Stays.{AreNextTwo, IsStay}
 use Rattle.totem_pass_d.specs.declared.stays.Stay.{Stay}
 use Rattle.totem_pass_d.specs.Indexes.{told, Tells}
 

@@ -1,5 +1,5 @@
 //! 4: processes that go from one configuration to the next together deliver the same messages in it (docs/SPECIFICATIONS.md, "4 Failure
-//! atomicity", "Passes"). This is the search, which names what breaks it. The rule, which is tried first, is totem_traffic_rules `atomicity_4`.
+//! atomicity", "Passes"). This is the search, which names what breaks it. The rule, which is tried first, is totem_judge_traffic `atomicity_4`.
 ghost use Rattle.std.specs.Prelude.{◌≡◌, ◌↔◌, ℕ, IsTrue, IfSome, IfNone, IfOk};
 ghost use Rattle.std.specs.Bool.{OnTrue, OnFalse};
 ghost use Rattle.totem_evs.specs.Events.{log_of, ChangesTo, Delivers};

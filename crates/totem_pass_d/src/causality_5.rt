@@ -1,6 +1,6 @@
 //! 5: what a process sent or delivered before it sent a message is delivered before that message, one hop at a time
 //! (docs/SPECIFICATIONS.md, "5 Causal delivery", "Passes"). This is the search, which names what breaks it. The rule, which is tried first, is
-//! totem_traffic_rules `causality_5`.
+//! totem_judge_traffic `causality_5`.
 ghost use Rattle.std.specs.Prelude.{◌≡◌, ◌↔◌, ◌<◌, IsTrue, IfOk, length};
 ghost use Rattle.totem_table.specs.Search.{place};
 ghost use Rattle.totem_evs.specs.RingFaults.{BreaksCausalityIn, MeetsIn};

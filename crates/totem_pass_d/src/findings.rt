@@ -10,7 +10,7 @@ use crate::stays::Stays;
 use crate::{atomicity_4, causality_5, gap_6_3};
 use std::alloc::{AllocError, Global};
 use totem_evs::Places;
-use totem_traffic_rules::Shown;
+use totem_judge_traffic::Shown;
 
 /// The findings of one job: for each specification of the last pass the least events that break it in one regular
 /// configuration, or none if the run meets it there.

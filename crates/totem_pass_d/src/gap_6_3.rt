@@ -1,5 +1,5 @@
 //! 6.3: a process that delivers a later message delivers the earlier one too, if its sender is still a member (docs/SPECIFICATIONS.md, "6
-//! Total order", "Passes"). This is the search, which names what breaks it. The rule, which is tried first, is totem_traffic_rules `gap_6_3`.
+//! Total order", "Passes"). This is the search, which names what breaks it. The rule, which is tried first, is totem_judge_traffic `gap_6_3`.
 ghost use Rattle.std.specs.Prelude.{◌≡◌, ◌↔◌, ◌<◌, IsTrue, IfOk, MatchOption, Contains};
 ghost use Rattle.std.specs.Bool.{OnTrue, OnFalse};
 ghost use Rattle.totem_table.specs.Search.{NoneFrom, IsLeastFrom};

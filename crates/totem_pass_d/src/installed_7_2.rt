@@ -1,5 +1,5 @@
 //! 7.2: if a safe message is delivered in the regular configuration, each of its members changes to it (docs/SPECIFICATIONS.md, "7 Safe
-//! delivery"). This is the search, which names what breaks it. The rule, which is tried first, is totem_traffic_rules `installed_7_2`.
+//! delivery"). This is the search, which names what breaks it. The rule, which is tried first, is totem_judge_traffic `installed_7_2`.
 ghost use Rattle.std.specs.Prelude.{◌↔◌, IsTrue};
 ghost use Rattle.totem_evs.specs.declared.spec.SpecNo.TheVariants.{Installed};
 ghost use Rattle.totem_evs.specs.AgreementFaults.{IsNotInstalled};

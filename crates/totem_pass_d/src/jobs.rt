@@ -3,7 +3,7 @@ ghost use Rattle.std.specs.Prelude.{◌≡◌, ◌<◌, IfOk, IfSome, vec_len};
 ghost use Rattle.std.specs.Bool.{OnTrue};
 ghost use Rattle.totem_evs.specs.Answers.{MeetsPasses};
 ghost use Rattle.totem_table.specs.Changes.{AreChanges};
-ghost use Rattle.totem_traffic_rules.specs.Traffics.{AreTraffic, IsTrafficOf};
+ghost use Rattle.totem_judge_traffic.specs.Traffics.{AreTraffic, IsTrafficOf};
 ghost use Rattle.totem_pass_d.specs.Findings.{AreMet};
 ghost use Rattle.totem_pass_d.specs.Jobs.{AreJobs, AreFindingsAt};
 
@@ -13,8 +13,8 @@ use std::alloc::{AllocError, Global};
 use std::collections::BTreeMap;
 use totem_evs::Run;
 use totem_ids::RingId;
+use totem_judge_traffic::{Observed, Shown, Traffic};
 use totem_table::Changes;
-use totem_traffic_rules::{Observed, Shown, Traffic};
 
 /// The jobs of a run that has passed the passes before, in the order of their configurations. Each depends on no other part of the run
 /// than its configuration and what follows it, so they can be done in any order and by any thread.

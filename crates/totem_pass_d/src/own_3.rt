@@ -1,5 +1,5 @@
 //! 3: a process that sends a message in the regular configuration delivers it there or in what follows (docs/SPECIFICATIONS.md, "3
-//! Self-delivery"). This is the search, which names what breaks it. The rule, which is tried first, is totem_traffic_rules `own_3`.
+//! Self-delivery"). This is the search, which names what breaks it. The rule, which is tried first, is totem_judge_traffic `own_3`.
 ghost use Rattle.totem_evs.specs.declared.spec.SpecNo.TheVariants.{OwnDelivery};
 ghost use Rattle.totem_evs.specs.AgreementFaults.{IsNotOwned};
 

@@ -1,12 +1,12 @@
 //! Pass D of the audit (docs/SPECIFICATIONS.md, "Passes").
 ghost use Rattle.std.specs.Prelude.{◌≡◌, ◌++◌, IfOk};
-ghost use Rattle.totem_evs.specs.Answers.{MeetsPasses, ListsConfigurations};
+ghost use Rattle.totem_evs.specs.Answers.{ListsConfigurations};
 ghost use Rattle.totem_pass_d.specs.Jobs.{AreJobs};
 
 use crate::findings::Findings;
 use crate::jobs::Jobs;
 use std::alloc::{AllocError, Global};
-use totem_evs::{Fault, Run, SpecNo};
+use totem_evs::{Fault, SpecNo};
 use totem_table::with_found;
 
 /// The faults of each specification: one for each configuration in which it is broken, in the order of the configurations.
@@ -83,13 +83,4 @@ pub fn pass_d_of(alloc: Global, jobs: &Jobs<'_>) -> Result<Vec<Fault>, AllocErro
         found = found.with(jobs.findings(alloc, index)?)?;
     }
     found.into_faults()
-}
-
-/// Does pass D for a run that has passed the others.
-pub fn pass_d(alloc: Global, run: &Run) -> Result<Vec<Fault>, AllocError>
-    requires { MeetsPasses run.now.logs }
-    ensures { IfOk result (λ faults. ListsConfigurations run.now.logs faults.items) }
-{
-    let jobs = Jobs::build(alloc, run)?;
-    pass_d_of(alloc, &jobs)
 }

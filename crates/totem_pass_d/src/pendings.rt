@@ -14,7 +14,7 @@ use crate::stays::{Stay, Stays};
 use std::alloc::{AllocError, Global};
 use totem_evs::{Pending, Run, Waiting};
 use totem_ids::MsgId;
-use totem_run_rules::{has_failed, in_order};
+use totem_judge_run::{has_failed, in_order};
 
 /// Returns whether the process of this stay is open in it.
 fn is_open(stays: &Stays, stay: &Stay) -> bool
@@ -87,10 +87,10 @@ pub fn pending_of(alloc: Global, jobs: &Jobs<'_>) -> Result<Vec<Pending>, AllocE
 }
 
 /// Returns the waiting processes of a run that has passed the first two passes, and whom they wait for: by process, then by the other.
-#[tactic(auto, using(totem_run_rules::proofs::Orderliness::passed_is_orderly))]
+#[tactic(auto, using(totem_judge_run::proofs::Orderliness::passed_is_orderly))]
 pub fn waiting(alloc: Global, run: &Run) -> Result<Vec<Waiting>, AllocError>
     requires { MeetsPasses run.now.logs }
     ensures { IfOk result (λ list. AreWaiting run.now.logs list.items) }
 {
-    totem_run_rules::waiting(alloc, run)
+    totem_judge_run::waiting(alloc, run)
 }

@@ -1,5 +1,5 @@
 //! 7.1: a safe message that is delivered reaches each member of the configuration in which it is delivered (docs/SPECIFICATIONS.md, "7 Safe
-//! delivery"). This is the search, which names what breaks it. The rule, which is tried first, is totem_traffic_rules `safety_7_1`.
+//! delivery"). This is the search, which names what breaks it. The rule, which is tried first, is totem_judge_traffic `safety_7_1`.
 ghost use Rattle.std.specs.Prelude.{◌↔◌, IsTrue};
 ghost use Rattle.totem_evs.specs.declared.spec.SpecNo.TheVariants.{Safety};
 ghost use Rattle.totem_evs.specs.AgreementFaults.{IsNotReached};

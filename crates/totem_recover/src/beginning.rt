@@ -7,6 +7,7 @@ ghost use Rattle.totem_recover.specs.Exchange.{IsReady, reported_obligation};
 
 use crate::lives::members_with;
 use std::alloc::{AllocError, Global};
+use std::sync::Arc;
 use totem_evs::Members;
 use totem_ids::{ProcId, RingId};
 use totem_packets::{CommitMembers, CommitToken, Processes, SetFault};
@@ -31,7 +32,7 @@ pub(crate) fn members_of(alloc: Global, members: &CommitMembers) -> Result<Membe
 {
     let lives = members.lives(alloc)?;
     let _rule = members.as_slice();
-    members_with(alloc, lives)
+    Ok(members_with(Arc::new(alloc, lives)?))
 }
 
 /// Returns the transitional set: the members that come from the ring `old`, in the lives that they reported. `me` is one of them.
@@ -47,7 +48,7 @@ pub(crate) fn transitional_of(
 {
     let lives = members.transitional_lives(alloc, old)?;
     let _rule = members.as_slice();
-    members_with(alloc, lives)
+    Ok(members_with(Arc::new(alloc, lives)?))
 }
 
 /// Returns the obligation union: the processes to which the members from the ring `old` owe the delivery of their messages.

@@ -1,8 +1,10 @@
 //! Processes and their lives: a ring knows its members by identifier, a configuration knows the lives that they are in.
 ghost use Rattle.std.specs.Prelude.{◌≡◌, IfOk};
+ghost use Rattle.std.specs.Arc.{arc_value};
 ghost use Rattle.totem_recover.specs.Lives.{first_ranks, ids_of, IsRingMembers};
 
 use std::alloc::{AllocError, Global};
+use std::sync::Arc;
 use totem_evs::Members;
 use totem_ids::{Proc, ProcId};
 
@@ -30,12 +32,12 @@ pub fn ids_of(alloc: Global, procs: &[Proc]) -> Result<Vec<ProcId>, AllocError>
 
 /// Returns the members of a configuration in these lives. Their identifiers have to be those of a ring's members.
 #[tactic(auto, using(crate::proofs::RingLives::none_refuses))]
-pub fn members_with(alloc: Global, lives: Vec<Proc>) -> Result<Members, AllocError>
-    requires { IsRingMembers (ids_of lives.items) }
-    ensures { IfOk result (λ members. members ≡ lives.items) }
+pub fn members_with(lives: Arc<Vec<Proc>>) -> Members
+    requires { IsRingMembers (ids_of (arc_value lives).items) }
+    ensures { result ≡ (arc_value lives).items }
 {
-    match Members::new(alloc, lives)? {
-        Ok(members) => Ok(members),
+    match Members::new(lives) {
+        Ok(members) => members,
         Err(_) => unreachable!(),
     }
 }
@@ -46,5 +48,5 @@ pub fn first_members(alloc: Global, ids: &[ProcId]) -> Result<Members, AllocErro
     requires { IsRingMembers ids.now }
     ensures { IfOk result (λ members. members ≡ first_ranks ids.now) }
 {
-    members_with(alloc, first_lives(alloc, ids)?)
+    Ok(members_with(Arc::new(alloc, first_lives(alloc, ids)?)?))
 }

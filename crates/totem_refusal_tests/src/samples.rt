@@ -5,6 +5,7 @@ use bytes::Bytes;
 use std::alloc::{AllocError, Global};
 use std::collections::VecDeque;
 use std::fmt;
+use std::sync::Arc;
 use std::test::Fail;
 use totem_evs::{Entry, Members, Refused};
 use totem_ids::{Proc, ProcId, RingId, Service};
@@ -63,12 +64,12 @@ pub fn procs(alloc: Global, last: u16) -> Result<Vec<ProcId>, AllocError> {
 fn once_first_lives(
     alloc: Global,
     procs: &[ProcId],
-) -> Result<Result<Members, Refused<Vec<Proc>>>, AllocError> {
+) -> Result<Result<Members, Refused<Arc<Vec<Proc>>>>, AllocError> {
     let mut list = Vec::new(alloc);
     for proc in procs {
         list.push(Proc::first(*proc))?;
     }
-    Members::new(alloc, list)
+    Ok(Members::new(Arc::new(alloc, list)?))
 }
 
 /// Returns the first lives of these processes as members.

@@ -4,6 +4,7 @@ use bytes::Bytes;
 use std::alloc::{AllocError, Global};
 use std::fmt;
 use std::fmt::Write;
+use std::sync::Arc;
 use std::test::Fail;
 use totem_evs::{Entry, Members};
 use totem_ids::{Proc, ProcId, Service};
@@ -117,7 +118,7 @@ fn first(alloc: Global, last: u16) -> Result<Members, Fail> {
     for value in 0..last {
         list.push(Proc::first(proc(value.saturating_add(1))))?;
     }
-    Ok(Members::new(alloc, list)??)
+    Ok(Members::new(Arc::new(alloc, list)?)?)
 }
 
 /// Processes, each with a space in front.

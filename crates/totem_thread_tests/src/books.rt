@@ -6,6 +6,7 @@ use bytes::Bytes;
 use std::alloc::{AllocError, Global};
 use std::fmt;
 use std::fmt::Write;
+use std::sync::Arc;
 use std::test::Fail;
 use totem_books::{Book, BookFault, Call, CloseFault, Reply, Stub};
 use totem_evs::{Entry, Members};
@@ -35,7 +36,7 @@ pub(crate) fn two(alloc: Global) -> Result<Members, Fail> {
     let mut list = Vec::new(alloc);
     list.push(one())?;
     list.push(Proc::first(ProcId::of(2)))?;
-    Ok(Members::new(alloc, list)??)
+    Ok(Members::new(Arc::new(alloc, list)?)?)
 }
 
 /// A client's message `x`.

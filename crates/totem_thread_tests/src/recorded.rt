@@ -4,7 +4,7 @@ ghost use Rattle.std.specs.Prelude.{◌≡◌};
 use crate::books::{ring, start, submit};
 use std::alloc::{AllocError, Global};
 use std::marker::Brand;
-use std::sync::Wait;
+use std::sync::{Arc, Wait};
 use std::test::Fail;
 use totem_books::{Blank, BookName, ClosedBook, Reply, Seat, SharedBook};
 use totem_evs::Members;
@@ -155,7 +155,7 @@ pub(crate) fn books<R: Wait>(
     alloc: Global,
     lines: &[(u16, &str)],
 ) -> Result<Vec<ClosedBook>, Fail> {
-    let members = Members::new(alloc, procs(alloc, &[1, 2, 3])?)??;
+    let members = Members::new(Arc::new(alloc, procs(alloc, &[1, 2, 3])?)?)?;
     let mut books = Vec::new(alloc);
     for line in lines {
         write(rt, alloc, &mut books, &members, line.0, line.1)?;

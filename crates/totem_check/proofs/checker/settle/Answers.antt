@@ -1,4 +1,4 @@
-use Rattle.totem_observer.proofs.Settled.{settled}
+use Rattle.totem_judge.proofs.Settled.{settled}
 use Rattle.totem_check.proofs.checker.settle.Goals as goal
 
 pub returns-then-agrees : goal.returns-then-agrees

@@ -1,6 +1,6 @@
 use Rattle.std.proofs.Common.{refl}
 use Rattle.std.proofs.lemmas.Option.{slice_get_read}
-use Rattle.totem_run_rules.proofs.LogEnds.{no_change_more, never_changes}
+use Rattle.totem_judge_run.proofs.LogEnds.{no_change_more, never_changes}
 use Rattle.totem_pass_ab.proofs.unsent_1_3.first_change.Goals as goal
 
 pub loop-i-preserved : goal.loop-i-preserved

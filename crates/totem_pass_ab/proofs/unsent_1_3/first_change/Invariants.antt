@@ -1,5 +1,5 @@
 use Rattle.totem_ids.specs.declared.conf.ConfId.TheVariants.{Regular}
-use Rattle.totem_run_rules.proofs.LogEnds.{NoChangeBefore}
+use Rattle.totem_judge_run.proofs.LogEnds.{NoChangeBefore}
 use Rattle.totem_pass_ab.proofs.unsent_1_3.first_change.Given as goal
 
 abbrev pub invariant-loop-i : goal.invariant-loop-i

@@ -1,6 +1,6 @@
 use Rattle.std.proofs.Common.{refl}
 use Rattle.std.proofs.lemmas.Option.{slice_get_read}
-use Rattle.totem_run_rules.proofs.PendingOrder.{are_pending_if_ok, empty_has_none}
+use Rattle.totem_judge_run.proofs.PendingOrder.{are_pending_if_ok, empty_has_none}
 use Rattle.totem_pass_d.specs.Pendings.{IsPendingIn}
 use Rattle.totem_pass_d.proofs.WhatIsPending.{some_more, all_rings}
 use Rattle.totem_pass_d.proofs.pendings.pending_of.Goals as goal

@@ -1,5 +1,0 @@
-use Rattle.totem_certificate_check.specs.Spreads.{KnowsTo}
-use Rattle.totem_certificate_check.proofs.spread.Spread.enter_log.Given as goal
-
-abbrev pub invariant-loop-at : goal.invariant-loop-at
-invariant-loop-at l = KnowsTo l.logs l.lines l.self l.index l.at

@@ -1,5 +1,0 @@
-use Rattle.totem_certificate_check.specs.Walks.{IsLeastTo}
-use Rattle.totem_certificate_check.proofs.walk.least_head.Given as goal
-
-abbrev pub invariant-loop-log : goal.invariant-loop-log
-invariant-loop-log l = IsLeastTo l.lines l.passed l.log l.least

@@ -1,5 +1,0 @@
-use Rattle.totem_certificate_check.specs.Walks.{IsStepped}
-use Rattle.totem_certificate_check.proofs.walk.pass.Given as goal
-
-abbrev pub invariant-loop-log : goal.invariant-loop-log
-invariant-loop-log l = IsStepped l.lines l.number l.initial.passed l.passed l.log

@@ -1,0 +1,81 @@
+-- Judging one configuration after the other.
+use Rattle.std.proofs.Common.{◌≡◌, inl, inr, ℕ, List, [], ◌∷◌, ◌++◌, length, slice_get, Some, refl, sym, subst, arith}
+use Rattle.std.specs.Prelude.{Contains}
+use Rattle.std.proofs.lemmas.List.{length-append}
+use Rattle.std.proofs.lemmas.Option.{slice_get_within}
+use Rattle.totem_ids.specs.declared.ring.RingId.{RingId}
+use Rattle.totem_evs.specs.declared.entry.Entry.TheVariants.{Conf}
+use Rattle.totem_evs.specs.declared.log.Log.{Log}
+use Rattle.totem_evs.specs.Events.{log_of}
+use Rattle.totem_evs.specs.Following.{StaysIn}
+use Rattle.totem_evs.specs.declared.pending.Pending.{Pending}
+use Rattle.totem_evs.specs.Certificates.{Numbering}
+use Rattle.totem_judge_traffic.specs.declared.observed.Observed.{Observed}
+use Rattle.totem_judge_traffic.proofs.Facts.{has_log}
+use Rattle.totem_judge.specs.declared.gathered.Gathered.{Gathered}
+use Rattle.totem_judge.specs.Pending.{IsPendingFrom, IsPendingTo}
+use Rattle.totem_judge.specs.Judged.{IsObserved, IsVerified, AllAreTraffic, AreObserved}
+use Rattle.totem_judge_traffic.specs.Pending.{IsPendingIn}
+use Rattle.totem_judge.proofs.Steps.{append_get, push_cases, at_end}
+
+pub nothing_left : {X : Type 0} (l : List X) → length l ≡ 0 → l ≡ []
+nothing_left [] h = refl
+nothing_left (x ∷ xs) h = absurd (omega arith)
+
+pub observed_none : (run : List Log) (lines : List Numbering) (observed : List Observed) (pending : List Pending) → observed ≡ [] → pending ≡ [] → AreObserved run lines [] observed pending
+observed_none run lines observed pending nothing none = record {
+  long = rw nothing refl;
+  each = λ k g one at here. absurd (let lt = slice_get_within {A = Gathered} [] k g at in omega (arith, lt));
+  exact = λ are x. (λ has. absurd (let h : Contains {X = Pending} [] x = rw none at has in let lt = h.1 in omega arith), λ h. absurd (let lt = h.before in omega arith));
+}
+
+-- a process that is open has a log
+pending_to : (run : List Log) (c : RingId) (x : Pending) → IsPendingIn run c x.proc x.msg → IsPendingTo run c (length run) x
+pending_to run c x pending = of pending.still_open.1
+  where
+    of : StaysIn (log_of run x.proc) c → IsPendingTo run c (length run) x
+    of (d, never, last, belongs) =
+        let log = has_log run x.proc last.index (Conf d last.change.0) last.change.1 in
+        record { index = log.0; before = slice_get_within run log.0 log.1.log log.1.stands; log = log.1; is = pending }
+
+module _ (run : List Log) (lines : List Numbering) (list : List Gathered) (g : Gathered) (observed : List Observed) (one : Observed) (old new : List Pending) (added : IsObserved run lines g one old new)
+    (so_far : AreObserved run lines list observed old) where
+  long : length (observed ++ one ∷ []) ≡ length (list ++ g ∷ [])
+  long = let is = so_far.long in let a = length-append observed (one ∷ []) in let b = length-append list (g ∷ []) in omega arith
+
+  -- where the one is last, so is the other
+  verified : (k : ℕ) (h : Gathered) (other : Observed) → slice_get (list ++ g ∷ []) k ≡ Some h → slice_get (observed ++ one ∷ []) k ≡ Some other → IsVerified run lines h other
+  verified k h other at here = elim (push_cases list g k h at) [
+    | inl before ↦ elim (push_cases observed one k other here) [
+      | inl earlier ↦ so_far.each k h other before earlier
+      | inr (last, same) ↦ absurd (let lt = slice_get_within list k h before in let is = so_far.long in omega (arith, lt, is, last))
+    ]
+    | inr (last, same) ↦ elim (push_cases observed one k other here) [
+      | inl earlier ↦ absurd (let lt = slice_get_within observed k other earlier in let is = so_far.long in omega (arith, lt, is, last))
+      | inr (end, equal) ↦ subst (λ (x : Gathered). IsVerified run lines x other) same (subst (λ (x : Observed). IsVerified run lines g x) equal added.verified)
+    ]
+  ]
+
+  fewer : AllAreTraffic run lines (list ++ g ∷ []) → AllAreTraffic run lines list
+  fewer are = record { each = λ k h traffic at seen. are.each k h traffic (append_get list (g ∷ []) k h at) seen }
+
+  from : AllAreTraffic run lines (list ++ g ∷ []) → (x : Pending) → Contains new x → IsPendingFrom run (list ++ g ∷ []) (length (list ++ g ∷ [])) x
+  from are x has = elim ((added.adds.exact g.ring (are.each (length list) g one.traffic (at_end list g) added.verified.seen) x).0 has) [
+    | inl before ↦ (
+        let h = (so_far.exact (fewer are) x).0 before in
+        let stands = append_get list (g ∷ []) h.at h.gathered h.stands in
+        record { at = h.at; gathered = h.gathered; before = slice_get_within (list ++ g ∷ []) h.at h.gathered stands; stands = stands; is = h.is }
+        )
+    | inr pending ↦ record { at = length list; gathered = g; before = slice_get_within (list ++ g ∷ []) (length list) g (at_end list g); stands = at_end list g; is = pending.is }
+  ]
+
+  to : AllAreTraffic run lines (list ++ g ∷ []) → (x : Pending) → IsPendingFrom run (list ++ g ∷ []) (length (list ++ g ∷ [])) x → Contains new x
+  to are x h =
+      let gained = added.adds.exact g.ring (are.each (length list) g one.traffic (at_end list g) added.verified.seen) x in
+      elim (push_cases list g h.at h.gathered h.stands) [
+        | inl before ↦ gained.1 (inl ((so_far.exact (fewer are) x).1 (record { at = h.at; gathered = h.gathered; before = slice_get_within list h.at h.gathered before; stands = before; is = h.is })))
+        | inr (last, same) ↦ gained.1 (inr (pending_to run g.ring x (subst (λ (y : Gathered). IsPendingIn run y.ring x.proc x.msg) (sym same) h.is)))
+      ]
+
+  pub observed_more : AreObserved run lines (list ++ g ∷ []) (observed ++ one ∷ []) new
+  observed_more = record { long = long; each = λ k h other at here. verified k h other at here; exact = λ are x. (from are x, to are x) }

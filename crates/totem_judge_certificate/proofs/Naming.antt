@@ -1,0 +1,41 @@
+-- Classes by name: which entries are in one, and that names which compare as equal are the same.
+use Rattle.std.proofs.Common.{◌≡◌, Some, refl, sym, ap, ◌∙◌}
+use Rattle.totem_evs.specs.declared.entry.Entry.{Entry}
+use Rattle.totem_evs.specs.declared.entry.Entry.TheVariants.{Conf, Deliver}
+use Rattle.totem_evs.specs.Classes.{AreOfOneClass}
+use Rattle.totem_judge_certificate.specs.declared.class.Class.{Class}
+use Rattle.totem_judge_certificate.specs.declared.class.Class.TheVariants.{Change, Delivery}
+use Rattle.totem_judge_certificate.specs.ClassOf.{class_of}
+use Rattle.totem_judge_certificate.specs.Walks.{class_barred_by}
+
+-- ---- names that compare as equal
+
+-- ---- entries of one class
+
+-- entries of one class have one name for it
+pub class_shared : (x y : Entry) → AreOfOneClass x y → (c : Class) × (class_of x ≡ Some c) × (class_of y ≡ Some c)
+class_shared (Conf a ms) (Conf b ns) same = (Change a, refl, rw same refl)
+class_shared (Deliver m a) (Deliver n b) same = (Delivery m, refl, rw same refl)
+class_shared x y same = absurd same
+
+pub shares_class : (x y : Entry) (c : Class) → class_of x ≡ Some c → class_of y ≡ Some c → AreOfOneClass x y
+shares_class (Conf a ms) (Conf b ns) c e f = (let h : Change a ≡ Change b = (let both : Some (Change a) ≡ Some (Change b) = e ∙ sym f in cc) in cc)
+shares_class (Deliver m a) (Deliver n b) c e f = (let h : Delivery m ≡ Delivery n = (let both : Some (Delivery m) ≡ Some (Delivery n) = e ∙ sym f in cc) in cc)
+shares_class x y c e f = absurd cc
+
+-- two entries of the class of a third one are of one class
+pub through : (x y z : Entry) → AreOfOneClass x z → AreOfOneClass y z → AreOfOneClass x y
+through x y z first second =
+    let a = class_shared x z first in
+    let b = class_shared y z second in
+    let same : b.0 ≡ a.0 = (let both : Some b.0 ≡ Some a.0 = sym b.2 ∙ a.2 in cc) in
+    shares_class x y a.0 a.1 (b.1 ∙ ap (λ (c : Class). Some c) same)
+
+pub back : (x y : Entry) → AreOfOneClass x y → AreOfOneClass y x
+back x y same = let a = class_shared x y same in shares_class y x a.0 a.2 a.1
+
+-- an entry of a class is barred by that class
+pub own_class_bars : (x : Entry) (c : Class) → class_of x ≡ Some c → class_barred_by x ≡ Some c
+own_class_bars (Conf a ms) c e = e
+own_class_bars (Deliver m a) c e = e
+own_class_bars x c e = absurd cc

@@ -1,0 +1,41 @@
+use Rattle.std.proofs.Common.{refl, ◌∙◌, ap, length, arith}
+use Rattle.std.proofs.lemmas.Option.{slice_get_read}
+use Rattle.totem_evs.specs.LogRecord.{LogRecord}
+use Rattle.totem_evs.specs.Certificates.{Numbering}
+use Rattle.totem_judge_certificate.proofs.Matching.{as_many}
+use Rattle.totem_judge_certificate.proofs.Standing.{in_stands}
+use Rattle.totem_judge_certificate.proofs.Entering.{more_past, next_log, number_within, read_in}
+use Rattle.totem_judge_certificate.proofs.Spreading.{one_late}
+use Rattle.totem_judge_certificate.proofs.sends.are_early.Goals as goal
+
+pub bounds-numbers-at : goal.bounds-numbers-at
+bounds-numbers-at c =
+    let at_log = slice_get_read c.args.logs.now _ c.args.index c.index-logs-index.result refl c.requires.within c.index-logs-index.is in
+    let at_line = slice_get_read c.args.lines.now _ c.args.index c.index-lines-index.result refl (omega (arith, as_many _ _ c.requires.matches, c.requires.within)) c.index-lines-index.is in
+    let entries = c.as_slice-entries.ensures.value ∙ ap (λ (l : LogRecord). l.entries) c.log.view_is in
+    let numbers = c.as_slice-numbers.ensures.value ∙ ap (λ (l : Numbering). l.numbers) c.line.view_is in
+    number_within _ _ _ _ _ _ _ _ c.requires.matches at_log at_line entries numbers c.loop-at-test.true
+
+pub returns-then-not-is_early : goal.returns-then-not-is_early
+returns-then-not-is_early c =
+    let at_log = slice_get_read c.args.logs.now _ c.args.index c.index-logs-index.result refl c.requires.within c.index-logs-index.is in
+    let at_line = slice_get_read c.args.lines.now _ c.args.index c.index-lines-index.result refl (omega (arith, as_many _ _ c.requires.matches, c.requires.within)) c.index-lines-index.is in
+    let entries = c.as_slice-entries.ensures.value ∙ ap (λ (l : LogRecord). l.entries) c.log.view_is in
+    let numbers = c.as_slice-numbers.ensures.value ∙ ap (λ (l : Numbering). l.numbers) c.line.view_is in
+    let inside = read_in _ _ _ _ _ _ _ _ _ c.requires.matches at_log at_line entries numbers c.loop-at-test.true c.index-entries-at.is in
+    one_late _ _ _ c.requires.known _ _ _ (in_stands _ _ _ _ _ _ _ c.requires.run.rising c.requires.matches inside) (λ early. let t = c.if-not-is_early.ensures.1 early in cc)
+
+pub loop-at-preserved : goal.loop-at-preserved
+loop-at-preserved c =
+    let at_log = slice_get_read c.args.logs.now _ c.args.index c.index-logs-index.result refl c.requires.within c.index-logs-index.is in
+    let at_line = slice_get_read c.args.lines.now _ c.args.index c.index-lines-index.result refl (omega (arith, as_many _ _ c.requires.matches, c.requires.within)) c.index-lines-index.is in
+    let entries = c.as_slice-entries.ensures.value ∙ ap (λ (l : LogRecord). l.entries) c.log.view_is in
+    let numbers = c.as_slice-numbers.ensures.value ∙ ap (λ (l : Numbering). l.numbers) c.line.view_is in
+    let inside = read_in _ _ _ _ _ _ _ _ _ c.requires.matches at_log at_line entries numbers c.loop-at-test.true c.index-entries-at.is in
+    more_past _ _ _ _ _ _ _ _ inside (c.if-not-is_early.ensures.0 refl) c.loop-at.invariant
+
+pub returns : goal.returns
+returns c =
+    let at_log = slice_get_read c.args.logs.now _ c.args.index c.index-logs-index.result refl c.requires.within c.index-logs-index.is in
+    let entries = c.as_slice-entries.ensures.value ∙ ap (λ (l : LogRecord). l.entries) c.log.view_is in
+    next_log _ _ _ _ _ _ at_log (omega (arith, ap length entries, c.loop-at-test.false)) c.loop-at.invariant

@@ -1,0 +1,155 @@
+-- Entering the changes of a run, one after the other.
+use Rattle.std.proofs.Common.{below_more, ◌≡◌, ℕ, ◌+◌, ◌<◌, ◌≤◌, inl, inr, List, [], ◌∷◌, ◌++◌, length, slice_get, Option, Some, None, Result, Ok, Err, IfOk, Bool, true, false, refl, sym, ◌∙◌, ap, arith}
+use Rattle.std.specs.Prelude.{Contains}
+use Rattle.std.specs.Bool.{OnTrue}
+use Rattle.std.specs.BTreeMap as tree
+use Rattle.std.proofs.lemmas.Option.{slice_get_within}
+use Rattle.totem_ids.specs.declared.ring.RingId.{RingId}
+use Rattle.totem_ids.specs.declared.conf.ConfId.{ConfId}
+use Rattle.totem_ids.specs.declared.conf.ConfId.TheVariants.{Regular, Transitional}
+use Rattle.totem_ids.proofs.Exact.{exact_conf, equal_at, apart_or_at}
+use Rattle.totem_evs.specs.declared.entry.Entry.{Entry}
+use Rattle.totem_evs.specs.declared.entry.Entry.TheVariants.{Conf}
+use Rattle.totem_evs.specs.declared.log.Log.{Log}
+use Rattle.totem_evs.specs.Events.{ChangesWith, log_of}
+use Rattle.totem_evs.specs.Changes.{ChangesNext, TakesTurns, HasOneOrigin}
+use Rattle.totem_evs.proofs.LogOf.{log_of_cases}
+use Rattle.totem_evs.proofs.Pushing.{stands_before, stands_last}
+use Rattle.totem_judge_run.specs.declared.changes_2_3.FirstChange.{FirstChange}
+use Rattle.totem_judge_run.specs.declared.changes_2_3.FirstChanges.{FirstChanges}
+use Rattle.totem_judge_run.specs.Orderly.{ChangesAgree}
+use Rattle.totem_judge_run.specs.Succession.{IsWrongSuccession}
+use Rattle.totem_judge_run.specs.FirstChanges.{conf_order, first_to, IsLastBefore, ComesFrom, IsMet, Keeps, Meets, IsRight, Enters, AreRight, EntersLog}
+use Rattle.totem_judge_run.proofs.Behind.{same_entry, regular_first, turns_right, one_origin, right_kinds, right_from, right_to, right_name}
+
+-- ---- one change
+
+-- the first change to y is still known after the one to x, which is another
+still_first : (old new : FirstChanges) (y : ConfId) (change f : FirstChange) (o : Option ℕ) → tree.get conf_order old.index y ≡ o → tree.get conf_order new.index y ≡ o → new.list.items ≡ old.list.items ++ change ∷ [] → first_to old y ≡ Some f → first_to new y ≡ Some f
+still_first old new y change f None was is list at = absurd (let none : first_to old y ≡ None = rw was refl in cc)
+still_first old new y change f (Some i) was is list at =
+    let there : slice_get old.list.items i ≡ Some f = rw was at at in
+    rw (is, list) (stands_before old.list.items change i f there)
+
+-- it is the first one
+pub met_first : (old new : FirstChanges) (x : ConfId) (o : Option FirstChange) (change : FirstChange) (n : ℕ) → o ≡ first_to old x → ((f : FirstChange) → o ≡ Some f → ⊥) → new.list.items ≡ old.list.items ++ change ∷ []
+    → n ≡ length old.list.items → tree.Updates conf_order old.index new.index x (Some n) → Meets old new x change.members.now change.from.now
+met_first old new x o change n is none list last updates = record {
+  kept = record {
+    each = λ y f at. elim (apart_or_at conf_order x y) [
+      | inl here ↦ (let same : x ≡ y = exact_conf x y (equal_at (conf_order x y) here) in absurd (none f (is ∙ rw same at)))
+      | inr apart ↦ still_first old new y change f (tree.get conf_order old.index y) refl (updates.2 y apart) list at
+    ];
+  };
+  met = record { change = change; is = rw (updates.1, list, last) (stands_last old.list.items change); members = refl; from = refl };
+}
+
+-- if the result is `true`, what follows from P holds
+pub where_met : {E : Type 0} (r : Result Bool E) (P Q : Type 0) → (P → Q) → IfOk r (λ ok. OnTrue ok P) → IfOk r (λ ok. OnTrue ok Q)
+where_met (Ok true) P Q f h = f h
+where_met (Ok false) P Q f h = tt
+where_met (Err e) P Q f h = tt
+
+pub entered : (old new : FirstChanges) (at : ℕ) (before : Option ℕ) (log : Log) (e : Entry) (x : ConfId) (ms : List ℕ) (c : RingId) → slice_get log.entries at ≡ Some e → e ≡ Conf x ms → Contains ms log.proc → IsLastBefore log.entries at before
+    → ComesFrom log.entries before x ms c → Meets old new x ms c → Enters old new log at
+entered old new at before log e x ms c at_entry is own last from meets = record {
+  right = λ y ns there. (let same = same_entry log.entries at at y x ns ms refl (rw is at at_entry) there in rw (← same.0, ← same.1) right);
+  kept = meets.kept;
+}
+  where
+    right : IsRight new log at x ms
+    right = record {
+      own = own;
+      regular = regular_first log.entries at before x ms c last from;
+      turns = λ i w ls next. turns_right log.entries at i before w x ls ms c last from next;
+      from = c;
+      met = meets.met;
+      origin = λ i d ls trans next. one_origin log.entries at i before d x ls ms c trans last from next;
+    }
+
+-- an entry that is no change needs nothing
+pub none_entered : (firsts : FirstChanges) (log : Log) (at : ℕ) (e : Entry) → slice_get log.entries at ≡ Some e → ((x : ConfId) (ms : List ℕ) → e ≡ Conf x ms → ⊥) → Enters firsts firsts log at
+none_entered firsts log at e at_entry never = record { right = λ x ms there. absurd (never x ms cc); kept = record { each = λ x f is. is } }
+
+-- ---- along the logs
+
+still_right : (old new : FirstChanges) (log : Log) (at : ℕ) (x : ConfId) (ms : List ℕ) → Keeps old new → IsRight old log at x ms → IsRight new log at x ms
+still_right old new log at x ms kept h = record {
+  own = h.own;
+  regular = h.regular;
+  turns = h.turns;
+  from = h.from;
+  met = record { change = h.met.change; is = kept.each x h.met.change h.met.is; members = h.met.members; from = h.met.from };
+  origin = h.origin;
+}
+
+pub more_right : (old new : FirstChanges) (log : Log) (j : ℕ) → Enters old new log j → AreRight old log j → AreRight new log (j + 1)
+more_right old new log j enters before = record {
+  each = below_more (λ i. (x : ConfId) (ms : List ℕ) → ChangesWith log.entries i x ms → IsRight new log i x ms) j (λ i lt x ms at. still_right old new log i x ms enters.kept (before.each i lt x ms at)) enters.right;
+}
+
+-- the changes of the first k logs meet the requirements
+pub record LogsAreRight (run : List Log) (firsts : FirstChanges) (k : ℕ) : Type 0 where
+  pub each : (i : ℕ) → i < k → (log : Log) → slice_get run i ≡ Some log → AreRight firsts log (length log.entries)
+
+pub more_logs : (run : List Log) (old new : FirstChanges) (k : ℕ) (log : Log) → slice_get run k ≡ Some log → EntersLog old new log → LogsAreRight run old k → LogsAreRight run new (k + 1)
+more_logs run old new k log at_log enters before = record {
+  each = below_more (λ i. (l : Log) → slice_get run i ≡ Some l → AreRight new l (length l.entries)) k
+      (λ i lt l at. record { each = λ j below x ms h. still_right old new l j x ms enters.kept ((before.each i lt l at).each j below x ms h) })
+      (λ l at. (let same : log ≡ l = cc in rw (← same) enters.right));
+}
+
+-- ---- all logs
+
+module _ (run : List Log) (firsts : FirstChanges) (k : ℕ) (end : length run ≤ k) (so : LogsAreRight run firsts k) where
+  -- what is known of a change of p's log
+  record RightIn (p i : ℕ) (x : ConfId) (ms : List ℕ) : Type 0 where
+    log : Log
+    proc : log.proc ≡ p
+    entries : log_of run p ≡ log.entries
+    right : IsRight firsts log i x ms
+
+  right_in : (p i : ℕ) (x : ConfId) (ms : List ℕ) → ChangesWith (log_of run p) i x ms → RightIn p i x ms
+  right_in p i x ms at = elim (log_of_cases run p) [
+    | inl none ↦ absurd (let there : slice_get {X = Entry} [] i ≡ Some (Conf x ms) = rw none at at in cc)
+    | inr (j, log, at_log, procs, is) ↦
+        let there : ChangesWith log.entries i x ms = rw is at at in
+        let within = slice_get_within run j log at_log in
+        record { log = log; proc = procs; entries = is; right = (so.each j (omega arith) log at_log).each i (slice_get_within log.entries i (Conf x ms) there) x ms there }
+  ]
+
+  not_wrong : (p i j : ℕ) (x y : ConfId) (ms ns : List ℕ) → ChangesNext (log_of run p) i j x y ms ns → IsWrongSuccession x ms y ns → ⊥
+  not_wrong p i j x y ms ns next = (let h = right_in p j y ns next.second in h.right.turns i x ms (rw h.entries at next))
+
+  one_met : (x : ConfId) (ms ns : List ℕ) (c d : RingId) → IsMet firsts x ms c → IsMet firsts x ns d → (ms ≡ ns) × (c ≡ d)
+  one_met x ms ns c d h g =
+      let same : h.change ≡ g.change = (let a = h.is in let b = g.is in cc) in
+      (sym h.members ∙ ap (λ (f : FirstChange). f.members.now) same ∙ g.members, sym h.from ∙ ap (λ (f : FirstChange). f.from.now) same ∙ g.from)
+
+  all_one : (p i q j : ℕ) (x : ConfId) (ms ns : List ℕ) → ChangesWith (log_of run p) i x ms → ChangesWith (log_of run q) j x ns → ms ≡ ns
+  all_one p i q j x ms ns a b =
+      let h = right_in p i x ms a in
+      let g = right_in q j x ns b in
+      (one_met x ms ns h.right.from g.right.from h.right.met g.right.met).0
+
+  takes_turns : (p : ℕ) → TakesTurns (log_of run p)
+  takes_turns p = record {
+    regular_first = λ i x (ms, at) none. (let h = right_in p i x ms at in h.right.regular (record { none = rw h.entries at none }));
+    turns = λ i j x y ms ns next. right_kinds x y ms ns (not_wrong p i j x y ms ns next);
+    from = λ i j c y ms ns trans next. right_from c y ms ns trans (not_wrong p i j (Regular c) y ms ns next);
+    to = λ i j x c ms ns trans next. right_to x c ms ns trans (not_wrong p i j x (Regular c) ms ns next);
+    named = λ i j next c least ms ns changes. right_name next c least ms ns (not_wrong p i j (Transitional least next) (Regular c) ms ns changes);
+  }
+
+  one_ring : HasOneOrigin run
+  one_ring p i j q m l c d t ms ns ks ls lt trans a b =
+      let h = right_in p j t ns a.second in
+      let g = right_in q l t ls b.second in
+      sym (h.right.origin i c ms trans (rw h.entries at a)) ∙ (one_met t ns ls h.right.from g.right.from h.right.met g.right.met).1 ∙ g.right.origin m d ks trans (rw g.entries at b)
+
+  pub all_agree : ChangesAgree run
+  all_agree = record {
+    members = all_one;
+    own = λ p i x ms at. (let h = right_in p i x ms at in rw (← h.proc) h.right.own);
+    turns = record { each = takes_turns; origin = one_ring };
+  }

@@ -1,0 +1,40 @@
+-- What holds of each log of a run, log after log; and that they stay in place.
+use Rattle.std.proofs.Common.{below_more, ◌≡◌, ℕ, ◌+◌, ◌<◌, ◌≤◌, inl, inr, List, [], length, slice_get, Some, refl, arith}
+use Rattle.std.proofs.lemmas.Option.{slice_get_within}
+use Rattle.totem_ids.specs.declared.place.Place.{Place}
+use Rattle.totem_evs.specs.declared.entry.Entry.{Entry}
+use Rattle.totem_evs.specs.declared.log.Log.{Log}
+use Rattle.totem_evs.specs.Changes.{StaysInPlace}
+use Rattle.totem_evs.specs.Events.{log_of}
+use Rattle.totem_evs.proofs.LogOf.{log_of_cases}
+use Rattle.totem_judge_run.specs.Orderly.{AllStayInPlace}
+
+module _ (P : List Entry → Type 0) where
+  -- P holds of each log before the one at k
+  pub record EachBefore (run : List Log) (k : ℕ) : Type 0 where
+    pub each : (j : ℕ) (log : Log) → j < k → slice_get run j ≡ Some log → P log.entries
+
+  pub one_more : (run : List Log) (k : ℕ) (log : Log) → slice_get run k ≡ Some log → P log.entries → EachBefore run k → EachBefore run (k + 1)
+  one_more run k log at here before = record {
+    each = λ j l lt at_j. below_more (λ i. (g : Log) → slice_get run i ≡ Some g → P g.entries) k (λ i under g at_g. before.each i g under at_g) (λ g at_g. (let same : log ≡ g = cc in rw same at here)) j lt l at_j;
+  }
+
+  pub each_process : (run : List Log) (k : ℕ) → P [] → length run ≤ k → EachBefore run k → (p : ℕ) → P (log_of run p)
+  each_process run k empty end before p = elim (log_of_cases run p) [
+    | inl none ↦ rw none empty
+    | inr found ↦ rw found.4 (before.each found.0 found.1 (omega (arith, slice_get_within run found.0 found.1 found.2)) found.2)
+  ]
+
+empty_placed : StaysInPlace []
+empty_placed = record {
+  begins = λ lt. absurd (omega arith);
+  named = λ i x (e, at, names). absurd cc;
+  final = λ i j x fails lt below. omega arith;
+}
+
+pub all_logs : (run : List Log) (k : ℕ) → length run ≤ k → EachBefore StaysInPlace run k → AllStayInPlace run
+all_logs run k end placed = record { each = each_process StaysInPlace run k empty_placed end placed }
+
+-- places of one process and one number are one
+pub same_place : (p n : ℕ) (f : Place) → p ≡ f.proc → n ≡ f.at → record { proc = p; at = n } ≡ f
+same_place p n f procs ats = rw (procs, ats) refl

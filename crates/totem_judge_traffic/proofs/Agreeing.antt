@@ -1,0 +1,23 @@
+-- All rules of one configuration.
+use Rattle.totem_evs.specs.declared.spec.SpecNo.TheVariants as spec
+use Rattle.totem_judge_traffic.specs.declared.traffic.Traffic.{Traffic}
+use Rattle.totem_judge_traffic.specs.declared.agreed.Shown.{Shown}
+use Rattle.totem_judge_traffic.specs.Clean.{Shows, ShowsAgreement, AreShown, IsAllShown}
+
+pub agreed : (traffic : Traffic) → Shows spec.OwnDelivery traffic → Shows spec.Atomicity traffic → Shows spec.Causality traffic → Shows spec.Gap traffic
+    → Shows spec.Safety traffic → Shows spec.Installed traffic → ShowsAgreement traffic
+agreed traffic own atomicity causality gap safety installed = record {
+  met = λ run c meets is. record {
+    own = own.met run c meets is;
+    atomicity = atomicity.met run c meets is;
+    causality = causality.met run c meets is;
+    gap = gap.met run c meets is;
+    safety = safety.met run c meets is;
+    installed = installed.met run c meets is;
+  };
+}
+
+-- where all is shown, the run agrees
+pub shown_agreed : (traffic : Traffic) (shown : Shown) → AreShown traffic shown → IsAllShown shown → ShowsAgreement traffic
+shown_agreed traffic shown are all =
+    agreed traffic (are.own all.own) (are.atomicity all.atomicity) (are.causality all.causality) (are.gap all.gap) (are.safety all.safety) (are.installed all.installed)

@@ -1,0 +1,44 @@
+//! What is pending in one regular configuration (docs/SPECIFICATIONS.md, "Pending and waiting").
+ghost use Rattle.std.specs.Prelude.{◌<◌, length, OnOk};
+ghost use Rattle.totem_judge_traffic.specs.Pending.{AddsMissing, AddsPending};
+
+use crate::traffic::{Sent, Traffic};
+use std::alloc::AllocError;
+use totem_evs::Pending;
+use totem_ids::Proc;
+
+/// Appends the messages that this process's log, which is open in the configuration, does not deliver there.
+fn push_missing(
+    sent: &[Sent],
+    log: u32,
+    proc: Proc,
+    out: &mut Vec<Pending>,
+) -> Result<(), AllocError>
+    requires { log < 32 }
+    ensures { OnOk result (AddsMissing sent.now (length sent.now) log proc out.old.items out.new.items) }
+{
+    for message in sent {
+        if !message.by.contains(log) {
+            let msg = message.message;
+            out.push(Pending { proc, msg })?;
+        }
+    }
+    Ok(())
+}
+
+/// Appends the messages of the configuration that are pending for the process of this log.
+#[tactic(auto, using(crate::proofs::Missing::none_pending, crate::proofs::Missing::missing_pending))]
+pub fn push_pending(
+    traffic: &Traffic,
+    log: u32,
+    proc: Proc,
+    out: &mut Vec<Pending>,
+) -> Result<(), AllocError>
+    requires { log < 32 }
+    ensures { OnOk result (AddsPending traffic.now log proc out.old.items out.new.items) }
+{
+    if !traffic.open.contains(log) {
+        return Ok(());
+    }
+    push_missing(&traffic.sent, log, proc, out)
+}

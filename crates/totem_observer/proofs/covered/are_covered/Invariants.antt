@@ -1,5 +1,0 @@
-use Rattle.totem_observer.specs.Covered.{AreCovered}
-use Rattle.totem_observer.proofs.covered.are_covered.Given as goal
-
-abbrev pub invariant-loop-index : goal.invariant-loop-index
-invariant-loop-index l = AreCovered l.logs l.list l.index

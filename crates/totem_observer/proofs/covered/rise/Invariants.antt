@@ -1,5 +1,0 @@
-use Rattle.totem_observer.specs.Covered.{AreRisingTo}
-use Rattle.totem_observer.proofs.covered.rise.Given as goal
-
-abbrev pub invariant-loop-at : goal.invariant-loop-at
-invariant-loop-at l = AreRisingTo l.list l.at

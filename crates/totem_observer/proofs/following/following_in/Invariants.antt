@@ -1,6 +1,0 @@
-use Rattle.totem_observer.specs.Turns.{HasFollowings}
-use Rattle.totem_observer.proofs.Steps.{HasFollowingsOf}
-use Rattle.totem_observer.proofs.following.following_in.Given as goal
-
-abbrev pub invariant-loop-stay : goal.invariant-loop-stay
-invariant-loop-stay l = HasFollowings l.logs l.stays l.stay-index l.list.items × HasFollowingsOf l.logs l.stays l.list.items l.seen

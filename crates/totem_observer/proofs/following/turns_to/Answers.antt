@@ -1,4 +1,0 @@
-use Rattle.totem_observer.proofs.following.turns_to.Goals as goal
-
-pub returns-in-None : goal.returns-in-None
-returns-in-None c = (λ told. absurd cc, λ h. absurd (c.in-None.ensures.none.never c.args.conf.now h.0 h.1))

@@ -1,5 +1,0 @@
-use Rattle.totem_observer.specs.Members.{AreLogsOfMembers}
-use Rattle.totem_observer.proofs.members.logs_of.Given as goal
-
-abbrev pub invariant-loop-index : goal.invariant-loop-index
-invariant-loop-index l = AreLogsOfMembers l.logs l.members l.index l.set

@@ -1,8 +1,0 @@
-use Rattle.totem_observer.specs.Lists.{AreAsListed, AreSentIn}
-use Rattle.totem_observer.proofs.replay.are_as_listed.Given as goal
-
-abbrev pub invariant-loop-at : goal.invariant-loop-at
-invariant-loop-at l = record {
-  listed : AreAsListed l.entries l.numbers l.gathered l.stay l.at l.got;
-  sends : AreSentIn l.entries l.numbers l.gathered l.stay l.sent;
-}

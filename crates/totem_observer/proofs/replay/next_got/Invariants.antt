@@ -1,5 +1,0 @@
-use Rattle.totem_observer.specs.Lists.{AreSkipped}
-use Rattle.totem_observer.proofs.replay.next_got.Given as goal
-
-abbrev pub invariant-loop-index : goal.invariant-loop-index
-invariant-loop-index l = AreSkipped l.list l.log l.from l.index

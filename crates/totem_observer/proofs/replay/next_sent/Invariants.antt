@@ -1,5 +1,0 @@
-use Rattle.totem_observer.specs.Lists.{AreUnsent}
-use Rattle.totem_observer.proofs.replay.next_sent.Given as goal
-
-abbrev pub invariant-loop-index : goal.invariant-loop-index
-invariant-loop-index l = AreUnsent l.list l.log l.from l.index

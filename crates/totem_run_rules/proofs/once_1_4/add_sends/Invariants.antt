@@ -1,8 +1,0 @@
-use Rattle.std.proofs.Common.{◌≡◌, ◌++◌, take}
-use Rattle.std.specs.List.{AllWithin}
-use Rattle.totem_run_rules.specs.declared.once_1_4.Once.TheVariants as once
-use Rattle.totem_run_rules.specs.Once.{IsNoSendBetween, messages_in}
-use Rattle.totem_run_rules.proofs.once_1_4.add_sends.Given as goal
-
-abbrev pub invariant-loop-entry : goal.invariant-loop-entry
-invariant-loop-entry l = (l.list.items ≡ l.initial.list.items ++ messages_in once.Send (take l.entry-index l.entries)) × AllWithin IsNoSendBetween l.entries 0 l.entry-index

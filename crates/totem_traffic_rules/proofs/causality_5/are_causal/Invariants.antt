@@ -1,6 +1,0 @@
-use Rattle.std.proofs.Common.{◌≤◌, length}
-use Rattle.totem_traffic_rules.specs.Clean.{LacksTo, AreCausalTo}
-use Rattle.totem_traffic_rules.proofs.causality_5.are_causal.Given as goal
-
-abbrev pub invariant-loop-message : goal.invariant-loop-message
-invariant-loop-message l = (l.taken ≤ length l.got) × LacksTo l.logs l.got l.taken l.rows × AreCausalTo l.logs l.got l.sent l.message-index

@@ -1,5 +1,0 @@
-use Rattle.totem_traffic_rules.specs.Clean.{HasAllBehind}
-use Rattle.totem_traffic_rules.proofs.gap_6_3.behind_with.Given as goal
-
-abbrev pub invariant-loop-following : goal.invariant-loop-following
-invariant-loop-following l = HasAllBehind l.list l.sender l.following-index l.logs

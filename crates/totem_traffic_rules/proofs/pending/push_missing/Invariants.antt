@@ -1,5 +1,0 @@
-use Rattle.totem_traffic_rules.specs.Pending.{AddsMissing}
-use Rattle.totem_traffic_rules.proofs.pending.push_missing.Given as goal
-
-abbrev pub invariant-loop-message : goal.invariant-loop-message
-invariant-loop-message l = AddsMissing l.sent l.message-index l.log l.proc l.fn.out.items l.out.items

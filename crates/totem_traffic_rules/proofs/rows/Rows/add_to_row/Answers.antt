@@ -1,6 +1,0 @@
-use Rattle.std.proofs.Common.{rules}
-use Rattle.totem_traffic_rules.proofs.Rowing.{in_more}
-use Rattle.totem_traffic_rules.proofs.rows.Rows.add_to_row.Goals as goal
-
-pub invariant_of-self : goal.invariant_of-self
-invariant_of-self c = record { all = in_more _ _ _ _ _ _ _ (search rules) c.union.ensures c.union-self.ensures c.args.self.now.all }

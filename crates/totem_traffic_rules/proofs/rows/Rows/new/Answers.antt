@@ -1,5 +1,0 @@
-use Rattle.totem_traffic_rules.proofs.Rowing.{in_copies}
-use Rattle.totem_traffic_rules.proofs.rows.Rows.new.Goals as goal
-
-pub invariant_of-result : goal.invariant_of-result
-invariant_of-result c = record { all = in_copies 32 c.none.result c.none-2.result c.none.ensures }
