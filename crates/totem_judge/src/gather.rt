@@ -63,37 +63,70 @@ struct Walk<'a> {
     lines: &'a [Line],
     /// For each log, how many entries have been passed.
     passed: Vec<usize>,
+    /// For each log, the number of its next entry, or `NONE`.
+    next: Vec<u32>,
     /// The number that was passed last.
     last: u32,
+}
+
+/// No entry has this number.
+const NONE: u32 = 0;
+
+/// Returns the number of the entry at this index, or `NONE` if there is no such entry.
+fn number_at(line: &Line, at: usize) -> u32 {
+    line.numbers.as_slice().get(at).copied().unwrap_or(NONE)
 }
 
 impl<'a> Walk<'a> {
     fn new(alloc: Global, lines: &'a [Line]) -> Result<Walk<'a>, AllocError> {
         let passed = vec![in alloc; 0usize; lines.len()]?;
+        let mut next = Vec::with_capacity(alloc, lines.len())?;
+        for line in lines {
+            next.push(number_at(line, 0))?;
+        }
         Ok(Walk {
             lines,
             passed,
-            last: 0,
+            next,
+            last: NONE,
         })
     }
 
-    /// Moves past the events with this number, and returns whose they are.
-    fn pass(&mut self, number: u32) -> LogSet {
+    /// Returns the logs whose next entries have this number: bit i stands for the log at index i.
+    fn bits_at(&self, number: u32) -> u32 {
         let mut bits = 0u32;
-        for (log, (line, passed)) in self.lines.iter().zip(self.passed.iter_mut()).enumerate() {
-            let here = line.numbers.as_slice().get(*passed) == Some(&number);
-            bits |= u32::from(here) << index_of(log).min(31);
-            *passed = passed.saturating_add(usize::from(here));
+        let mut bit = 1u32;
+        for next in self.next.iter() {
+            bits |= if *next == number { bit } else { 0 };
+            bit <<= 1;
         }
-        LogSet::from_bits(bits)
+        bits
+    }
+
+    /// Moves past the next entry of this log.
+    fn pass(&mut self, log: usize) {
+        if log < self.lines.len() && log < self.passed.len() && log < self.next.len() {
+            let passed = self.passed[log].saturating_add(1);
+            self.passed[log] = passed;
+            self.next[log] = number_at(&self.lines[log], passed);
+        }
+    }
+
+    /// Moves past the next entries of these logs.
+    fn pass_all(&mut self, bits: u32) {
+        let mut left = bits;
+        for _ in 0..bits.count_ones() {
+            self.pass(left.trailing_zeros() as usize);
+            left &= left.wrapping_sub(1);
+        }
     }
 
     /// Returns the least number that is left, or `None` if there is none.
     fn least(&self) -> Option<u32> {
         let mut least = None;
-        for (line, passed) in self.lines.iter().zip(self.passed.iter()) {
-            if let Some(number) = line.numbers.as_slice().get(*passed) {
-                least = Some(least.unwrap_or(u32::MAX).min(*number));
+        for next in self.next.iter() {
+            if *next != NONE {
+                least = Some(least.unwrap_or(u32::MAX).min(*next));
             }
         }
         least
@@ -103,12 +136,14 @@ impl<'a> Walk<'a> {
     /// other.
     fn go_on(&mut self) -> Option<Next> {
         let mut number = self.last.saturating_add(1);
-        let mut logs = self.pass(number);
-        if logs.is_empty() {
+        let mut bits = self.bits_at(number);
+        if bits == 0 {
             number = self.least()?;
-            logs = self.pass(number);
+            bits = self.bits_at(number);
         }
+        self.pass_all(bits);
         self.last = number;
+        let logs = LogSet::from_bits(bits);
         let log = logs.least()?;
         Some(Next { log, number, logs })
     }
@@ -128,10 +163,11 @@ impl Spots {
         }
     }
 
-    /// Enters the next configuration.
-    fn begin(&mut self, alloc: Global, ring: RingId) -> Result<(), AllocError> {
+    /// Enters the next configuration, in which about this many messages are sent.
+    fn begin(&mut self, alloc: Global, ring: RingId, messages: usize) -> Result<(), AllocError> {
+        let indices = Vec::with_capacity(alloc, messages.saturating_add(1))?;
         self.rings.insert(ring, self.numbered.len())?;
-        self.numbered.push(Vec::new(alloc))?;
+        self.numbered.push(indices)?;
         Ok(())
     }
 
@@ -220,17 +256,19 @@ impl Gatherer {
         }
     }
 
-    /// Enters the changes of these logs to a regular configuration. `passed` has the number of entries passed in each log, with this one.
+    /// Enters the changes of these logs to a regular configuration, in which about this many messages are sent. `passed` has the number of
+    /// entries passed in each log, with this one.
     fn change(
         &mut self,
         alloc: Global,
         logs: &[Log],
         ring: RingId,
+        messages: usize,
         next: &Next,
         passed: &[usize],
     ) -> Result<(), AllocError> {
         self.move_on(next, passed);
-        let mut gathered = Gathered::new(alloc, ring, next.number);
+        let mut gathered = Gathered::new(alloc, ring, next.number, messages)?;
         for log in 0..32u32 {
             let index = log as usize;
             if next.logs.contains(log)
@@ -251,7 +289,7 @@ impl Gatherer {
             }
         }
         self.behind = self.behind.minus(next.logs);
-        self.spots.begin(alloc, ring)?;
+        self.spots.begin(alloc, ring, messages)?;
         self.list.push(gathered)?;
         Ok(())
     }
@@ -308,19 +346,22 @@ impl Gatherer {
         Ok(())
     }
 
-    /// Enters the next events. `entry` is that of the first log.
+    /// Enters the events that the walk has just passed. `entry` is that of the first log.
     fn enter(
         &mut self,
         alloc: Global,
         logs: &[Log],
         entry: &Entry,
         next: &Next,
-        passed: &[usize],
+        walk: &Walk<'_>,
     ) -> Result<(), AllocError> {
         match entry {
-            Entry::Conf(ConfId::Regular(ring), _) => self.change(alloc, logs, *ring, next, passed),
+            Entry::Conf(ConfId::Regular(ring), _) => {
+                let messages = messages_from(logs, walk, next.log as usize);
+                self.change(alloc, logs, *ring, messages, next, &walk.passed)
+            }
             Entry::Conf(ConfId::Transitional { .. }, _) => {
-                self.move_on(next, passed);
+                self.move_on(next, &walk.passed);
                 self.behind = self.behind.union(next.logs);
                 Ok(())
             }
@@ -329,6 +370,35 @@ impl Gatherer {
             Entry::Fail(_) => Ok(()),
         }
     }
+}
+
+/// Returns how many entries come before the next change to a regular configuration.
+fn stay_length(entries: &[Entry]) -> usize {
+    for (length, entry) in entries.iter().enumerate() {
+        if matches!(entry, Entry::Conf(ConfId::Regular(_), _)) {
+            return length;
+        }
+    }
+    entries.len()
+}
+
+/// Returns about how many messages are sent until this log changes to a regular configuration again, and at most how many entries it has
+/// until then. The walk has passed the entry before that. Most messages take two numbers, for the send and for the deliveries.
+fn messages_from(logs: &[Log], walk: &Walk<'_>, log: usize) -> usize {
+    let (Some(log), Some(line), Some(passed)) = (
+        logs.get(log),
+        walk.lines.get(log),
+        walk.passed.get(log),
+    ) else {
+        return 0;
+    };
+    let Some(entries) = log.entries.as_slice().get(*passed..) else {
+        return 0;
+    };
+    let length = stay_length(entries);
+    let last = number_at(line, passed.saturating_add(length).saturating_sub(1));
+    let events = last.saturating_sub(walk.last) as usize;
+    (events / 2).saturating_add(1).min(length)
 }
 
 /// Returns the number of entries of all logs.
@@ -358,7 +428,7 @@ pub fn gather(alloc: Global, logs: &[Log], lines: &[Line]) -> Result<Vec<Gathere
         let Some(entry) = log.entries.as_slice().get(at) else {
             break;
         };
-        gatherer.enter(alloc, logs, entry, &next, &walk.passed)?;
+        gatherer.enter(alloc, logs, entry, &next, &walk)?;
     }
     Ok(gatherer.list)
 }

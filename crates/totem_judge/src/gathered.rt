@@ -1,7 +1,7 @@
 //! What is gathered about a regular configuration, with what is needed to verify it.
 ghost use Rattle.std.specs.Prelude.{◌<◌};
 
-use std::alloc::Global;
+use std::alloc::{AllocError, Global};
 use totem_ids::{RingId, Service};
 use totem_judge_traffic::{Got, Sent};
 
@@ -58,17 +58,23 @@ impl Origin {
 impl Gathered {
     ghost use Rattle.std.specs.Prelude.{◌≡◌, slice_get};
 
-    pub fn new(alloc: Global, ring: RingId, number: u32) -> Gathered {
-        Gathered {
+    /// Returns what is gathered at first, with room for this many messages.
+    pub fn new(
+        alloc: Global,
+        ring: RingId,
+        number: u32,
+        messages: usize,
+    ) -> Result<Gathered, AllocError> {
+        Ok(Gathered {
             ring,
             number,
             stays: Vec::new(alloc),
-            sent: Vec::new(alloc),
-            origins: Vec::new(alloc),
-            sent_numbers: Vec::new(alloc),
-            got: Vec::new(alloc),
-            got_numbers: Vec::new(alloc),
-        }
+            sent: Vec::with_capacity(alloc, messages)?,
+            origins: Vec::with_capacity(alloc, messages)?,
+            sent_numbers: Vec::with_capacity(alloc, messages)?,
+            got: Vec::with_capacity(alloc, messages)?,
+            got_numbers: Vec::with_capacity(alloc, messages)?,
+        })
     }
 
     /// Returns the message at this index of those that were sent.

@@ -40,7 +40,7 @@ const OPTIONS: [NumberOption; 6] = [
         least: 1,
         most: 1_000_000,
         default: "4000",
-        help: "Length of the run in ticks, from 1 to 1000000. A tick is about one hop of the token. At every eighth tick the next node, in rotation, gets a message to send and a timer event. A node looks for a new ring at the third timer event after it last had the token. A run starts only if it can get 4 KB of memory times ticks times nodes; most runs use much less",
+        help: "Length of the run in ticks, from 1 to 1000000. A tick is about one hop of the token. A run starts only if it can get 4 KB of memory for each tick and node",
     },
     NumberOption {
         name: "seed",
@@ -72,7 +72,7 @@ const OPTIONS: [NumberOption; 6] = [
         least: 0,
         most: 255,
         default: "0",
-        help: "How many later packets may overtake a packet, from 0 to 255. With 2 or more, and sometimes with 1, tokens are delayed so long that nodes form new rings again and again, and deliver next to nothing",
+        help: "How many later packets may overtake one, from 0 to 255. With 2 or more the token is so late that the nodes mostly form new rings and deliver little",
     },
 ];
 
@@ -92,7 +92,7 @@ fn weave_option<'a>(alloc: Global) -> Arg<'a> {
         .long("weave")
         .action(ArgAction::SetTrue)
         .help(
-            "Do not write the run. Look for a schedule: a single order of all that the nodes did on their first ring, 4.1, in which each packet is received after it was sent, and each step is one that the protocol allows. If there is one, write how many steps it has and, for each node, the messages that it got from the ring, in order. If there is none, write one call (an input, and the node's answer) that is to blame (docs/PROTOCOL.md, The woven ring, says in which sense)",
+            "Instead of the run, write whether there is a schedule: one order of all steps that the nodes took on their first ring. docs/PROTOCOL.md, The woven ring, describes what is written",
         )
 }
 

@@ -61,7 +61,7 @@ fn workers_option<'a>(alloc: Global) -> Arg<'a> {
         .value_parser(ValueParser::Unsigned(1, 64))
         .default_value("1")
         .help(
-            "Number of threads, from 1 to 64, that search for faults; the search runs only if simple tests cannot rule out faults, and the output is the same for any number",
+            "Number of threads, from 1 to 64, that search for faults. The output is the same for any number",
         )
 }
 
