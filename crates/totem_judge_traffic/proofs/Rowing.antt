@@ -10,7 +10,7 @@ use Rattle.totem_judge_traffic.specs.declared.rows.Rows.{Rows}
 use Rattle.totem_judge_traffic.specs.declared.traffic.Sent.{Sent}
 use Rattle.totem_judge_traffic.specs.declared.traffic.Got.{Got}
 use Rattle.totem_judge_traffic.specs.declared.traffic.Following.{Following}
-use Rattle.totem_judge_traffic.specs.LogSets.{AreApart, AreIn, Has, IsEmpty, IsWithin}
+use Rattle.totem_judge_traffic.specs.LogSets.{AreApart, AreIn, AreNoted, Has, IsEmpty, IsWithin}
 use Rattle.totem_judge_traffic.specs.Lacking.{RowHas, RowIsApart, RowsAreApart, KeepsRows, AddsToRows}
 use Rattle.totem_judge_traffic.specs.Clean.{IsBy, IsLacking, LacksTo, IsBehindWith, HasAllBehind, LacksBehindTo, NoGapsTo, IsCausal, AreCausalTo}
 
@@ -59,6 +59,30 @@ adds_no_row by lacking n rows never adds = record {
 -- what holds for the rows before the end of the set holds for all
 pub adds_all : (by lacking : LogSet) (n : ℕ) (rows : Rows) → ((log : ℕ) → Has by log → log < n) → AddsToRows by lacking n rows → AddsToRows by lacking 32 rows
 adds_all by lacking n rows above adds = record { each = λ log other lt a b. adds.each log other (above log a) a b }
+
+-- only the rows count
+pub keeps_again : (old mid new : Rows) → KeepsRows old mid → new.rows ≡ mid.rows → KeepsRows old new
+keeps_again old mid new keeps same = record { each = λ log other has. let there = keeps.each log other has in record { row = there.row; stands = rw (← same) at there.stands; has = there.has } }
+
+pub adds_again : (by lacking : LogSet) (end : ℕ) (mid new : Rows) → AddsToRows by lacking end mid → new.rows ≡ mid.rows → AddsToRows by lacking end new
+adds_again by lacking end mid new adds same = record { each = λ log other lt a b. let there = adds.each log other lt a b in record { row = there.row; stands = rw (← same) at there.stands; has = there.has } }
+
+pub noted_none : (sets : List LogSet) (by others : LogSet) → IsEmpty by → AreNoted sets by others
+noted_none sets by others empty = record { each = λ log other set lt at a b. absurd (empty.none log a) }
+
+pub noted_all : (by lacking : LogSet) (rows : Rows) → AddsToRows by lacking 32 rows → AreNoted rows.rows by lacking
+unfolding Has
+noted_all by lacking rows adds = record {
+  each = λ log other set lt at a b. let there = adds.each log other lt a b in rw (one_at rows.rows log there.row set there.stands at) at there.has;
+}
+
+pub adds_noted : (rows : Rows) (by lacking last_by last_lacking : LogSet) → 32 ≤ length rows.rows → AreNoted rows.rows last_by last_lacking → IsWithin by last_by → IsWithin lacking last_lacking → AddsToRows by lacking 32 rows
+unfolding Has
+adds_noted rows by lacking last_by last_lacking size noted within_by within_lacking = record {
+  each = λ log other lt a b.
+      let at : slice_get rows.rows log ≡ Some (get_or rows.rows log by) = slice_get-get_or rows.rows log by (omega (arith, lt, size)) in
+      record { row = get_or rows.rows log by; stands = at; has = noted.each log other (get_or rows.rows log by) lt at (within_by.each log a) (within_lacking.each other b) };
+}
 
 pub ruleset rows_added = (keeps_all, keeps_on, adds_none, adds_row, adds_no_row)
 
@@ -198,13 +222,18 @@ in_copies n set other empty = record {
   each = λ i log s at has. absurd (let within : i < n = rw (length-replicate n set) at (slice_get_within (replicate n set) i s at) in let same : set ≡ s = sym (get_or-replicate n i set set within) ∙ get_or_from_slice_get (replicate n set) i s set at in empty.none log (rw (← same) at has));
 }
 
+set_other_at : (rows : List LogSet) (i : ℕ) (new d : LogSet) (j : ℕ) (set : LogSet) → (j ≡ i → ⊥) → slice_get (slice_set rows i new) j ≡ Some set → slice_get rows j ≡ Some set
+set_other_at rows i new d j set apart at =
+    let within : j < length rows = rw (length-set rows i new) at (slice_get_within (slice_set rows i new) j set at) in
+    slice_get-get_or rows j d within ∙ ap Some (sym (get_or-set_other rows i j new d apart) ∙ get_or_from_slice_get (slice_set rows i new) j set d at)
+
 pub in_more : (rows : List LogSet) (i : ℕ) (new d added other more : LogSet) → i < length rows → ((log : ℕ) → Has new log ↔ (Has (slice_index_or rows i d) log ⊎ Has added log)) → ((log : ℕ) → Has more log ↔ (Has other log ⊎ Has added log))
     → AreIn rows other → AreIn (slice_set rows i new) more
 unfolding Has
 in_more rows i new d added other more lt new_is more_is all = record {
   each = λ j log set at has. elim (less_or_not j i) [
-    | inl under ↦ (more_is log).1 (inl (all.each j log set (other_at j set (λ same. omega arith) at) has))
-    | inr (inl over) ↦ (more_is log).1 (inl (all.each j log set (other_at j set (λ same. omega arith) at) has))
+    | inl under ↦ (more_is log).1 (inl (all.each j log set (set_other_at rows i new d j set (λ same. omega arith) at) has))
+    | inr (inl over) ↦ (more_is log).1 (inl (all.each j log set (set_other_at rows i new d j set (λ same. omega arith) at) has))
     | inr (inr same) ↦
         let here : new ≡ set = sym (get_or-set_at rows i j new d same lt) ∙ get_or_from_slice_get (slice_set rows i new) j set d at in
         elim ((new_is log).0 (rw (← here) at has)) [
@@ -213,11 +242,19 @@ in_more rows i new d added other more lt new_is more_is all = record {
         ]
   ];
 }
-  where
-    other_at : (j : ℕ) (set : LogSet) → (j ≡ i → ⊥) → slice_get (slice_set rows i new) j ≡ Some set → slice_get rows j ≡ Some set
-    other_at j set apart at =
-        let within : j < length rows = rw (length-set rows i new) at (slice_get_within (slice_set rows i new) j set at) in
-        slice_get-get_or rows j d within ∙ ap Some (sym (get_or-set_other rows i j new d apart) ∙ get_or_from_slice_get (slice_set rows i new) j set d at)
+
+pub noted_more : (rows : List LogSet) (i : ℕ) (new d added by others : LogSet) → i < length rows → ((log : ℕ) → Has new log ↔ (Has (slice_index_or rows i d) log ⊎ Has added log))
+    → i < 32 → AreNoted rows by others → AreNoted (slice_set rows i new) by others
+unfolding Has
+noted_more rows i new d added by others lt new_is few noted = record {
+  each = λ log other set within at a b. elim (less_or_not log i) [
+    | inl under ↦ noted.each log other set within (set_other_at rows i new d log set (λ same. omega arith) at) a b
+    | inr (inl over) ↦ noted.each log other set within (set_other_at rows i new d log set (λ same. omega arith) at) a b
+    | inr (inr same) ↦
+        let here : new ≡ set = sym (get_or-set_at rows i log new d same lt) ∙ get_or_from_slice_get (slice_set rows i new) log set d at in
+        rw here at ((new_is other).1 (inl (noted.each i other (slice_index_or rows i d) few (slice_get-get_or rows i d lt) (rw same at a) b)))
+  ];
+}
 
 pub apart_all : (rows : Rows) (by others : LogSet) (end : ℕ) → AreIn rows.rows rows.lacking → AreApart others rows.lacking → RowsAreApart rows by others end
 unfolding Has

@@ -18,6 +18,10 @@ pub record IsWithin (set other : LogSet) : Type 0 where
 pub record AreIn (sets : List LogSet) (other : LogSet) : Type 0 where
   pub each : (i log : ℕ) (set : LogSet) → slice_get sets i ≡ Some set → bit_at set.bits log ≡ 1 → bit_at other.bits log ≡ 1
 
+-- the sets of these logs have each of the others
+pub record AreNoted (sets : List LogSet) (logs others : LogSet) : Type 0 where
+  pub each : (log other : ℕ) (set : LogSet) → log < 32 → slice_get sets log ≡ Some set → Has logs log → Has others other → bit_at set.bits other ≡ 1
+
 -- the sets have no log in common
 pub record AreApart (set other : LogSet) : Type 0 where
   pub none : (log : ℕ) → Has set log → Has other log → ⊥

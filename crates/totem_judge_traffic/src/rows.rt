@@ -1,7 +1,7 @@
 //! Which logs lack something that others have.
 ghost use Rattle.std.specs.Prelude.{◌≡◌, ◌<◌, ℕ};
-ghost use Rattle.std.specs.Bool.{OnFalse};
-ghost use Rattle.totem_judge_traffic.specs.LogSets.{AreIn};
+ghost use Rattle.std.specs.Bool.{OnFalse, OnTrue};
+ghost use Rattle.totem_judge_traffic.specs.LogSets.{AreIn, AreNoted};
 
 use crate::log_set::LogSet;
 
@@ -11,7 +11,11 @@ pub struct Rows {
     rows: [LogSet; 32],
     /// All that are in a row.
     lacking: LogSet,
+    /// What was added last, as it mostly comes again: the rows of these logs have these others.
+    last_by: LogSet,
+    last_lacking: LogSet,
     ghost all: { AreIn rows lacking },
+    ghost last: { AreNoted rows last_by last_lacking },
 }
 
 impl Rows {
@@ -23,6 +27,8 @@ impl Rows {
         Rows {
             rows: [LogSet::none(); 32],
             lacking: LogSet::none(),
+            last_by: LogSet::none(),
+            last_lacking: LogSet::none(),
         }
     }
 
@@ -37,20 +43,56 @@ impl Rows {
         self.rows[at] = self.rows[at].union(lacking);
     }
 
-    /// Notes that the logs in `by` have something that those in `lacking` lack.
+    /// Adds logs to the rows of these logs.
     #[tactic(auto, using(crate::proofs::Rowing::rows_added))]
-    pub fn add(&mut self, by: LogSet, lacking: LogSet)
+    fn add_to_rows(&mut self, by: LogSet, lacking: LogSet)
         ensures kept { KeepsRows self.old self.new }
         ensures added { AddsToRows by lacking 32 self.new }
     {
-        if lacking.is_empty() {
-            return;
-        }
         for log in 0..by.end() {
             if by.contains(log) {
                 self.add_to_row(log, lacking);
             }
         }
+    }
+
+    /// Remembers what was added last.
+    #[tactic(auto, using(crate::proofs::Rowing::keeps_all))]
+    fn remember(&mut self, by: LogSet, lacking: LogSet)
+        requires { AddsToRows by lacking 32 self.old }
+        ensures { self.new.rows ≡ self.old.rows }
+    {
+        self.last_by = by;
+        self.last_lacking = lacking;
+    }
+
+    /// Returns whether this was added last, or there is nothing to add.
+    fn has_added(&self, by: LogSet, lacking: LogSet) -> bool
+        ensures { OnTrue result (AddsToRows by lacking 32 self.now) }
+    {
+        if lacking.is_empty() {
+            return true;
+        }
+        if !by.is_within(self.last_by) {
+            return false;
+        }
+        if !lacking.is_within(self.last_lacking) {
+            return false;
+        }
+        true
+    }
+
+    /// Notes that the logs in `by` have something that those in `lacking` lack.
+    #[tactic(auto, using(crate::proofs::Rowing::rows_added, crate::proofs::Rowing::keeps_again, crate::proofs::Rowing::adds_again))]
+    pub fn add(&mut self, by: LogSet, lacking: LogSet)
+        ensures kept { KeepsRows self.old self.new }
+        ensures added { AddsToRows by lacking 32 self.new }
+    {
+        if self.has_added(by, lacking) {
+            return;
+        }
+        self.add_to_rows(by, lacking);
+        self.remember(by, lacking);
     }
 
     /// Returns whether one of the others may lack something that this log has. If it returns `false`, none does.
