@@ -92,7 +92,7 @@ fn weave_option<'a>(alloc: Global) -> Arg<'a> {
         .long("weave")
         .action(ArgAction::SetTrue)
         .help(
-            "Instead of the run, write whether there is a schedule: one order of all steps that the nodes took on their first ring. docs/PROTOCOL.md, The woven ring, describes what is written",
+            "Instead of the run, write whether all steps that the nodes took on their first ring fit one order, with each packet received after it was sent. docs/PROTOCOL.md, The woven ring, describes what is written",
         )
 }
 

@@ -34,9 +34,9 @@ pub enum Words {
 
 const ENDINGS: &str = "\
 Exit status:
-  0   audit, check, explain: the verdict is yes. sim, explain --script, run: the run was written. run --weave: there is a schedule
-  1   audit, check, explain: the verdict is no. run --weave: there is no schedule
-  2   the text of the run, script or certificate was refused. run: a node's log, or the record of its inputs and answers, is full; use fewer ticks
+  0   audit, check, explain: the verdict is yes. sim, explain --script, run: the run was written. run --weave: an order was found
+  1   audit, check, explain: the verdict is no. run --weave: there is no order
+  2   the run, script or certificate was refused. run: a node's log, or the record of its inputs and answers, is full; use fewer ticks
   3   out of memory. run: or a thread could not be started
   4   standard input could not be read, or standard output could not be written
   64  usage error";
