@@ -398,7 +398,7 @@ fn messages_from(logs: &[Log], walk: &Walk<'_>, log: usize) -> usize {
     let length = stay_length(entries);
     let last = number_at(line, passed.saturating_add(length).saturating_sub(1));
     let events = last.saturating_sub(walk.last) as usize;
-    (events / 2).saturating_add(1).min(length)
+    (events / 2).min(length)
 }
 
 /// Returns the number of entries of all logs.

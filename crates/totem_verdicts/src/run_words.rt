@@ -92,7 +92,7 @@ fn weave_option<'a>(alloc: Global) -> Arg<'a> {
         .long("weave")
         .action(ArgAction::SetTrue)
         .help(
-            "Instead of the run, write whether all steps that the nodes took on their first ring fit one order, with each packet received after it was sent. docs/PROTOCOL.md, The woven ring, describes what is written",
+            "Do not write the run, but whether there is one order of all steps of the nodes on their first ring in which each packet is sent before it is received. docs/PROTOCOL.md, The woven ring, describes what is written",
         )
 }
 
