@@ -92,7 +92,7 @@ fn weave_option<'a>(alloc: Global) -> Arg<'a> {
         .long("weave")
         .action(ArgAction::SetTrue)
         .help(
-            "Do not write the run, but whether there is one order of all steps of the nodes on their first ring in which each packet is sent before it is received. docs/PROTOCOL.md, The woven ring, describes what is written",
+            "Instead of the run, write whether all steps of the nodes on their first ring fit into one order such that each packet is sent before it is received. docs/PROTOCOL.md, The woven ring, describes what is written",
         )
 }
 
