@@ -36,8 +36,8 @@ const ENDINGS: &str = "\
 Exit status:
   0   audit, check, explain: the verdict is yes. sim, explain --script, run: the run was written. run --weave: an order was found
   1   audit, check, explain: the verdict is no. run --weave: there is no order
-  2   the run, script or certificate was refused. The command run also gives 2 if a node's log, or the record of its inputs and answers, is full; use fewer ticks
-  3   out of memory. The command run also gives 3 if a thread could not be started
+  2   the run, script or certificate was refused. `totem run` also ends with 2 if a node's log, or the record of its inputs and answers, is full; use fewer ticks
+  3   out of memory. `totem run` also ends with 3 if a thread could not be started
   4   standard input could not be read, or standard output could not be written
   64  usage error";
 
