@@ -1,5 +1,5 @@
 //! Writes the text of a certificate.
-ghost use Rattle.std.specs.Prelude.{◌≡◌, ◌+◌, ◌≤◌, [], ◌∷◌, ◌++◌, length, drop, decimal};
+ghost use Rattle.std.specs.Prelude.{◌≤◌, [], length};
 ghost use Rattle.std.specs.List.{flat_map};
 ghost use Rattle.totem_ids.specs.Processes.{process_text};
 ghost use Rattle.totem_ids.specs.Writing.{Writes, held};
@@ -9,28 +9,15 @@ ghost use Rattle.totem_certificate.specs.CertText.{numbers_text, line_text, cert
 use crate::certificate::Certificate;
 use crate::form::CertText;
 use crate::line::Line;
-use itoa::write_digits;
 use std::alloc::Global;
 use totem_evs::{WriteFault, put_header};
-use totem_ids::{Failed, Pieces, Sink, Version};
+use totem_ids::{Failed, Pieces, Sink, Version, write_number};
 
 /// How many numbers are put at once.
 const FEW: usize = 64;
 
 /// How many bytes a number takes at most, with the space before it.
 const WIDTH: usize = 11;
-
-/// Writes a space and a number, so that they end before this index of the text, and returns the index at which they start.
-fn write_number(text: &mut [u8], end: usize, number: u32) -> usize
-    requires { (11 ≤ end) × (end ≤ length text.old) }
-    ensures within { (result ≤ end) × (end ≤ result + 11) }
-    ensures length { length text.new ≡ length text.old }
-    ensures written { drop result text.new ≡ 32 ∷ (decimal number ++ drop end text.old) }
-{
-    let start = write_digits(u64::from(number), text, end) - 1;
-    text[start] = b' ';
-    start
-}
 
 /// Puts at most 64 numbers at once. The last one is written first, since the digits of a number too come from the last to the first.
 fn put_few<S: Sink>(pieces: &mut Pieces, sink: &mut S, numbers: &[u32]) -> Result<(), Failed>
@@ -43,7 +30,7 @@ fn put_few<S: Sink>(pieces: &mut Pieces, sink: &mut S, numbers: &[u32]) -> Resul
     let mut left = numbers.len();
     while left > 0 {
         left -= 1;
-        start = write_number(&mut text, start, numbers[left]);
+        start = write_number(&mut text, start, b' ', numbers[left]);
     }
     pieces.put(sink, &text[start..])
 }

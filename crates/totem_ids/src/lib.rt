@@ -10,12 +10,13 @@
 //!   spelling (`Writes`, specs/Writing). By the laws `ring_spelling`, `life_spelling` and the like, each grammar reads what is
 //!   spelled, and nothing else (`Spells`).
 //! - `bounded` and `rising` accept a list exactly if it keeps its rule (`IsListOf`), and otherwise give it back with the first rule
-//!   that it breaks (`Refuses`, specs/Lists). All lists of packets, runs and certificates are made with them, except the numbers of
-//!   a certificate.
+//!   that it breaks (`Refuses`, specs/Lists); `rising_fault` returns that rule alone. All lists of packets, runs and certificates are
+//!   made with these, except the numbers of a certificate.
 //! - Contracts see the bytes that a `Source` has left and those that a `Sink` holds, where these are known, and count each failure:
 //!   `FromRead`, `Buffered` and `ToWrite` over streams of the standard library, and `Fused`, which fails on purpose.
 #![tactic(auto)]
 
+mod backward;
 mod buffered;
 mod conf;
 mod display;
@@ -43,6 +44,7 @@ mod text_place;
 mod version;
 mod writing;
 
+pub use backward::{write_message, write_number, write_process};
 pub use buffered::Buffered;
 pub use conf::ConfId;
 pub use fault::{ReadError, TextFault};

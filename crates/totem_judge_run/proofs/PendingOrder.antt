@@ -1,14 +1,15 @@
 -- The order of what is pending.
-use Rattle.std.proofs.Common.{◌≡◌, ◌⊎◌, ◌<◌, ℕ, inl, inr, List, Bool, true, refl, sym, ap, ◌∙◌, arith}
+use Rattle.std.proofs.Common.{◌≡◌, ◌⊎◌, ◌<◌, ◌≤◌, ◌+◌, ◌-◌, ℕ, false, inl, inr, get_or, length, List, Bool, true, refl, sym, ap, ◌∙◌, arith}
 use Rattle.std.specs.declared.cmp.Ordering.{Ordering}
 use Rattle.std.specs.declared.cmp.Ordering.TheVariants.{Less, Equal, Greater}
 use Rattle.std.specs.Cmp.{IsEquivalence, nat_cmp_is}
-use Rattle.std.specs.Ordering.{nat_cmp, is_eq, eq_by_cmp, ordering_then, MatchOrdering}
+use Rattle.std.specs.Ordering.{nat_cmp, is_eq, is_ge, eq_by_cmp, ordering_then, MatchOrdering}
 use Rattle.std.proofs.Common.{Result, Ok, Err, IfOk, Vec, Global, []}
 use Rattle.std.specs.declared.alloc.AllocError.{AllocError}
-use Rattle.std.specs.Prelude.{Contains}
+use Rattle.std.specs.Prelude.{Contains, AllPairs}
 use Rattle.std.specs.List.Retain.{IsFiltered, DiffersFromLast}
 use Rattle.std.specs.List.Sorted.{IsPermutation, IsSorted}
+use Rattle.std.proofs.lemmas.List.{get_or_default}
 use Rattle.std.proofs.lemmas.Map.Lookups.{CmpEqualImpliesEq}
 use Rattle.std.proofs.lemmas.Map.Keys.{Less-from_sorted}
 use Rattle.std.proofs.lemmas.List.Filters.{dedup_is}
@@ -76,6 +77,11 @@ pending_below a b e = elim (less_first (life.cmp-value.it a.proc b.proc) (messag
   | inr (same, lt) ↦ inr (exact_proc a.proc b.proc same, message_below a.msg b.msg lt)
 ]
 
+below_is : (o : Ordering) → is_ge o ≡ false → o ≡ Less
+below_is Less e = refl
+below_is Equal e = absurd cc
+below_is Greater e = absurd cc
+
 equal_is : (o : Ordering) → is_eq o ≡ true → o ≡ Equal
 equal_is Less e = absurd cc
 equal_is Equal e = refl
@@ -91,6 +97,36 @@ ordered_once E equivalent ties list sorted ordered moved rises filtered = rw (de
     λ has. Contains-dedup equivalent (λ y z e. exact_pending y z (equal_is (pending.cmp-value.it y z) (sym (ties y z) ∙ e))) sorted x (Contains-permutation list sorted x moved has),
   );
 })
+
+-- the first n elements are in ascending order
+pub record AscendTo (list : List Pending) (n : ℕ) : Type 0 where
+  pub each : (i j : ℕ) (d : Pending) → i < j → j < n → pending.cmp-value.it (get_or list i d) (get_or list j d) ≡ Less
+
+-- the element at n is above the one before it
+pub ascend_more : (list : List Pending) (n : ℕ) (a b : Pending) → 0 < n → a ≡ get_or list (n - 1) a → b ≡ get_or list n b → n < length list → is_ge (pending.cmp-value.it a b) ≡ false → AscendTo list n → AscendTo list (n + 1)
+ascend_more list n a b positive at_a at_b within above before = record {
+  each = λ i j d lt until. elim (less_or_not j n) [
+    | inl under ↦ before.each i j d lt under
+    | inr (inl over) ↦ absurd (omega arith)
+    | inr (inr same) ↦ rw same (last i d (omega arith))
+  ];
+}
+  where
+    less : pending.cmp-value.it a b ≡ Less
+    less = below_is (pending.cmp-value.it a b) above
+
+    step : (d : Pending) → pending.cmp-value.it (get_or list (n - 1) d) (get_or list n d) ≡ Less
+    step d = rw (get_or_default list (n - 1) d a (omega arith), get_or_default list n d b within, ← at_a, ← at_b) less
+
+    last : (i : ℕ) (d : Pending) → i < n → pending.cmp-value.it (get_or list i d) (get_or list n d) ≡ Less
+    last i d lt = elim (less_or_not i (n - 1)) [
+      | inl under ↦ total-law.trans (get_or list i d) (get_or list (n - 1) d) (get_or list n d) (before.each i (n - 1) d under (omega arith)) (step d)
+      | inr (inl over) ↦ absurd (omega arith)
+      | inr (inr same) ↦ rw same (step d)
+    ]
+
+pub ascending : (list : List Pending) (n : ℕ) → length list ≤ n → AscendTo list n → AllPairs PendingBelow list
+ascending list n whole all = λ i j d lt within. pending_below _ _ (all.each i j d lt (omega arith))
 
 pub are_pending : (run : List Log) (list ordered : List Pending) → HoldsPending run list → IsInOrder list ordered → ArePending run ordered
 are_pending run list ordered holds is = record {

@@ -1,7 +1,8 @@
 //! What is left open: which processes wait, and for which; and what is pending, in order (docs/SPECIFICATIONS.md, "Pending and waiting").
-ghost use Rattle.std.specs.Prelude.{◌≡◌, ◌↔◌, IsTrue, IfOk};
+ghost use Rattle.std.specs.Prelude.{◌≡◌, ◌↔◌, IsTrue, IfOk, AllPairs};
+ghost use Rattle.std.specs.Bool.{OnTrue};
 ghost use Rattle.totem_evs.specs.Events.{log_of};
-ghost use Rattle.totem_evs.specs.Unsettled.{EndsIn, AreWaiting};
+ghost use Rattle.totem_evs.specs.Unsettled.{EndsIn, AreWaiting, PendingBelow};
 ghost use Rattle.totem_judge_run.specs.Orderly.{IsOrderly};
 ghost use Rattle.totem_judge_run.specs.Endings.{IsEnd, AreEnds, AreWaitingAt, IsInOrder};
 
@@ -84,10 +85,25 @@ pub fn waiting(alloc: Global, run: &Run) -> Result<Vec<Waiting>, AllocError>
     Ok(list)
 }
 
+/// Returns `true` only where each element is below all after it.
+fn is_ascending(list: &[Pending]) -> bool
+    ensures { OnTrue result (AllPairs PendingBelow list.now) }
+{
+    for k in 1..list.len() {
+        if list[k - 1] >= list[k] {
+            return false;
+        }
+    }
+    true
+}
+
 /// Returns the elements of the list in ascending order, each once.
 pub fn in_order(mut list: Vec<Pending>) -> Result<Vec<Pending>, AllocError>
     ensures { IfOk result (λ ordered. IsInOrder list.items ordered.items) }
 {
+    if is_ascending(&list) {
+        return Ok(list);
+    }
     list.sort()?;
     list.dedup();
     Ok(list)

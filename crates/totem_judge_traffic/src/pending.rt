@@ -1,5 +1,5 @@
 //! What is pending in one regular configuration (docs/SPECIFICATIONS.md, "Pending and waiting").
-ghost use Rattle.std.specs.Prelude.{◌<◌, length, OnOk};
+ghost use Rattle.std.specs.Prelude.{◌≡◌, ◌<◌, [], ◌∷◌, ◌++◌, length, OnOk};
 ghost use Rattle.totem_judge_traffic.specs.Pending.{AddsMissing, AddsPending};
 
 use crate::traffic::{Sent, Traffic};
@@ -7,7 +7,19 @@ use std::alloc::AllocError;
 use totem_evs::Pending;
 use totem_ids::Proc;
 
-/// Appends the messages that this process's log, which is open in the configuration, does not deliver there.
+/// Appends what is pending. If there is no room for it, room for it and what may come after it is taken.
+fn push_one(out: &mut Vec<Pending>, pending: Pending, left: usize) -> Result<(), AllocError>
+    ensures { OnOk result (out.new.items ≡ out.old.items ++ pending ∷ []) }
+{
+    if out.len() == out.capacity() {
+        out.reserve(left)?;
+    }
+    out.push(pending)?;
+    Ok(())
+}
+
+/// Appends the messages that this process's log, which is open in the configuration, does not deliver there. A log that lacks one usually
+/// lacks all after it.
 fn push_missing(
     sent: &[Sent],
     log: u32,
@@ -17,10 +29,10 @@ fn push_missing(
     requires { log < 32 }
     ensures { OnOk result (AddsMissing sent.now (length sent.now) log proc out.old.items out.new.items) }
 {
-    for message in sent {
+    for (at, message) in sent.iter().enumerate() {
         if !message.by.contains(log) {
             let msg = message.message;
-            out.push(Pending { proc, msg })?;
+            push_one(out, Pending { proc, msg }, sent.len() - at)?;
         }
     }
     Ok(())

@@ -1,9 +1,9 @@
 -- The list found for 6.3 is the least that breaks it: an earlier message, a later one, and a process that delivers only
 -- the later one.
-use Rattle.std.proofs.Common.{◌≡◌, ℕ, ◌+◌, ◌<◌, ◌≤◌, ◌⊎◌, inl, inr, List, [], ◌∷◌, length, get_or, slice_get, Some, Bool, true, false, IsTrue, ◌↔◌, refl, sym, ◌∙◌, arith, below_more}
+use Rattle.std.proofs.Common.{◌≡◌, ℕ, ◌+◌, ◌<◌, ◌≤◌, inl, inr, List, [], ◌∷◌, length, slice_get, Some, Bool, true, false, not, IsTrue, ◌↔◌, refl, sym, ◌∙◌, arith, below_more}
 use Rattle.std.specs.Prelude.{Contains}
-use Rattle.std.specs.Bool.{OnFalse}
-use Rattle.std.proofs.lemmas.Option.{slice_get_within, slice_get-get_or}
+use Rattle.std.specs.Bool.{OnTrue, OnFalse}
+use Rattle.std.proofs.lemmas.Option.{slice_get_within}
 use Rattle.totem_ids.specs.declared.ring.RingId.{RingId}
 use Rattle.totem_ids.specs.declared.conf.ConfId.{ConfId}
 use Rattle.totem_ids.specs.declared.conf.ConfId.TheVariants.{Regular}
@@ -11,8 +11,8 @@ use Rattle.totem_ids.specs.declared.message.MsgId.{MsgId}
 use Rattle.totem_ids.specs.declared.place.Place.{Place}
 use Rattle.totem_evs.specs.declared.entry.Entry.TheVariants.{Deliver}
 use Rattle.totem_evs.specs.declared.log.Log.{Log}
-use Rattle.totem_evs.specs.Events.{log_of, Delivers, WasSentIn}
-use Rattle.totem_evs.specs.Following.{Com, DeliversIn, HasDelivered}
+use Rattle.totem_evs.specs.Events.{log_of, Sends, Delivers, WasSentIn, IsMember}
+use Rattle.totem_evs.specs.Following.{Com, DeliversIn}
 use Rattle.totem_evs.specs.RingAgreement.{NoGapsIn}
 use Rattle.totem_evs.specs.RingFaults.{BreaksGapIn}
 use Rattle.totem_evs.specs.AgreementFaults.{IsGap}
@@ -23,10 +23,12 @@ use Rattle.totem_judge_traffic.proofs.Rowing.{before_or_at}
 use Rattle.totem_table.specs.Search.{place, NoneFrom, IsLeastFrom, HoldsOfNone}
 use Rattle.totem_pass_d.specs.declared.stays.Stay.{Stay}
 use Rattle.totem_pass_d.specs.declared.stays.Sending.{Sending}
+use Rattle.totem_pass_d.specs.declared.gap_6_3.Last.{Last}
 use Rattle.totem_pass_d.specs.Acts.{IsAmong, DeliversNot, IsSendingOf, NobodySent}
 use Rattle.totem_pass_d.specs.Search.{IsInside, EachBeginsWithin, NoneWithin, IsLeastWithin, BeginsWithin, IsOneEvent}
-use Rattle.totem_pass_d.specs.Reached.{AreMembersAt}
-use Rattle.totem_pass_d.specs.Searched.{IsLack, IsLater, TellsMember, IsApart, IsBeyond, AreLasts, IsSettled}
+use Rattle.totem_pass_d.specs.Reached.{AreMembersAt, AreMembersAfter}
+use Rattle.totem_pass_d.specs.Suspects.{ComesNotBefore}
+use Rattle.totem_pass_d.specs.Searched.{IsLack, IsLater, TellsMember, IsApart, IsPassed, HasPassed, IsLast, AreLasts, IsAhead, KeepsUp, AllKeepUp}
 use Rattle.totem_pass_d.proofs.Deciding.{has_delivered_or_not}
 use Rattle.totem_pass_d.proofs.Reaching.{is_among_members, is_member, one_origin}
 use Rattle.totem_pass_d.proofs.Facts.{Facts, delivery_inside}
@@ -162,68 +164,115 @@ no_gaps run c none = record {
 
 -- ---- the last delivery of a process that another process makes too
 
-pub apart_undelivered : (run : List Log) (c : RingId) (follower : Stay) (p at : ℕ) (m : MsgId) (d : ConfId) (b : Bool) → slice_get (log_of run p) at ≡ Some (Deliver m d) → OnFalse b (DeliversNot (log_of run follower.proc) c m)
-    → OnFalse b (IsApart run c p follower.proc at)
-apart_undelivered run c follower p at m d true there not = tt
-apart_undelivered run c follower p at m d false there not = record {
-  never = λ n (x, is, belongs) h. (let same : n ≡ m = cc in not.never (rw same at h));
+-- the entry delivers m, which the follower does not deliver in c itself
+pub apart_late : (run : List Log) (c : RingId) (follower : Stay) (p at : ℕ) (m : MsgId) (d : ConfId) (b : Bool) → slice_get (log_of run p) at ≡ Some (Deliver m d) → OnFalse b (ComesNotBefore run c follower.proc m follower.turn)
+    → OnFalse b (IsApart run c p follower at)
+apart_late run c follower p at m d true there not = tt
+apart_late run c follower p at m d false there not = record {
+  never = λ n k (x, is, belongs) lt delivers. (let same : n ≡ m = cc in not k lt (rw same at delivers));
 }
 
--- from j on q delivers nothing that p delivers
-pub record ApartFrom (run : List Log) (c : RingId) (p q n : ℕ) : Type 0 where
-  pub each : (j : ℕ) → n ≤ j → IsApart run c p q j
+-- from j on the follower delivers in c itself nothing that p delivers
+pub record ApartFrom (run : List Log) (c : RingId) (p : ℕ) (follower : Stay) (n : ℕ) : Type 0 where
+  pub each : (j : ℕ) → n ≤ j → IsApart run c p follower j
 
-pub apart_at_end : (run : List Log) (c : RingId) (stays : List Stay) (leader : Stay) (q : ℕ) → Facts run c stays → IsAmong stays leader → ApartFrom run c leader.proc q leader.end
-apart_at_end run c stays leader q facts among = record {
-  each = λ j le. record { never = λ n delivers h. (let inside = delivery_inside run c stays leader n j facts among delivers in let until = inside.until in absurd (omega arith)) };
+pub apart_at_end : (run : List Log) (c : RingId) (stays : List Stay) (leader follower : Stay) → Facts run c stays → IsAmong stays leader → ApartFrom run c leader.proc follower leader.end
+apart_at_end run c stays leader follower facts among = record {
+  each = λ j le. record { never = λ n k delivers lt h. (let inside = delivery_inside run c stays leader n j facts among delivers in let until = inside.until in absurd (omega arith)) };
 }
 
-pub apart_more : (run : List Log) (c : RingId) (p q n k : ℕ) → n ≡ k + 1 → IsApart run c p q k → ApartFrom run c p q n → ApartFrom run c p q k
-apart_more run c p q n k is here after = record {
+pub apart_more : (run : List Log) (c : RingId) (p : ℕ) (follower : Stay) (n k : ℕ) → n ≡ k + 1 → IsApart run c p follower k → ApartFrom run c p follower n → ApartFrom run c p follower k
+apart_more run c p follower n k is here after = record {
   each = λ j le. elim (before_or_at k j (omega arith)) [
     | inl under ↦ after.each j (omega arith)
     | inr same ↦ rw (← same) here
   ];
 }
 
-pub beyond_later : (run : List Log) (c : RingId) (p q i j : ℕ) → i ≤ j → IsBeyond run c p q i → IsBeyond run c p q j
-beyond_later run c p q i j le beyond = record { each = λ k lt. beyond.each k (omega arith) }
+-- ---- what follows c
 
--- the last common delivery with each stay
-abbrev pub IsLast : List Log → RingId → ℕ → Stay → ℕ → Type 0
-IsLast run c p stay last = IsBeyond run c p stay.proc last
-
-pub lasts_whole : (run : List Log) (c : RingId) (stays : List Stay) (p : ℕ) (lasts : List ℕ) (n : ℕ) → length stays ≡ n → Along (IsLast run c p) stays lasts n → AreLasts run c stays p lasts
-lasts_whole run c stays p lasts n end along = record {
-  long = end ∙ sym along.long;
-  each = λ k stay at. along.each k stay (get_or lasts k 0) at (slice_get-get_or lasts k 0 (omega (arith, end, along.long, slice_get_within stays k stay at)));
+-- p delivers at `there` what the follower delivers at k
+pub passed_there : (run : List Log) (c : RingId) (stays : List Stay) (follower : Stay) (p k there i : ℕ) (m : MsgId) (d : ConfId) → Facts run c stays → slice_get (log_of run follower.proc) k ≡ Some (Deliver m d) → DeliversIn (log_of run p) c m there → there ≤ i
+    → IsPassed run c p follower k i
+passed_there run c stays follower p k there i m d facts at here le = record {
+  never = λ n j lt delivers (x, is, belongs). (
+      let same : n ≡ m = cc in
+      let one = one_delivery_in run c stays p j there m facts (rw same at delivers) here in
+      absurd (omega arith)
+      );
 }
 
--- the first n stays are settled
-pub record SettledTo (run : List Log) (c : RingId) (stays : List Stay) (p : ℕ) (m : MsgId) (i n : ℕ) : Type 0 where
-  pub each : (k : ℕ) → k < n → (stay : Stay) → slice_get stays k ≡ Some stay → IsBeyond run c p stay.proc i ⊎ HasDelivered (log_of run stay.proc) c m
+pub passed_undelivered : (run : List Log) (c : RingId) (follower : Stay) (p k i : ℕ) (m : MsgId) (d : ConfId) → slice_get (log_of run follower.proc) k ≡ Some (Deliver m d) → DeliversNot (log_of run p) c m → IsPassed run c p follower k i
+passed_undelivered run c follower p k i m d at not = record {
+  never = λ n j lt delivers (x, is, belongs). (let same : n ≡ m = cc in not.never (j, rw same at delivers));
+}
 
-pub settled_more : (run : List Log) (c : RingId) (stays : List Stay) (p : ℕ) (m : MsgId) (i n : ℕ) (lasts : List ℕ) (stay : Stay) → AreLasts run c stays p lasts → slice_get stays n ≡ Some stay → (get_or lasts n 0 ≤ i) ⊎ HasDelivered (log_of run stay.proc) c m
-    → SettledTo run c stays p m i n → SettledTo run c stays p m i (n + 1)
-settled_more run c stays p m i n lasts stay known at up before = record {
+pub passed_before : (run : List Log) (c : RingId) (p : ℕ) (follower : Stay) (i : ℕ) → HasPassed run c p follower follower.turn i
+passed_before run c p follower i = record { each = λ k le lt. absurd (omega arith) }
+
+pub passed_more : (run : List Log) (c : RingId) (p : ℕ) (follower : Stay) (n i j : ℕ) → i ≤ j → IsPassed run c p follower n j → HasPassed run c p follower n i → HasPassed run c p follower (n + 1) j
+passed_more run c p follower n i j le here before = record {
+  each = λ k from lt. elim (before_or_at k n lt) [
+    | inl under ↦ (let old = before.each k from under in record { never = λ m l later there here. old.never m l (omega arith) there here })
+    | inr same ↦ rw same here
+  ];
+}
+
+-- ---- all followers
+
+pub lasts_whole : (run : List Log) (c : RingId) (stays : List Stay) (p : ℕ) (lasts : List Last) (n : ℕ) → length stays ≡ n → Along (IsLast run c p) stays lasts n → AreLasts run c stays p lasts
+lasts_whole run c stays p lasts n end along = record { long = end ∙ sym along.long; each = along.each }
+
+-- p delivers nothing after i that the follower delivers
+pub keeps_up_beyond : (run : List Log) (c : RingId) (p : ℕ) (m : MsgId) (i : ℕ) (follower : Stay) (last : Last) (stays : List Stay) → Facts run c stays → IsAmong stays follower → IsLast run c p follower last → last.regular ≤ i
+    → ((n : MsgId) (d x : ConfId) (k s l : ℕ) → follower.turn ≤ k → IsInside follower k → Delivers (log_of run follower.proc) k n d → Sends (log_of run s) l m x → IsMember run d s → last.following ≤ i)
+    → KeepsUp run c p m i follower
+keeps_up_beyond run c p m i follower last stays facts among is regular following = inr (λ j lt (n, d, x, k, s, l, there, at, belongs, send, member).
+    let inside = delivery_inside run c stays follower n k facts among (d, at, belongs) in
+    elim (less_or_not k follower.turn) [
+      | inl early ↦ (is.regular.each j (omega arith)).never n k there early (d, at, belongs)
+      | inr rest ↦ (
+          let le : follower.turn ≤ k = (elim rest [ inl gt ↦ omega arith | inr same ↦ omega arith ]) in
+          (is.following.each k le inside.until).never n j (let few = following n d x k s l le inside at send member in omega arith) there (d, at, belongs)
+          )
+    ])
+
+-- the sender is not a member of what follows
+pub keeps_up_outside : (run : List Log) (c : RingId) (p : ℕ) (m : MsgId) (i : ℕ) (follower : Stay) (last : Last) (stays : List Stay) (sending : Sending) (members : List ℕ) (b : Bool) → Facts run c stays → IsAmong stays follower → IsLast run c p follower last → last.regular ≤ i
+    → IsSendingOf run c m sending → AreMembersAfter (log_of run follower.proc) follower.turn follower.end members → IsTrue b ↔ Contains members sending.proc → OnTrue (not b) (KeepsUp run c p m i follower)
+keeps_up_outside run c p m i follower last stays sending members true facts among is regular of are decides = tt
+keeps_up_outside run c p m i follower last stays sending members false facts among is regular of are decides =
+    keeps_up_beyond run c p m i follower last stays facts among is regular (λ n d x k s l le inside at send member.
+    let one = facts.meets.once.one_send s l sending.proc sending.at m x (Regular c) send (sending.service, of.sends) in
+    let has = is_among_members run follower.proc k members d sending.proc facts.meets (are.each k le inside.until) (Deliver n d, at, refl) (rw one.0 at member) in
+    let t : false ≡ true = decides.1 has in cc)
+
+-- the first n followers keep up
+pub record KeepUpTo (run : List Log) (c : RingId) (stays : List Stay) (p : ℕ) (m : MsgId) (i n : ℕ) : Type 0 where
+  pub each : (k : ℕ) → k < n → (stay : Stay) → slice_get stays k ≡ Some stay → KeepsUp run c p m i stay
+
+pub keep_up_more : (run : List Log) (c : RingId) (stays : List Stay) (p : ℕ) (m : MsgId) (i n : ℕ) (stay : Stay) → slice_get stays n ≡ Some stay → KeepsUp run c p m i stay → KeepUpTo run c stays p m i n → KeepUpTo run c stays p m i (n + 1)
+keep_up_more run c stays p m i n stay at here before = record {
   each = below_more _ _ before.each (λ s at_n. (let one : s ≡ stay = cc in rw one here));
 }
-  where
-    here : IsBeyond run c p stay.proc i ⊎ HasDelivered (log_of run stay.proc) c m
-    here = elim up [ inl le ↦ inl (beyond_later run c p stay.proc (get_or lasts n 0) i le (known.each n stay at)) | inr has ↦ inr has ]
 
-pub settled_whole : (run : List Log) (c : RingId) (stays : List Stay) (p : ℕ) (m : MsgId) (i n : ℕ) → length stays ≤ n → SettledTo run c stays p m i n → IsSettled run c stays p m i
-settled_whole run c stays p m i n end to = record { each = λ stay among. to.each among.at (omega (arith, slice_get_within stays among.at stay among.stands)) stay among.stands }
+pub keep_up_whole : (run : List Log) (c : RingId) (stays : List Stay) (p : ℕ) (m : MsgId) (i n : ℕ) → length stays ≤ n → KeepUpTo run c stays p m i n → AllKeepUp run c stays p m i
+keep_up_whole run c stays p m i n end to = record { each = λ stay among. to.each among.at (omega (arith, slice_get_within stays among.at stay among.stands)) stay among.stands }
 
--- no gap starts at a message that is settled
-pub none_settled : (run : List Log) (c : RingId) (stays : List Stay) (m : MsgId) (d : ConfId) (p i : ℕ) → Facts run c stays → slice_get (log_of run p) i ≡ Some (Deliver m d) → IsSettled run c stays p m i → NoneFrom (BreaksGapIn run c) p i
-none_settled run c stays m d p i facts at settled = record { none = λ rest h. let g = gap_at run c p i rest h in go g.0 g.1 g.2 g.4 }
+-- another log delivers the later message where the sender is a member
+ahead_of : (run : List Log) (c : RingId) (p : ℕ) (m n : MsgId) (d x : ConfId) (stay : Stay) (q j k s l : ℕ) → stay.proc ≡ q → DeliversIn (log_of run p) c n j → Delivers (log_of run q) k n d → Com (log_of run q) c d → Sends (log_of run s) l m x → IsMember run d s
+    → IsAhead run c p m stay j
+ahead_of run c p m n d x stay q j k s l same later at belongs send member = (n, d, x, k, s, l, later, rw (← same) at at, rw (← same) at belongs, send, member)
+
+-- no gap starts at a message with which all keep up
+pub none_behind : (run : List Log) (c : RingId) (stays : List Stay) (m : MsgId) (d : ConfId) (p i : ℕ) → Facts run c stays → slice_get (log_of run p) i ≡ Some (Deliver m d) → AllKeepUp run c stays p m i → NoneFrom (BreaksGapIn run c) p i
+none_behind run c stays m d p i facts at all = record { none = λ rest h. let g = gap_at run c p i rest h in go g.0 g.1 g.2 g.4 }
   where
     go : (j q k : ℕ) → IsGap run c p i j q k → ⊥
     go j q k (o, n, x, y, s, l, (z, at', b'), later, lt, at_k, belongs, send, member, lacks) =
         let same : o ≡ m = cc in
         let t = facts.inside q k x (Deliver n x, at_k, refl) belongs in
-        elim (settled.each t.stay t.among) [
-          | inl beyond ↦ (let there : HasDelivered (log_of run q) c n = (k, (x, at_k, belongs)) in (beyond.each j lt).never n later (rw (← t.proc) at there))
-          | inr has ↦ lacks (rw (same, ← t.proc) has)
+        elim (all.each t.stay t.among) [
+          | inl has ↦ lacks (rw (same, ← t.proc) has)
+          | inr never ↦ never j lt (ahead_of run c p m n x y t.stay q j k s l t.proc later at_k belongs (rw same at send) member)
         ]

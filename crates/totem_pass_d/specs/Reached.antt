@@ -1,5 +1,5 @@
 -- The processes that a safe message has to reach (docs/SPECIFICATIONS.md, "7 Safe delivery").
-use Rattle.std.specs.Prelude.{◌≡◌, ℕ, List, slice_get, Some, Contains}
+use Rattle.std.specs.Prelude.{◌≡◌, ℕ, List, ◌<◌, ◌≤◌, slice_get, Some, Contains}
 use Rattle.totem_ids.specs.declared.ring.RingId.{RingId}
 use Rattle.totem_ids.specs.declared.conf.ConfId.{ConfId}
 use Rattle.totem_ids.specs.declared.conf.ConfId.TheVariants.{Regular}
@@ -23,6 +23,10 @@ pub record AreMembersAt (log : List Entry) (i : ℕ) (members : List ℕ) : Type
   pub conf : ConfId
   pub with : ChangesWith log change conf members
   pub named : (d : ConfId) → Names log i d → d ≡ conf
+
+-- these are the members of the configuration that each entry from turn to end names
+pub record AreMembersAfter (log : List Entry) (turn end : ℕ) (members : List ℕ) : Type 0 where
+  pub each : (i : ℕ) → turn ≤ i → i < end → AreMembersAt log i members
 
 -- P does not hold for one of the members
 pub record HoldsNotOfAll (P : ℕ → Type 0) (members : List ℕ) : Type 0 where

@@ -1,16 +1,17 @@
 -- 4, 5 and 6.3, in the form in which they are searched (docs/SPECIFICATIONS.md, "4 Failure atomicity", "5 Causal delivery",
 -- "6 Total order", "Passes").
-use Rattle.std.specs.Prelude.{◌≡◌, ℕ, List, ◌<◌, [], ◌∷◌, ◌↔◌, ◌⊎◌, Bool, IsTrue, length, slice_get, slice_index_or, Some}
+use Rattle.std.specs.Prelude.{◌≡◌, ℕ, List, ◌<◌, ◌≤◌, [], ◌∷◌, ◌↔◌, ◌⊎◌, Bool, IsTrue, length, slice_get, Some}
 use Rattle.totem_ids.specs.declared.ring.RingId.{RingId}
 use Rattle.totem_ids.specs.declared.conf.ConfId.{ConfId}
 use Rattle.totem_ids.specs.declared.conf.ConfId.TheVariants.{Regular, Transitional}
 use Rattle.totem_ids.specs.declared.message.MsgId.{MsgId}
 use Rattle.totem_evs.specs.declared.entry.Entry.{Entry}
 use Rattle.totem_evs.specs.declared.log.Log.{Log}
-use Rattle.totem_evs.specs.Events.{IsChange, Delivers, log_of, IsMember}
+use Rattle.totem_evs.specs.Events.{IsChange, Sends, Delivers, log_of, IsMember}
 use Rattle.totem_evs.specs.Following.{Com, DeliversIn, HasDelivered}
 use Rattle.totem_evs.specs.AgreementFaults.{GoesAt}
 use Rattle.totem_pass_d.specs.declared.stays.Stay.{Stay}
+use Rattle.totem_pass_d.specs.declared.gap_6_3.Last.{Last}
 use Rattle.totem_ids.specs.declared.place.Place.{Place}
 use Rattle.totem_evs.specs.Steps.{SendsAt}
 use Rattle.totem_evs.specs.RingAgreement.{IsHop}
@@ -69,19 +70,41 @@ IsLater run c sender earlier i (f ∷ rest) = At f (λ p j. (i < j) × ((later :
 pub record TellsMember (run : List Log) (log : List Entry) (i q : ℕ) (test : Bool) : Type 0 where
   pub each : (x : ConfId) → Names log i x → IsTrue test ↔ IsMember run x q
 
--- q does not deliver what p delivers at j, if p delivers something there
-pub record IsApart (run : List Log) (c : RingId) (p q j : ℕ) : Type 0 where
-  pub never : (n : MsgId) → DeliversIn (log_of run p) c n j → HasDelivered (log_of run q) c n → ⊥
+-- if p delivers something at j, the process of the stay does not deliver it in c itself
+pub record IsApart (run : List Log) (c : RingId) (p : ℕ) (stay : Stay) (j : ℕ) : Type 0 where
+  pub never : (n : MsgId) (k : ℕ) → DeliversIn (log_of run p) c n j → k < stay.turn → DeliversIn (log_of run stay.proc) c n k → ⊥
 
--- q does not deliver anything that p delivers after i
-pub record IsBeyond (run : List Log) (c : RingId) (p q i : ℕ) : Type 0 where
-  pub each : (j : ℕ) → i < j → IsApart run c p q j
+-- the process of the stay does not deliver in c itself anything that p delivers after i
+pub record IsBeyond (run : List Log) (c : RingId) (p : ℕ) (stay : Stay) (i : ℕ) : Type 0 where
+  pub each : (j : ℕ) → i < j → IsApart run c p stay j
 
--- for each stay an index after which its process delivers nothing that p delivers
-pub record AreLasts (run : List Log) (c : RingId) (stays : List Stay) (p : ℕ) (lasts : List ℕ) : Type 0 where
+-- p delivers nothing after i that the process of the stay delivers at k
+pub record IsPassed (run : List Log) (c : RingId) (p : ℕ) (stay : Stay) (k i : ℕ) : Type 0 where
+  pub never : (n : MsgId) (j : ℕ) → i < j → DeliversIn (log_of run p) c n j → DeliversIn (log_of run stay.proc) c n k → ⊥
+
+-- p delivers nothing after i that the process of the stay delivers in what follows c, before end
+pub record HasPassed (run : List Log) (c : RingId) (p : ℕ) (stay : Stay) (end i : ℕ) : Type 0 where
+  pub each : (k : ℕ) → stay.turn ≤ k → k < end → IsPassed run c p stay k i
+
+-- indices after which p delivers nothing that the process of the stay delivers, in c itself and in what follows it
+pub record IsLast (run : List Log) (c : RingId) (p : ℕ) (stay : Stay) (last : Last) : Type 0 where
+  pub regular : IsBeyond run c p stay last.regular
+  pub following : HasPassed run c p stay stay.end last.following
+
+-- such indices for each stay
+pub record AreLasts (run : List Log) (c : RingId) (stays : List Stay) (p : ℕ) (lasts : List Last) : Type 0 where
   pub long : length stays ≡ length lasts
-  pub each : (k : ℕ) (stay : Stay) → slice_get stays k ≡ Some stay → IsBeyond run c p stay.proc (slice_index_or lasts k 0)
+  pub each : (k : ℕ) (stay : Stay) (last : Last) → slice_get stays k ≡ Some stay → slice_get lasts k ≡ Some last → IsLast run c p stay last
 
--- the process of each stay delivers m, or delivers nothing that p delivers after i
-pub record IsSettled (run : List Log) (c : RingId) (stays : List Stay) (p : ℕ) (m : MsgId) (i : ℕ) : Type 0 where
-  pub each : (stay : Stay) → IsAmong stays stay → IsBeyond run c p stay.proc i ⊎ HasDelivered (log_of run stay.proc) c m
+-- the process of the stay delivers n at k where the sender of m is a member, and p delivers n at j
+abbrev pub IsAhead : List Log → RingId → ℕ → MsgId → Stay → ℕ → Type 0
+IsAhead run c p m stay j = (n : MsgId) × (d x : ConfId) × (k s l : ℕ) × DeliversIn (log_of run p) c n j
+    × Delivers (log_of run stay.proc) k n d × Com (log_of run stay.proc) c d × Sends (log_of run s) l m x × IsMember run d s
+
+-- the process of the stay delivers m, or delivers nothing that p delivers after i where the sender of m is a member
+abbrev pub KeepsUp : List Log → RingId → ℕ → MsgId → ℕ → Stay → Type 0
+KeepsUp run c p m i stay = HasDelivered (log_of run stay.proc) c m ⊎ ((j : ℕ) → i < j → IsAhead run c p m stay j → ⊥)
+
+-- so does the process of each stay
+pub record AllKeepUp (run : List Log) (c : RingId) (stays : List Stay) (p : ℕ) (m : MsgId) (i : ℕ) : Type 0 where
+  pub each : (stay : Stay) → IsAmong stays stay → KeepsUp run c p m i stay

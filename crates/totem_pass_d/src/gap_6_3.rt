@@ -1,6 +1,6 @@
 //! 6.3: a process that delivers a later message delivers the earlier one too, if its sender is still a member (docs/SPECIFICATIONS.md, "6
 //! Total order", "Passes"). This is the search, which names what breaks it. The rule, which is tried first, is totem_judge_traffic `gap_6_3`.
-ghost use Rattle.std.specs.Prelude.{◌≡◌, ◌↔◌, ◌<◌, IsTrue, IfOk, MatchOption, Contains};
+ghost use Rattle.std.specs.Prelude.{◌≡◌, ◌↔◌, ◌<◌, ◌≤◌, IsTrue, IfOk, MatchOption, Contains};
 ghost use Rattle.std.specs.Bool.{OnTrue, OnFalse};
 ghost use Rattle.totem_table.specs.Search.{NoneFrom, IsLeastFrom};
 ghost use Rattle.totem_evs.specs.RingFaults.{BreaksGapIn, MeetsIn};
@@ -8,10 +8,11 @@ ghost use Rattle.totem_evs.specs.Answers.{FindsIn};
 ghost use Rattle.totem_pass_d.specs.KnownStays.{AreKnown};
 ghost use Rattle.totem_pass_d.specs.Acts.{IsAmong};
 ghost use Rattle.totem_pass_d.specs.Search.{IsInside, IsOneEvent};
-ghost use Rattle.totem_pass_d.specs.Searched.{IsLater, IsApart, IsBeyond, AreLasts, IsSettled, IsLack};
+ghost use Rattle.totem_pass_d.specs.Searched.{IsLater, IsApart, IsBeyond, IsPassed, HasPassed, IsLast, AreLasts, KeepsUp, AllKeepUp, IsLack};
 
 use crate::search::{EachIndex, Finder, FoundList, Relation, first_found, least_found, only};
 use crate::stays::{Stay, Stays};
+use crate::suspects::comes_before;
 use std::alloc::{AllocError, Global};
 use totem_evs::{Entry, Places, SpecNo};
 use totem_ids::{MsgId, Proc};
@@ -84,26 +85,34 @@ impl Relation for Later<'_, '_, '_> {
     }
 }
 
-/// Returns whether the entry at this index of the leader's stay delivers a message that the follower delivers too.
+/// The last indices of a leader's stay at which it delivers a message that a follower delivers in the regular configuration, and one that
+/// the follower delivers in what follows it.
+#[derive(Clone, Copy)]
+struct Last {
+    regular: usize,
+    following: usize,
+}
+
+/// Returns whether the entry at this index of the leader's stay delivers a message that the follower delivers in the regular configuration.
 fn is_common(stays: &Stays, leader: &Stay, follower: &Stay, at: usize) -> bool
     requires known { AreKnown stays.now }
     requires leader { IsAmong stays.now.list.items leader.now }
     requires follower { IsAmong stays.now.list.items follower.now }
     requires inside { IsInside leader.now at }
-    ensures { OnFalse result (IsApart stays.now.run.now.logs stays.now.ring leader.now.proc follower.now.proc at) }
+    ensures { OnFalse result (IsApart stays.now.run.now.logs stays.now.ring leader.now.proc follower.now at) }
 {
     match stays.entry_in(leader, at) {
-        Entry::Deliver(message, _) => stays.delivers(follower, message),
+        Entry::Deliver(message, _) => comes_before(stays, follower, message, follower.turn),
         _ => false,
     }
 }
 
-/// Returns an index after which the leader delivers nothing that the follower delivers too.
-fn last_common(stays: &Stays, leader: &Stay, follower: &Stay) -> usize
+/// Returns an index after which the leader delivers nothing that the follower delivers in the regular configuration.
+fn last_regular(stays: &Stays, leader: &Stay, follower: &Stay) -> usize
     requires known { AreKnown stays.now }
     requires leader { IsAmong stays.now.list.items leader.now }
     requires follower { IsAmong stays.now.list.items follower.now }
-    ensures { IsBeyond stays.now.run.now.logs stays.now.ring leader.now.proc follower.now.proc result }
+    ensures { IsBeyond stays.now.run.now.logs stays.now.ring leader.now.proc follower.now result }
 {
     let mut next = leader.end;
     'back: while leader.from + 1 < next {
@@ -116,27 +125,88 @@ fn last_common(stays: &Stays, leader: &Stay, follower: &Stay) -> usize
     leader.from
 }
 
-/// Returns this last index for each follower of the leader, in the order of the stays.
-fn lasts_of(alloc: Global, stays: &Stays, leader: &Stay) -> Result<Vec<usize>, AllocError>
+/// Returns the later of this index and the one at which the leader delivers what the entry at an index of the follower's stay delivers.
+fn later_delivery(stays: &Stays, leader: &Stay, follower: &Stay, at: usize, last: usize) -> usize
+    requires known { AreKnown stays.now }
+    requires leader { IsAmong stays.now.list.items leader.now }
+    requires follower { IsAmong stays.now.list.items follower.now }
+    requires inside { IsInside follower.now at }
+    ensures further { last ≤ result }
+    ensures passed { IsPassed stays.now.run.now.logs stays.now.ring leader.now.proc follower.now at result }
+{
+    let Entry::Deliver(message, _) = stays.entry_in(follower, at) else {
+        return last;
+    };
+    match stays.delivery_of(leader, message) {
+        Some(there) => there.max(last),
+        None => last,
+    }
+}
+
+/// Returns an index after which the leader delivers nothing that the follower delivers in what follows the regular configuration.
+fn last_following(stays: &Stays, leader: &Stay, follower: &Stay) -> usize
+    requires known { AreKnown stays.now }
+    requires leader { IsAmong stays.now.list.items leader.now }
+    requires follower { IsAmong stays.now.list.items follower.now }
+    ensures { HasPassed stays.now.run.now.logs stays.now.ring leader.now.proc follower.now follower.now.end result }
+{
+    let mut last = leader.from;
+    for at in follower.turn..follower.end {
+        last = later_delivery(stays, leader, follower, at, last);
+    }
+    last
+}
+
+/// Returns these last indices for each follower of the leader, in the order of the stays.
+fn lasts_of(alloc: Global, stays: &Stays, leader: &Stay) -> Result<Vec<Last>, AllocError>
     requires known { AreKnown stays.now }
     requires among { IsAmong stays.now.list.items leader.now }
     ensures { IfOk result (λ lasts. AreLasts stays.now.run.now.logs stays.now.ring stays.now.list.items leader.now.proc lasts.items) }
 {
     let mut lasts = Vec::new(alloc);
     for follower in &stays.list {
-        lasts.push(last_common(stays, leader, follower))?;
+        let regular = last_regular(stays, leader, follower);
+        let following = last_following(stays, leader, follower);
+        lasts.push(Last { regular, following })?;
     }
     Ok(lasts)
 }
 
-/// Returns whether each follower delivers the leader's message, or delivers nothing that the leader delivers after it.
-fn all_keep_up(stays: &Stays, leader: &Stay, lasts: &[usize], message: &MsgId, at: usize) -> bool
+/// Returns whether the follower delivers the leader's message, or delivers nothing that the leader delivers after it where the sender of
+/// the message is a member.
+fn keeps_up(
+    stays: &Stays,
+    leader: &Stay,
+    follower: &Stay,
+    last: Last,
+    message: &MsgId,
+    at: usize,
+) -> bool
+    requires known { AreKnown stays.now }
+    requires follower { IsAmong stays.now.list.items follower.now }
+    requires last { IsLast stays.now.run.now.logs stays.now.ring leader.now.proc follower.now last }
+    ensures { OnTrue result (KeepsUp stays.now.run.now.logs stays.now.ring leader.now.proc message.now at follower.now) }
+{
+    if last.regular > at {
+        return stays.delivers(follower, message);
+    }
+    if last.following <= at || stays.delivers(follower, message) {
+        return true;
+    }
+    match stays.send_of(message) {
+        Some(sending) => !is_among(stays.members_after(follower), sending.proc),
+        None => false,
+    }
+}
+
+/// Returns whether all followers keep up with the leader's message.
+fn all_keep_up(stays: &Stays, leader: &Stay, lasts: &[Last], message: &MsgId, at: usize) -> bool
     requires known { AreKnown stays.now }
     requires lasts { AreLasts stays.now.run.now.logs stays.now.ring stays.now.list.items leader.now.proc lasts.now }
-    ensures { OnTrue result (IsSettled stays.now.run.now.logs stays.now.ring stays.now.list.items leader.now.proc message.now at) }
+    ensures { OnTrue result (AllKeepUp stays.now.run.now.logs stays.now.ring stays.now.list.items leader.now.proc message.now at) }
 {
     for (k, follower) in stays.list.iter().enumerate() {
-        if lasts[k] > at && !stays.delivers(follower, message) {
+        if !keeps_up(stays, leader, follower, lasts[k], message, at) {
             return false;
         }
     }
@@ -151,7 +221,7 @@ struct Gaps<'s, 'r> {
 
 impl Gaps<'_, '_> {
     /// Returns the rest of the least gap that starts at this index of the leader's stay.
-    fn rest_at(&self, alloc: Global, leader: &Stay, lasts: &[usize], at: usize) -> FoundList
+    fn rest_at(&self, alloc: Global, leader: &Stay, lasts: &[Last], at: usize) -> FoundList
         requires known { AreKnown self.now.stays.now }
         requires among { IsAmong self.now.stays.now.list.items leader.now }
         requires inside { IsInside leader.now at }

@@ -8,7 +8,7 @@ ghost use Rattle.totem_pass_d.specs.Stays.{IsExcused, IsStayFrom, IsShortStay};
 ghost use Rattle.totem_pass_d.specs.Sends.{NotesSends, HasSends};
 ghost use Rattle.totem_pass_d.specs.KnownStays.{AreKnown};
 ghost use Rattle.totem_pass_d.specs.Search.{IsInside};
-ghost use Rattle.totem_pass_d.specs.Reached.{IsSafeIn, AreMembersAt};
+ghost use Rattle.totem_pass_d.specs.Reached.{IsSafeIn, AreMembersAt, AreMembersAfter};
 ghost use Rattle.totem_pass_d.specs.Acts.{IsAmong, NeverComes, DeliversNot, IsSendingOf, NobodySent};
 
 use crate::indexes::Indexes;
@@ -190,6 +190,18 @@ impl<'r> Stays<'r> {
     {
         let change = if at < stay.turn { stay.from } else { stay.turn };
         members_of(&stay.log[change])
+    }
+
+    /// Returns the members of what follows the regular configuration in this stay; if nothing follows, none.
+    pub fn members_after<'s>(&self, stay: &'s Stay<'r>) -> &'s [Proc]
+        requires known { AreKnown self.now }
+        requires among { IsAmong self.now.list.items stay.now }
+        ensures { AreMembersAfter (log_of self.now.run.now.logs stay.now.proc) stay.now.turn stay.now.end result.now }
+    {
+        if stay.turn >= stay.end {
+            return &[];
+        }
+        members_of(&stay.log[stay.turn])
     }
 
     /// Returns the entry at this index of a stay.

@@ -22,10 +22,6 @@ mod packet_parts;
 #[cfg(test)]
 mod packet_sizes;
 #[cfg(test)]
-mod packet_tables;
-#[cfg(test)]
-mod packet_values;
-#[cfg(test)]
 mod process_sets;
 #[cfg(test)]
 mod recoveries;

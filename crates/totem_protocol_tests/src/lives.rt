@@ -1,7 +1,7 @@
 //! Processes of a run and services: how they are made, read, written and ordered, and their laws.
 use crate::names::{Text, memory, told};
-use crate::packet_values::{Case, proc};
 use crate::streams::push_bytes;
+use crate::values::{Case, proc};
 use std::alloc::{AllocError, Global};
 use totem_ids::{
     Failed, Pieces, Place, Proc, ReadError, Service, Sink, ToWrite, Version, life_fits, life_order,

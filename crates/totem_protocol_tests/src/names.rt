@@ -1,5 +1,5 @@
 //! Names: how they are made, written, read and ordered, and their laws.
-use crate::packet_values::{Case, proc};
+use crate::values::{Case, proc};
 use std::alloc::{AllocError, Global};
 use std::fmt::Display;
 use totem_ids::{

@@ -1,5 +1,5 @@
 //! What the reports of a commit token say about an old ring. Members are given in words, and answers as text.
-use crate::packet_values::{Case, numbers, proc, push, push_made, push_procs, ring, set};
+use crate::values::{Case, numbers, proc, push, push_made, push_procs, ring, set};
 use std::alloc::{AllocError, Global};
 use totem_ids::Proc;
 use totem_packets::{CommitMember, CommitMembers, Life, Processes, Report};

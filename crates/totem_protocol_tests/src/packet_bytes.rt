@@ -1,6 +1,6 @@
 //! Packets compared with their bytes, which are written out by hand.
 use crate::packet_sizes;
-use crate::packet_values::{ring, set};
+use crate::values::{ring, set};
 use bytes::Bytes;
 use std::alloc::{AllocError, Global};
 use std::test::Fail;

@@ -1,6 +1,6 @@
 //! Each constructor of a part of a packet, what it gives back, and the texts of refusals. Parts are given in words, and
 //! answers as text.
-use crate::packet_values::{Case, numbers, proc, procs, push, push_procs};
+use crate::values::{Case, numbers, proc, procs, push, push_procs};
 use bytes::Bytes;
 use std::alloc::{AllocError, Global};
 use totem_ids::ProcId;

@@ -1,6 +1,6 @@
 //! The largest packets, and their bytes.
 use crate::packet_bytes::{OLD, old, told_of_bytes};
-use crate::packet_values::{proc, ring, set};
+use crate::values::{proc, ring, set};
 use bytes::Bytes;
 use std::alloc::{AllocError, Global};
 use std::test::Fail;

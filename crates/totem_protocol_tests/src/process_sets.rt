@@ -1,5 +1,5 @@
 //! Sets of processes. Questions are given in words, and answers as text.
-use crate::packet_values::{Case, proc, push_made, push_procs, set};
+use crate::values::{Case, proc, push_made, push_procs, set};
 use std::alloc::{AllocError, Global};
 use totem_ids::ProcId;
 use totem_packets::{Processes, SetFault};

@@ -1,7 +1,7 @@
 //! Sources and sinks that fail at a given call or as their readers and writers do, and sinks that get pieces. The result of each
 //! call is text.
 use crate::names::{memory, message, place, ring, transitional};
-use crate::packet_values::{Case, push};
+use crate::values::{Case, push};
 use std::alloc::{AllocError, Global};
 use std::io;
 use std::io::{ErrorKind, Read, Write};

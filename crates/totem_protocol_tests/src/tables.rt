@@ -1,17 +1,32 @@
-//! The tables of steps and their results, and the test that checks all of them.
+//! The tables of questions and steps, each with its expected answer or result, and the test that checks all of them.
 use crate::commits::COMMITS;
 use crate::exchanges::EXCHANGES;
 use crate::gatherings::GATHERINGS;
+use crate::lives::LIVES;
+use crate::names::NAMES;
+use crate::old_rings::OLD_RINGS;
+use crate::packet_parts::PARTS;
+use crate::process_sets::SETS;
 use crate::recoveries::RECOVERIES;
 use crate::rings::RINGS;
+use crate::streams::STREAMS;
 use crate::values::Case;
-use crate::{commits, exchanges, gatherings, recoveries, rings};
+use crate::{
+    commits, exchanges, gatherings, lives, names, old_rings, packet_parts, process_sets,
+    recoveries, rings, streams,
+};
 use std::alloc::Global;
 use std::test::Fail;
 
-/// Returns the results of these words on this topic.
+/// Returns the answer or the results for these words on this topic.
 fn told(alloc: Global, topic: &str, words: &str) -> Result<String, Fail> {
     match topic {
+        "names" => Ok(names::answer(alloc, words)?),
+        "lives" => Ok(lives::answer(alloc, words)?),
+        "streams" => Ok(streams::told(alloc, words)?),
+        "parts" => Ok(packet_parts::told(alloc, words)?),
+        "sets" => Ok(process_sets::told(alloc, words)?),
+        "old rings" => Ok(old_rings::told(alloc, words)?),
         "rings" => Ok(rings::told(alloc, words)?),
         "gatherings" => Ok(gatherings::told(alloc, words)?),
         "commits" => Ok(commits::told(alloc, words)?),
@@ -20,7 +35,13 @@ fn told(alloc: Global, topic: &str, words: &str) -> Result<String, Fail> {
     }
 }
 
-const TABLES: [(&str, &[Case]); 5] = [
+const TABLES: [(&str, &[Case]); 11] = [
+    ("names", &NAMES),
+    ("lives", &LIVES),
+    ("streams", &STREAMS),
+    ("parts", &PARTS),
+    ("sets", &SETS),
+    ("old rings", &OLD_RINGS),
     ("rings", &RINGS),
     ("gatherings", &GATHERINGS),
     ("commits", &COMMITS),
@@ -28,9 +49,9 @@ const TABLES: [(&str, &[Case]); 5] = [
     ("exchanges", &EXCHANGES),
 ];
 
-/// Each row about rings, gatherings, commit tokens and recoveries has its expected result.
+/// Each row of each table has its expected answer or result.
 #[test]
-fn what_is_done_is_told(rt: HostRuntime) -> Result<(), Fail> {
+fn rows_have_their_answers(rt: HostRuntime) -> Result<(), Fail> {
     for (topic, cases) in &TABLES {
         for (words, wanted) in *cases {
             let told = told(rt.alloc(), topic, words)?;

@@ -3,7 +3,7 @@ use bytes::Bytes;
 use std::alloc::{AllocError, Global};
 use std::fmt::Debug;
 use totem_ids::{Proc, ProcId, RingId, Service};
-use totem_packets::{Body, Payload, Processes};
+use totem_packets::{Body, Payload, Processes, SetFault};
 use totem_ring::RingState;
 
 /// Steps and questions in words, and their expected results.
@@ -21,23 +21,32 @@ pub fn ring(seq: u32) -> RingId {
     }
 }
 
-/// Adds the process of a text such as `7`, or the processes of one such as `1-32`.
-fn push_range(list: &mut Vec<ProcId>, text: &str) -> Result<(), AllocError> {
+/// Adds the number of a text such as `7`, or the numbers of one such as `1-32`.
+fn push_range(list: &mut Vec<u32>, text: &str) -> Result<(), AllocError> {
     let (low, high) = text.split_once('-').unwrap_or((text, text));
-    let last = high.parse::<u16>().unwrap_or(0);
-    for number in low.parse::<u16>().unwrap_or(0)..last.saturating_add(1) {
-        list.push(proc(number))?;
+    let last = high.parse::<u32>().unwrap_or(0);
+    for number in low.parse::<u32>().unwrap_or(0)..last.saturating_add(1) {
+        list.push(number)?;
     }
     Ok(())
 }
 
-/// Returns the processes of a text such as `1,5-7`; an empty text has none.
-pub fn procs(alloc: Global, text: &str) -> Result<Vec<ProcId>, AllocError> {
+/// Returns the numbers of a text such as `1,5-7`; an empty text has none.
+pub fn numbers(alloc: Global, text: &str) -> Result<Vec<u32>, AllocError> {
     let mut list = Vec::new(alloc);
     if !text.is_empty() {
         for range in text.split(',') {
             push_range(&mut list, range)?;
         }
+    }
+    Ok(list)
+}
+
+/// Returns the processes of such a text.
+pub fn procs(alloc: Global, text: &str) -> Result<Vec<ProcId>, AllocError> {
+    let mut list = Vec::new(alloc);
+    for number in &numbers(alloc, text)? {
+        list.push(proc(u16::try_from(*number).unwrap_or(0)))?;
     }
     Ok(list)
 }
@@ -85,6 +94,18 @@ pub fn push_procs(alloc: Global, text: &mut String, procs: &[ProcId]) -> Result<
         push_number(alloc, text, u64::from(proc.number()))?;
     }
     Ok(())
+}
+
+/// Adds the processes of a set, or why there is none.
+pub fn push_made(
+    alloc: Global,
+    text: &mut String,
+    made: Result<Processes, SetFault>,
+) -> Result<(), AllocError> {
+    match made {
+        Ok(processes) => push_procs(alloc, text, processes.as_slice()),
+        Err(fault) => push(text, format!(in alloc; " {fault}")),
+    }
 }
 
 /// Adds these processes, each with its life if it is not the first.

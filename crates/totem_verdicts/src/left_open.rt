@@ -1,51 +1,16 @@
 //! The lines of a yes: what a run leaves open (docs/SPECIFICATIONS.md, "Report text"). What a yes of the checker depends on is in
 //! totem_check, `checker`.
-ghost use Rattle.std.specs.Prelude.{◌≡◌, ◌+◌, ◌≤◌, ◌∷◌, ◌++◌, codes, decimal, drop, length};
 ghost use Rattle.std.specs.List.{flat_map};
-ghost use Rattle.totem_ids.specs.Texts.{message_text};
 ghost use Rattle.totem_ids.specs.Writing.{Writes, held};
 ghost use Rattle.totem_verdicts.specs.Report.{pending_line, waiting_line, yes_text};
 
-use itoa::write_digits;
 use totem_evs::{Pending, Waiting};
-use totem_ids::{Failed, MsgId, Pieces, Sink, Version};
+use totem_ids::{Failed, Pieces, Sink, Version, write_message, write_process};
 
-/// How many bytes a message takes at most, with a space before it and a line end after it.
-const WIDTH: usize = 34;
+/// How many bytes the line of what is pending takes at most.
+const WIDTH: usize = 63;
 
-/// Writes a byte and a number, so that they end before this index of the text, and returns the index at which they start.
-fn write_number(text: &mut [u8], end: usize, before: u8, number: u32) -> usize
-    requires { (11 ≤ end) × (end ≤ length text.old) }
-    ensures within { (result ≤ end) × (end ≤ result + 11) }
-    ensures length { length text.new ≡ length text.old }
-    ensures written { drop result text.new ≡ before ∷ (decimal number ++ drop end text.old) }
-{
-    let start = write_digits(u64::from(number), text, end) - 1;
-    text[start] = before;
-    start
-}
-
-/// Puts a space, the message and a line end, at once. The line end is written first, since the digits of a number too come from the last
-/// to the first.
-fn put_message_line<S: Sink>(
-    pieces: &mut Pieces,
-    sink: &mut S,
-    message: MsgId,
-) -> Result<(), Failed>
-    ensures { Writes (held S.contents S.failures pieces.old sink.old)
-        (held S.contents S.failures pieces.new sink.new) result (codes " " ++ message_text message ++ codes "\n") }
-{
-    let ring = message.ring;
-    let least = ring.rep;
-    let least = u32::from(least.number());
-    let mut text = [b'\n'; WIDTH];
-    let number = write_number(&mut text, WIDTH - 1, b'#', message.number);
-    let rep = write_number(&mut text, number, b'.', least);
-    let seq = write_number(&mut text, rep, b' ', ring.seq);
-    pieces.put(sink, &text[seq..])
-}
-
-#[tactic(auto, using(totem_ids::proofs::Writers::wrote_then, totem_ids::proofs::Writers::wrote_failed))]
+/// Puts a line at once. Its end is written first, since the digits of a number come from the last to the first.
 fn put_pending<S: Sink>(
     pieces: &mut Pieces,
     sink: &mut S,
@@ -55,9 +20,12 @@ fn put_pending<S: Sink>(
     ensures { Writes (held S.contents S.failures pieces.old sink.old)
         (held S.contents S.failures pieces.new sink.new) result (pending_line version pending.now) }
 {
-    pieces.put(sink, b"pending ")?;
-    pieces.put_process(sink, version, pending.proc)?;
-    put_message_line(pieces, sink, pending.msg)
+    let mut text = [b'\n'; WIDTH];
+    let message = write_message(&mut text, WIDTH - 1, b' ', pending.msg);
+    let process = write_process(&mut text, message, b' ', version, pending.proc);
+    let start = process - 7;
+    text[start..process].copy_from_slice(b"pending");
+    pieces.put(sink, &text[start..])
 }
 
 fn put_each_pending<S: Sink>(

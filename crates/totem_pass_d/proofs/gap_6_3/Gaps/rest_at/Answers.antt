@@ -1,12 +1,12 @@
 use Rattle.totem_table.proofs.Searching.{reworded}
 use Rattle.totem_pass_d.proofs.Facts.{facts_of}
-use Rattle.totem_pass_d.proofs.GapFaults.{none_unsent, none_after, least_after, none_settled}
+use Rattle.totem_pass_d.proofs.GapFaults.{none_unsent, none_after, least_after, none_behind}
 use Rattle.totem_pass_d.proofs.gap_6_3.Gaps.rest_at.Goals as goal
 
 pub returns-then-all_keep_up : goal.returns-then-all_keep_up
 returns-then-all_keep_up c =
     let s = c.args.self.now.stays.now in
-    none_settled s.run.now.logs s.ring s.list.items _ _ _ _ (facts_of s c.requires.known) (rw c.in-Deliver.is at c.entry_in.ensures) c.if-all_keep_up.ensures
+    none_behind s.run.now.logs s.ring s.list.items _ _ _ _ (facts_of s c.requires.known) (rw c.in-Deliver.is at c.entry_in.ensures) c.if-all_keep_up.ensures
 
 pub returns-in_default-send_of : goal.returns-in_default-send_of
 returns-in_default-send_of c =

@@ -1,7 +1,7 @@
 use Rattle.std.proofs.Common.{ℕ, ◌<◌, ◌≤◌, ◌^◌, length, decimal, arith}
 use Rattle.std.proofs.lemmas.Fmt.{length-decimal-le}
 use Rattle.std.proofs.lemmas.Grind.{common_steps}
-use Rattle.totem_certificate.proofs.writing.write_number.Goals as goal
+use Rattle.totem_ids.proofs.backward.write_number.Goals as goal
 
 -- a number of 32 bits has at most ten digits
 short : (n : ℕ) → n < 2 ^ 32 → length (decimal n) ≤ 10
