@@ -188,6 +188,21 @@ def broken_at_the_end(kind):
     return family
 
 
+def skips(rng, entries):
+    """Three members that part before they deliver anything: 1 and 3 deliver all messages, 2 none of 3 and not its own last one but one, so
+    that 6.3 is broken at the end of one long transitional configuration."""
+    messages = max(4, entries * 2 // 7)
+    ring = Ring(rng, 4, [1, 2, 3], messages)
+    ring.batches = [(3 if number % 2 and number + 1 < messages else 2, number, ["a"]) for number in range(1, messages + 1)]
+    logs = []
+    for member, part in ((1, Ring(rng, 8, [1, 3], 0)), (2, Ring(rng, 12, [2], 0)), (3, Ring(rng, 8, [1, 3], 0))):
+        name = f"t{part.name}/{part.members[0]}"
+        came = ring.life(member, lambda number, sender: member != 2 or sender == 2 and number != messages - 1, sends=False)[1:]
+        came = [line.replace(f"dlv r{ring.name} ", f"dlv {name} ") for line in came]
+        logs.append((member, [*ring.life(member, lambda *_: False), part.between(part), *came, part.change()], "open"))
+    return logs
+
+
 FAMILIES = {
     "well3": ("3 logs, all well", all_well(3)),
     "well8": ("8 logs, all well", all_well(8)),
@@ -202,6 +217,7 @@ FAMILIES = {
     "half": ("3 logs, one lags from the middle", one_stays_behind(3, 0.5, "open")),
     "alone": ("2 logs that fail, each delivers its own", each_for_itself),
     "gap": ("6.3 broken at the end", broken_at_the_end("6.3")),
+    "skips": ("6.3 broken at the end of a long transitional configuration", skips),
     "atomicity": ("4 broken at the end", broken_at_the_end("4")),
     "safety": ("7.1 broken at the end", broken_at_the_end("7.1")),
 }

@@ -1,11 +1,12 @@
 //! Processes of a run and services: how they are made, read, written and ordered, and their laws.
-use crate::names::{Text, memory, told};
+use crate::names::{Text, memory, message, told};
 use crate::streams::push_bytes;
 use crate::values::{Case, proc};
 use std::alloc::{AllocError, Global};
 use totem_ids::{
     Failed, Pieces, Place, Proc, ReadError, Service, Sink, ToWrite, Version, life_fits, life_order,
     life_spelling, read_place, read_process, read_process_to, read_service, service_spelling,
+    write_message, write_number, write_process,
 };
 
 fn version(number: &str) -> Version {
@@ -101,6 +102,19 @@ fn rewritten(alloc: Global, version: Version, text: &mut Text) -> Result<String,
     Ok(written(alloc, version, process)?)
 }
 
+/// Reads a process of version 2, writes it, a message and a number into the end of a text before a last dot, and returns the text from the
+/// process on.
+fn written_last(alloc: Global, version: Version, text: &mut Text) -> Result<String, ReadError> {
+    let process = read_process_to(text, Version::Two, b' ')?;
+    let mut bytes = [b'.'; 68];
+    let number = write_number(&mut bytes, 67, b'=', 10);
+    let message = write_message(&mut bytes, number, b',', message(4294967295, 65535, 7));
+    let start = write_process(&mut bytes, message, b'<', version, process);
+    let mut written = String::new(alloc);
+    push_bytes(&mut written, &bytes[start..])?;
+    Ok(written)
+}
+
 /// Returns what is read, written or related in a text of this version.
 fn versioned(alloc: Global, kind: &str, words: &str) -> Result<String, AllocError> {
     let (number, text) = words.split_once(' ').unwrap_or((words, ""));
@@ -109,6 +123,7 @@ fn versioned(alloc: Global, kind: &str, words: &str) -> Result<String, AllocErro
         "place" => told(alloc, read_place(&mut memory(text), version, b' ')),
         "to" => told(alloc, read_process_to(&mut memory(text), version, b' ')),
         "then" => told(alloc, process_then(alloc, version, &mut memory(text))),
+        "last" => told(alloc, written_last(alloc, version, &mut memory(text))),
         _ => told(alloc, rewritten(alloc, version, &mut memory(text))),
     }
 }
@@ -126,7 +141,7 @@ pub(crate) fn answer(alloc: Global, words: &str) -> Result<String, AllocError> {
     }
 }
 
-pub(crate) const LIVES: [Case; 35] = [
+pub(crate) const LIVES: [Case; 37] = [
     ("new 2 0", "none"),
     ("new 1 1", "1:1 1 1 65537 1:2"),
     ("new 2 65535", "2:65535 2 65535 196607 none"),
@@ -145,6 +160,8 @@ pub(crate) const LIVES: [Case; 35] = [
     ("then 2 2:2;", "2:2 59"),
     ("put 2 1:1 ", "true log 1:1 as 1:1@5"),
     ("put 3 2:2 ", "true log 2:2 as 2:2@5"),
+    ("last 1 3:1 ", "<3,4294967295.65535#7=10."),
+    ("last 3 65535:65535 ", "<65535:65535,4294967295.65535#7=10."),
     // without a known version, a place is written as in the first version that can write it
     ("place 2 2:3@5 ", "2:3@5"),
     ("place 3 2:1@5 ", "2@5"),
