@@ -5,7 +5,7 @@ use totem_audit::{Verdict, Workers, audit, early};
 use totem_evs::{Run, read_run};
 use totem_ids::FromRead;
 use totem_judge_run::{deliveries_are_once, sends_are_once};
-use totem_pass_ab::{pass_a, pass_b};
+use totem_pass_ab::pass_a_and_b;
 use totem_table::{Changes, Row as Numbers, Table, numbers_tell_confs, numbers_tell_messages};
 
 fn push_verdict(text: &mut String, verdict: &Verdict) -> Result<(), AllocError> {
@@ -38,10 +38,8 @@ fn push_audit_of_first(alloc: Global, text: &mut String, run: Run) -> Result<(),
 }
 
 fn push_passes(alloc: Global, text: &mut String, run: &Run) -> Result<(), AllocError> {
-    text.push_str("a")?;
-    push_faults(text, &pass_a(alloc, run)?)?;
-    text.push_str(" b")?;
-    push_faults(text, &pass_b(alloc, run)?)
+    let changes = Changes::of(alloc, run)?;
+    push_faults(text, &pass_a_and_b(alloc, run, &changes)?)
 }
 
 /// Adds whether each message is sent once and delivered once in each log, and the numbers of the entries, log by log.
@@ -65,7 +63,7 @@ fn push_rows(text: &mut String, rows: &[Numbers]) -> Result<(), AllocError> {
     Ok(())
 }
 
-/// What judges a run: the audit, the audit of its first log alone, the first two passes, the first three as one call, the table of
+/// What judges a run: the audit, the audit of its first log alone, the first two passes, the first three, the table of
 /// its numbers, or the list of its changes.
 enum Judge {
     Audit,
@@ -257,19 +255,19 @@ const RUNS: [Row; 28] = [
         rule: "sent and delivered once",
         logs: "log 1\nconf r4.1 1\nsend r4.1 a 4.1#1\nconf t8.1/1 1\ndlv t8.1/1 4.1#1\nopen\n",
         judge: Judge::Passes,
-        told: "a b",
+        told: "",
     },
     Row {
         rule: "sent twice",
         logs: "log 1\nconf r4.1 1\nsend r4.1 a 4.1#1\nsend r4.1 a 4.1#1\nconf t8.1/1 1\ndlv t8.1/1 4.1#1\nopen\n",
         judge: Judge::Passes,
-        told: "a; 1.4 1@2 1@3 b",
+        told: "; 1.4 1@2 1@3",
     },
     Row {
         rule: "not sent",
         logs: "log 1\nconf r4.1 1\nconf t8.1/1 1\ndlv t8.1/1 4.1#1\nopen\n",
         judge: Judge::Passes,
-        told: "a b; 1.3 1@3",
+        told: "; 1.3 1@3",
     },
     Row {
         rule: "the first three passes stop at the first with a fault: pass A before pass B",
@@ -362,14 +360,14 @@ const QUIET_RUNS: [Row; 9] = [
         rule: "2.1 is asked whatever 2.2 says, and listed before it",
         logs: "log 1:1\nconf r4.1 1:1\nfail r4.1\nconf t8.1/1 1:1\nquiet\n",
         judge: Judge::Passes,
-        told: "a; 2.1 1@3; 2.2 1@3 b",
+        told: "; 2.1 1@3; 2.2 1@3",
     },
     Row {
         rule: "the members are those that the quiet log's own change names",
         logs: "log 1:1\nconf r4.1 1:1\nquiet\n\
         log 2:1\nconf r4.1 1:1 2:1\nfail r4.1\nfailed\n",
         judge: Judge::Passes,
-        told: "a; 2.3 1@1 2@1 b",
+        told: "; 2.3 1@1 2@1",
     },
 ];
 

@@ -9,8 +9,8 @@ use std::alloc::{AllocError, Global};
 use totem_evs::{Fault, Run, SpecNo};
 use totem_table::{Changes, with_found};
 
-/// Pass A, given the changes of the run.
-fn pass_a_over(alloc: Global, run: &Run, changes: &Changes) -> Result<Vec<Fault>, AllocError>
+/// Pass A: for each of 1.4, 2.1, 2.2, 2.3 and 2.4 that the run breaks, in this order, its least events.
+fn pass_a_of(alloc: Global, run: &Run, changes: &Changes) -> Result<Vec<Fault>, AllocError>
     requires { AreChanges run.now.logs changes.now.rows.items }
     ensures { IfOk result (λ faults. Lists run.now.logs pass_a faults.items) }
 {
@@ -24,8 +24,8 @@ fn pass_a_over(alloc: Global, run: &Run, changes: &Changes) -> Result<Vec<Fault>
     with_found(forms, SpecNo::Turns, turns)
 }
 
-/// Pass B, given the changes of the run.
-fn pass_b_over(alloc: Global, run: &Run, changes: &Changes) -> Result<Vec<Fault>, AllocError>
+/// Pass B: the least event that breaks 1.3, if one does. It is made for runs that have passed A, which it judges in one walk.
+fn pass_b_of(alloc: Global, run: &Run, changes: &Changes) -> Result<Vec<Fault>, AllocError>
     requires { AreChanges run.now.logs changes.now.rows.items }
     ensures { IfOk result (λ faults. Lists run.now.logs pass_b faults.items) }
 {
@@ -33,32 +33,15 @@ fn pass_b_over(alloc: Global, run: &Run, changes: &Changes) -> Result<Vec<Fault>
     with_found(Vec::new(alloc), SpecNo::Unsent, unsent)
 }
 
-/// Pass A: for each of 1.4, 2.1, 2.2, 2.3 and 2.4 that the run breaks, in this order, its least events. `Err` means
-/// out of memory, and says nothing about the run.
-pub fn pass_a(alloc: Global, run: &Run) -> Result<Vec<Fault>, AllocError>
-    ensures { IfOk result (λ faults. Lists run.now.logs pass_a faults.items) }
-{
-    let changes = Changes::of(alloc, run)?;
-    pass_a_over(alloc, run, &changes)
-}
-
-/// Pass B: the least event that breaks 1.3, if one does. `Err` means out of memory, and says nothing about the run. The pass is made
-/// for runs that have passed A, which it judges in one walk; in a run that breaks 2.3 or 2.4 each delivery may cost a search.
-pub fn pass_b(alloc: Global, run: &Run) -> Result<Vec<Fault>, AllocError>
-    ensures { IfOk result (λ faults. Lists run.now.logs pass_b faults.items) }
-{
-    let changes = Changes::of(alloc, run)?;
-    pass_b_over(alloc, run, &changes)
-}
-
-/// Passes A and B, given the changes of the run: the faults of pass A, or if it has none those of pass B.
+/// Passes A and B, given the changes of the run: the faults of pass A, or if it has none those of pass B. `Err` means out of memory, and
+/// says nothing about the run.
 pub fn pass_a_and_b(alloc: Global, run: &Run, changes: &Changes) -> Result<Vec<Fault>, AllocError>
     requires { AreChanges run.now.logs changes.now.rows.items }
     ensures { IfOk result (λ faults. ListsFirst run.now.logs faults.items) }
 {
-    let faults = pass_a_over(alloc, run, changes)?;
+    let faults = pass_a_of(alloc, run, changes)?;
     if !faults.is_empty() {
         return Ok(faults);
     }
-    pass_b_over(alloc, run, changes)
+    pass_b_of(alloc, run, changes)
 }

@@ -1,7 +1,8 @@
 -- The list found for 6.3 is the least that breaks it: an earlier message, a later one, and a process that delivers only
 -- the later one.
-use Rattle.std.proofs.Common.{◌≡◌, ℕ, ◌+◌, ◌<◌, ◌≤◌, inl, inr, List, [], ◌∷◌, length, slice_get, Some, Bool, true, false, not, IsTrue, ◌↔◌, refl, sym, ◌∙◌, arith, below_more}
-use Rattle.std.specs.Prelude.{Contains}
+use Rattle.std.proofs.Common.{◌≡◌, ℕ, ◌+◌, ◌<◌, ◌≤◌, inl, inr, List, [], ◌∷◌, length, slice_get, Option, Some, None, Bool, true, false, not, IsTrue, ◌↔◌, refl, sym, ◌∙◌, arith, below_more}
+use Rattle.std.specs.Prelude.{Contains, IfSome, IfNone}
+use Rattle.std.specs.Option.{unwrap_or}
 use Rattle.std.specs.Bool.{OnTrue, OnFalse}
 use Rattle.std.proofs.lemmas.Option.{slice_get_within}
 use Rattle.totem_ids.specs.declared.ring.RingId.{RingId}
@@ -9,6 +10,7 @@ use Rattle.totem_ids.specs.declared.conf.ConfId.{ConfId}
 use Rattle.totem_ids.specs.declared.conf.ConfId.TheVariants.{Regular}
 use Rattle.totem_ids.specs.declared.message.MsgId.{MsgId}
 use Rattle.totem_ids.specs.declared.place.Place.{Place}
+use Rattle.totem_evs.specs.declared.entry.Entry.{Entry}
 use Rattle.totem_evs.specs.declared.entry.Entry.TheVariants.{Deliver}
 use Rattle.totem_evs.specs.declared.log.Log.{Log}
 use Rattle.totem_evs.specs.Events.{log_of, Sends, Delivers, WasSentIn, IsMember}
@@ -28,7 +30,7 @@ use Rattle.totem_pass_d.specs.Acts.{IsAmong, DeliversNot, IsSendingOf, NobodySen
 use Rattle.totem_pass_d.specs.Search.{IsInside, EachBeginsWithin, NoneWithin, IsLeastWithin, BeginsWithin, IsOneEvent}
 use Rattle.totem_pass_d.specs.Reached.{AreMembersAt, AreMembersAfter}
 use Rattle.totem_pass_d.specs.Suspects.{ComesNotBefore}
-use Rattle.totem_pass_d.specs.Searched.{IsLack, IsLater, TellsMember, IsApart, IsPassed, HasPassed, IsLast, AreLasts, IsAhead, KeepsUp, AllKeepUp}
+use Rattle.totem_pass_d.specs.Searched.{IsLack, IsLater, TellsMember, IsApart, IsBeyond, IsPassed, HasPassed, IsLast, AreLasts, IsAhead, KeepsUp, AllKeepUp}
 use Rattle.totem_pass_d.proofs.Deciding.{has_delivered_or_not}
 use Rattle.totem_pass_d.proofs.Reaching.{is_among_members, is_member, one_origin}
 use Rattle.totem_pass_d.proofs.Facts.{Facts, delivery_inside}
@@ -164,35 +166,42 @@ no_gaps run c none = record {
 
 -- ---- the last delivery of a process that another process makes too
 
--- the entry delivers m, which the follower does not deliver in c itself
-pub apart_late : (run : List Log) (c : RingId) (follower : Stay) (p at : ℕ) (m : MsgId) (d : ConfId) (b : Bool) → slice_get (log_of run p) at ≡ Some (Deliver m d) → OnFalse b (ComesNotBefore run c follower.proc m follower.turn)
-    → OnFalse b (IsApart run c p follower at)
-apart_late run c follower p at m d true there not = tt
-apart_late run c follower p at m d false there not = record {
+-- the entry delivers m, which q does not deliver before until
+pub apart_late : (run : List Log) (c : RingId) (p q until at : ℕ) (m : MsgId) (d : ConfId) (b : Bool) → slice_get (log_of run p) at ≡ Some (Deliver m d) → OnFalse b (ComesNotBefore run c q m until) → OnFalse b (IsApart run c p q until at)
+apart_late run c p q until at m d true there not = tt
+apart_late run c p q until at m d false there not = record {
   never = λ n k (x, is, belongs) lt delivers. (let same : n ≡ m = cc in not k lt (rw same at delivers));
 }
 
--- from j on the follower delivers in c itself nothing that p delivers
-pub record ApartFrom (run : List Log) (c : RingId) (p : ℕ) (follower : Stay) (n : ℕ) : Type 0 where
-  pub each : (j : ℕ) → n ≤ j → IsApart run c p follower j
+-- before until q delivers nothing that p delivers from n on
+pub record ApartFrom (run : List Log) (c : RingId) (p q until n : ℕ) : Type 0 where
+  pub each : (j : ℕ) → n ≤ j → IsApart run c p q until j
 
-pub apart_at_end : (run : List Log) (c : RingId) (stays : List Stay) (leader follower : Stay) → Facts run c stays → IsAmong stays leader → ApartFrom run c leader.proc follower leader.end
-apart_at_end run c stays leader follower facts among = record {
+pub apart_at_end : (run : List Log) (c : RingId) (stays : List Stay) (leader : Stay) (q until : ℕ) → Facts run c stays → IsAmong stays leader → ApartFrom run c leader.proc q until leader.end
+apart_at_end run c stays leader q until facts among = record {
   each = λ j le. record { never = λ n k delivers lt h. (let inside = delivery_inside run c stays leader n j facts among delivers in let until = inside.until in absurd (omega arith)) };
 }
 
-pub apart_more : (run : List Log) (c : RingId) (p : ℕ) (follower : Stay) (n k : ℕ) → n ≡ k + 1 → IsApart run c p follower k → ApartFrom run c p follower n → ApartFrom run c p follower k
-apart_more run c p follower n k is here after = record {
+pub apart_more : (run : List Log) (c : RingId) (p q until n k : ℕ) → n ≡ k + 1 → IsApart run c p q until k → ApartFrom run c p q until n → ApartFrom run c p q until k
+apart_more run c p q until n k is here after = record {
   each = λ j le. elim (before_or_at k j (omega arith)) [
     | inl under ↦ after.each j (omega arith)
     | inr same ↦ rw (← same) here
   ];
 }
 
+-- an index that will do for both parts
+pub rough_last : (run : List Log) (c : RingId) (stays : List Stay) (p i : ℕ) (follower : Stay) → Facts run c stays → IsAmong stays follower → IsBeyond run c p follower.proc follower.end i
+    → (let last : Last = record { regular = i; following = i } in IsLast run c p follower last)
+rough_last run c stays p i follower facts among beyond = record {
+  regular = record { each = λ j lt. record { never = λ n k there early here. (beyond.each j lt).never n k there (let until = (facts.each follower among).is.until in omega arith) here } };
+  following = record { each = λ k le until. record { never = λ n j lt there here. (beyond.each j lt).never n k there until here } };
+}
+
 -- ---- what follows c
 
 -- p delivers at `there` what the follower delivers at k
-pub passed_there : (run : List Log) (c : RingId) (stays : List Stay) (follower : Stay) (p k there i : ℕ) (m : MsgId) (d : ConfId) → Facts run c stays → slice_get (log_of run follower.proc) k ≡ Some (Deliver m d) → DeliversIn (log_of run p) c m there → there ≤ i
+passed_there : (run : List Log) (c : RingId) (stays : List Stay) (follower : Stay) (p k there i : ℕ) (m : MsgId) (d : ConfId) → Facts run c stays → slice_get (log_of run follower.proc) k ≡ Some (Deliver m d) → DeliversIn (log_of run p) c m there → there ≤ i
     → IsPassed run c p follower k i
 passed_there run c stays follower p k there i m d facts at here le = record {
   never = λ n j lt delivers (x, is, belongs). (
@@ -202,10 +211,20 @@ passed_there run c stays follower p k there i m d facts at here le = record {
       );
 }
 
-pub passed_undelivered : (run : List Log) (c : RingId) (follower : Stay) (p k i : ℕ) (m : MsgId) (d : ConfId) → slice_get (log_of run follower.proc) k ≡ Some (Deliver m d) → DeliversNot (log_of run p) c m → IsPassed run c p follower k i
+passed_undelivered : (run : List Log) (c : RingId) (follower : Stay) (p k i : ℕ) (m : MsgId) (d : ConfId) → slice_get (log_of run follower.proc) k ≡ Some (Deliver m d) → DeliversNot (log_of run p) c m → IsPassed run c p follower k i
 passed_undelivered run c follower p k i m d at not = record {
   never = λ n j lt delivers (x, is, belongs). (let same : n ≡ m = cc in not.never (j, rw same at delivers));
 }
+
+-- p delivers at no later index than i what the follower delivers at k, or never
+pub passed_delivered : (run : List Log) (c : RingId) (stays : List Stay) (follower : Stay) (p k i last : ℕ) (m : MsgId) (d : ConfId) (found : Option ℕ) → Facts run c stays → slice_get (log_of run follower.proc) k ≡ Some (Deliver m d)
+    → IfSome found (DeliversIn (log_of run p) c m) → IfNone found (DeliversNot (log_of run p) c m) → unwrap_or found last ≤ i → IsPassed run c p follower k i
+passed_delivered run c stays follower p k i last m d (Some there) facts at here not le = passed_there run c stays follower p k there i m d facts at here le
+passed_delivered run c stays follower p k i last m d None facts at here not le = passed_undelivered run c follower p k i m d at not
+
+-- the entry at k delivers nothing
+pub passed_silent : (run : List Log) (c : RingId) (follower : Stay) (p k i : ℕ) (e : Entry) → slice_get (log_of run follower.proc) k ≡ Some e → ((m : MsgId) (d : ConfId) → e ≡ Deliver m d → ⊥) → IsPassed run c p follower k i
+passed_silent run c follower p k i e at silent = record { never = λ n j lt delivers (x, is, belongs). (let same : e ≡ Deliver n x = cc in silent n x same) }
 
 pub passed_before : (run : List Log) (c : RingId) (p : ℕ) (follower : Stay) (i : ℕ) → HasPassed run c p follower follower.turn i
 passed_before run c p follower i = record { each = λ k le lt. absurd (omega arith) }
@@ -222,6 +241,8 @@ passed_more run c p follower n i j le here before = record {
 
 pub lasts_whole : (run : List Log) (c : RingId) (stays : List Stay) (p : ℕ) (lasts : List Last) (n : ℕ) → length stays ≡ n → Along (IsLast run c p) stays lasts n → AreLasts run c stays p lasts
 lasts_whole run c stays p lasts n end along = record { long = end ∙ sym along.long; each = along.each }
+
+-- ---- each message of a leader
 
 -- p delivers nothing after i that the follower delivers
 pub keeps_up_beyond : (run : List Log) (c : RingId) (p : ℕ) (m : MsgId) (i : ℕ) (follower : Stay) (last : Last) (stays : List Stay) → Facts run c stays → IsAmong stays follower → IsLast run c p follower last → last.regular ≤ i
@@ -263,6 +284,13 @@ keep_up_whole run c stays p m i n end to = record { each = λ stay among. to.eac
 ahead_of : (run : List Log) (c : RingId) (p : ℕ) (m n : MsgId) (d x : ConfId) (stay : Stay) (q j k s l : ℕ) → stay.proc ≡ q → DeliversIn (log_of run p) c n j → Delivers (log_of run q) k n d → Com (log_of run q) c d → Sends (log_of run s) l m x → IsMember run d s
     → IsAhead run c p m stay j
 ahead_of run c p m n d x stay q j k s l same later at belongs send member = (n, d, x, k, s, l, later, rw (← same) at at, rw (← same) at belongs, send, member)
+
+-- no gap starts at an entry that delivers nothing
+pub none_silent : (run : List Log) (c : RingId) (p i : ℕ) (e : Entry) → slice_get (log_of run p) i ≡ Some e → ((m : MsgId) (d : ConfId) → e ≡ Deliver m d → ⊥) → NoneFrom (BreaksGapIn run c) p i
+none_silent run c p i e at silent = record { none = λ rest h. let g = gap_at run c p i rest h in go g.0 g.1 g.2 g.4 }
+  where
+    go : (j q k : ℕ) → IsGap run c p i j q k → ⊥
+    go j q k (o, n, x, y, s, l, (z, at', b'), later, lt, at_k, belongs, send, member, lacks) = (let same : e ≡ Deliver o z = cc in silent o z same)
 
 -- no gap starts at a message with which all keep up
 pub none_behind : (run : List Log) (c : RingId) (stays : List Stay) (m : MsgId) (d : ConfId) (p i : ℕ) → Facts run c stays → slice_get (log_of run p) i ≡ Some (Deliver m d) → AllKeepUp run c stays p m i → NoneFrom (BreaksGapIn run c) p i

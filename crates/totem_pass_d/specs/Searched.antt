@@ -70,13 +70,13 @@ IsLater run c sender earlier i (f ∷ rest) = At f (λ p j. (i < j) × ((later :
 pub record TellsMember (run : List Log) (log : List Entry) (i q : ℕ) (test : Bool) : Type 0 where
   pub each : (x : ConfId) → Names log i x → IsTrue test ↔ IsMember run x q
 
--- if p delivers something at j, the process of the stay does not deliver it in c itself
-pub record IsApart (run : List Log) (c : RingId) (p : ℕ) (stay : Stay) (j : ℕ) : Type 0 where
-  pub never : (n : MsgId) (k : ℕ) → DeliversIn (log_of run p) c n j → k < stay.turn → DeliversIn (log_of run stay.proc) c n k → ⊥
+-- if p delivers something at j, q does not deliver it before until
+pub record IsApart (run : List Log) (c : RingId) (p q until j : ℕ) : Type 0 where
+  pub never : (n : MsgId) (k : ℕ) → DeliversIn (log_of run p) c n j → k < until → DeliversIn (log_of run q) c n k → ⊥
 
--- the process of the stay does not deliver in c itself anything that p delivers after i
-pub record IsBeyond (run : List Log) (c : RingId) (p : ℕ) (stay : Stay) (i : ℕ) : Type 0 where
-  pub each : (j : ℕ) → i < j → IsApart run c p stay j
+-- before until q does not deliver anything that p delivers after i
+pub record IsBeyond (run : List Log) (c : RingId) (p q until i : ℕ) : Type 0 where
+  pub each : (j : ℕ) → i < j → IsApart run c p q until j
 
 -- p delivers nothing after i that the process of the stay delivers at k
 pub record IsPassed (run : List Log) (c : RingId) (p : ℕ) (stay : Stay) (k i : ℕ) : Type 0 where
@@ -88,7 +88,7 @@ pub record HasPassed (run : List Log) (c : RingId) (p : ℕ) (stay : Stay) (end 
 
 -- indices after which p delivers nothing that the process of the stay delivers, in c itself and in what follows it
 pub record IsLast (run : List Log) (c : RingId) (p : ℕ) (stay : Stay) (last : Last) : Type 0 where
-  pub regular : IsBeyond run c p stay last.regular
+  pub regular : IsBeyond run c p stay.proc stay.turn last.regular
   pub following : HasPassed run c p stay stay.end last.following
 
 -- such indices for each stay

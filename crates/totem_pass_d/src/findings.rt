@@ -12,21 +12,15 @@ use std::alloc::{AllocError, Global};
 use totem_evs::Places;
 use totem_judge_traffic::Shown;
 
-/// The findings of one job: for each specification of the last pass the least events that break it in one regular
-/// configuration, or none if the run meets it there.
+/// The findings of one job: for each specification of the last pass the least events that break it in one regular configuration, or none
+/// if the run meets it there. `own` is of 3, `atomicity` of 4, `causality` of 5, `gap` of 6.3, `safety` of 7.1, `installed` of 7.2.
 #[derive(Debug, Drop)]
 pub struct Findings {
-    /// What breaks specification 3.
     pub own: Option<Places>,
-    /// What breaks specification 4.
     pub atomicity: Option<Places>,
-    /// What breaks specification 5.
     pub causality: Option<Places>,
-    /// What breaks specification 6.3.
     pub gap: Option<Places>,
-    /// What breaks specification 7.1.
     pub safety: Option<Places>,
-    /// What breaks specification 7.2.
     pub installed: Option<Places>,
 }
 

@@ -7,8 +7,8 @@ ghost use Rattle.totem_evs.specs.RingFaults.{BreaksGapIn, MeetsIn};
 ghost use Rattle.totem_evs.specs.Answers.{FindsIn};
 ghost use Rattle.totem_pass_d.specs.KnownStays.{AreKnown};
 ghost use Rattle.totem_pass_d.specs.Acts.{IsAmong};
-ghost use Rattle.totem_pass_d.specs.Search.{IsInside, IsOneEvent};
-ghost use Rattle.totem_pass_d.specs.Searched.{IsLater, IsApart, IsBeyond, IsPassed, HasPassed, IsLast, AreLasts, KeepsUp, AllKeepUp, IsLack};
+ghost use Rattle.totem_pass_d.specs.Search.{IsInside, IsOneEvent, NoneWithin};
+ghost use Rattle.totem_pass_d.specs.Searched.{IsLater, IsApart, IsBeyond, HasPassed, IsLast, AreLasts, KeepsUp, AllKeepUp, IsLack};
 
 use crate::search::{EachIndex, Finder, FoundList, Relation, first_found, least_found, only};
 use crate::stays::{Stay, Stays};
@@ -85,62 +85,44 @@ impl Relation for Later<'_, '_, '_> {
     }
 }
 
-/// The last indices of a leader's stay at which it delivers a message that a follower delivers in the regular configuration, and one that
-/// the follower delivers in what follows it.
+/// Indices of a leader's stay after which it delivers nothing that a follower delivers in the regular configuration, and nothing that the
+/// follower delivers in what follows it.
 #[derive(Clone, Copy)]
 struct Last {
     regular: usize,
     following: usize,
 }
 
-/// Returns whether the entry at this index of the leader's stay delivers a message that the follower delivers in the regular configuration.
-fn is_common(stays: &Stays, leader: &Stay, follower: &Stay, at: usize) -> bool
+/// Returns whether the entry at this index of the leader's stay delivers a message that the follower delivers before `until`.
+fn is_common(stays: &Stays, leader: &Stay, follower: &Stay, until: usize, at: usize) -> bool
     requires known { AreKnown stays.now }
     requires leader { IsAmong stays.now.list.items leader.now }
     requires follower { IsAmong stays.now.list.items follower.now }
     requires inside { IsInside leader.now at }
-    ensures { OnFalse result (IsApart stays.now.run.now.logs stays.now.ring leader.now.proc follower.now at) }
+    ensures { OnFalse result (IsApart stays.now.run.now.logs stays.now.ring leader.now.proc follower.now.proc until at) }
 {
     match stays.entry_in(leader, at) {
-        Entry::Deliver(message, _) => comes_before(stays, follower, message, follower.turn),
+        Entry::Deliver(message, _) => comes_before(stays, follower, message, until),
         _ => false,
     }
 }
 
-/// Returns an index after which the leader delivers nothing that the follower delivers in the regular configuration.
-fn last_regular(stays: &Stays, leader: &Stay, follower: &Stay) -> usize
+/// Returns an index after which the leader delivers nothing that the follower delivers before `until`.
+fn last_common(stays: &Stays, leader: &Stay, follower: &Stay, until: usize) -> usize
     requires known { AreKnown stays.now }
     requires leader { IsAmong stays.now.list.items leader.now }
     requires follower { IsAmong stays.now.list.items follower.now }
-    ensures { IsBeyond stays.now.run.now.logs stays.now.ring leader.now.proc follower.now result }
+    ensures { IsBeyond stays.now.run.now.logs stays.now.ring leader.now.proc follower.now.proc until result }
 {
     let mut next = leader.end;
     'back: while leader.from + 1 < next {
         let at = next - 1;
-        if is_common(stays, leader, follower, at) {
+        if is_common(stays, leader, follower, until, at) {
             return at;
         }
         next = at;
     }
     leader.from
-}
-
-/// Returns the later of this index and the one at which the leader delivers what the entry at an index of the follower's stay delivers.
-fn later_delivery(stays: &Stays, leader: &Stay, follower: &Stay, at: usize, last: usize) -> usize
-    requires known { AreKnown stays.now }
-    requires leader { IsAmong stays.now.list.items leader.now }
-    requires follower { IsAmong stays.now.list.items follower.now }
-    requires inside { IsInside follower.now at }
-    ensures further { last ≤ result }
-    ensures passed { IsPassed stays.now.run.now.logs stays.now.ring leader.now.proc follower.now at result }
-{
-    let Entry::Deliver(message, _) = stays.entry_in(follower, at) else {
-        return last;
-    };
-    match stays.delivery_of(leader, message) {
-        Some(there) => there.max(last),
-        None => last,
-    }
 }
 
 /// Returns an index after which the leader delivers nothing that the follower delivers in what follows the regular configuration.
@@ -152,22 +134,47 @@ fn last_following(stays: &Stays, leader: &Stay, follower: &Stay) -> usize
 {
     let mut last = leader.from;
     for at in follower.turn..follower.end {
-        last = later_delivery(stays, leader, follower, at, last);
+        let Entry::Deliver(message, _) = stays.entry_in(follower, at) else {
+            continue;
+        };
+        last = last.max(stays.delivery_of(leader, message).unwrap_or(last));
     }
     last
 }
 
-/// Returns these last indices for each follower of the leader, in the order of the stays.
-fn lasts_of(alloc: Global, stays: &Stays, leader: &Stay) -> Result<Vec<Last>, AllocError>
+/// Returns the last indices of a follower: roughly, if the last one in either part will do for both.
+fn last_of(stays: &Stays, leader: &Stay, follower: &Stay, roughly: bool) -> Last
+    requires known { AreKnown stays.now }
+    requires leader { IsAmong stays.now.list.items leader.now }
+    requires follower { IsAmong stays.now.list.items follower.now }
+    ensures { IsLast stays.now.run.now.logs stays.now.ring leader.now.proc follower.now result }
+{
+    if roughly {
+        let common = last_common(stays, leader, follower, follower.end);
+        return Last {
+            regular: common,
+            following: common,
+        };
+    }
+    let regular = last_common(stays, leader, follower, follower.turn);
+    let following = last_following(stays, leader, follower);
+    Last { regular, following }
+}
+
+/// Returns the last indices of each follower, in the order of the stays.
+fn lasts_of(
+    alloc: Global,
+    stays: &Stays,
+    leader: &Stay,
+    roughly: bool,
+) -> Result<Vec<Last>, AllocError>
     requires known { AreKnown stays.now }
     requires among { IsAmong stays.now.list.items leader.now }
     ensures { IfOk result (λ lasts. AreLasts stays.now.run.now.logs stays.now.ring stays.now.list.items leader.now.proc lasts.items) }
 {
     let mut lasts = Vec::new(alloc);
     for follower in &stays.list {
-        let regular = last_regular(stays, leader, follower);
-        let following = last_following(stays, leader, follower);
-        lasts.push(Last { regular, following })?;
+        lasts.push(last_of(stays, leader, follower, roughly))?;
     }
     Ok(lasts)
 }
@@ -207,6 +214,24 @@ fn all_keep_up(stays: &Stays, leader: &Stay, lasts: &[Last], message: &MsgId, at
 {
     for (k, follower) in stays.list.iter().enumerate() {
         if !keeps_up(stays, leader, follower, lasts[k], message, at) {
+            return false;
+        }
+    }
+    true
+}
+
+/// Returns whether all followers keep up with each message that the leader delivers. Then no gap starts in its stay.
+fn always_keep_up(stays: &Stays, leader: &Stay, lasts: &[Last]) -> bool
+    requires known { AreKnown stays.now }
+    requires among { IsAmong stays.now.list.items leader.now }
+    requires lasts { AreLasts stays.now.run.now.logs stays.now.ring stays.now.list.items leader.now.proc lasts.now }
+    ensures { OnTrue result (NoneWithin IsInside (BreaksGapIn stays.now.run.now.logs stays.now.ring) leader.now) }
+{
+    for at in leader.from + 1..leader.end {
+        let Entry::Deliver(message, _) = stays.entry_in(leader, at) else {
+            continue;
+        };
+        if !all_keep_up(stays, leader, lasts, message, at) {
             return false;
         }
     }
@@ -259,7 +284,11 @@ impl Finder for Gaps<'_, '_> {
     ghost holds = { λ g. BreaksGapIn g.stays.now.run.now.logs g.stays.now.ring };
 
     fn find_in(&self, alloc: Global, stay: &Stay) -> FoundList {
-        let lasts = lasts_of(alloc, self.stays, stay)?;
+        let rough = lasts_of(alloc, self.stays, stay, true)?;
+        if always_keep_up(self.stays, stay, &rough) {
+            return Ok(None);
+        }
+        let lasts = lasts_of(alloc, self.stays, stay, false)?;
         for at in stay.from + 1..stay.end {
             if let Some(rest) = self.rest_at(alloc, stay, &lasts, at)? {
                 return Ok(Some(begin_at(stay.proc, at, rest)?));

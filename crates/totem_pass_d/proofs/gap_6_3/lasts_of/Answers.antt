@@ -7,7 +7,7 @@ use Rattle.totem_pass_d.proofs.gap_6_3.lasts_of.Goals as goal
 pub loop-follower-preserved : goal.loop-follower-preserved
 loop-follower-preserved c =
     let at = slice_get_read c.deref-follower-items.result.now _ c.loop-follower.follower-index c.follower-item.result refl c.loop-follower-test.true c.follower-item.is in
-    rw c.in_ok-push.ensures.items (along_more _ _ _ _ c.follower-item.result _ (rw c.deref-follower-items.ensures.value at at) (record { regular = c.last_regular-regular.ensures; following = c.last_following-following.ensures }) c.loop-follower.invariant)
+    rw c.in_ok-push.ensures.items (along_more _ _ _ _ c.follower-item.result _ (rw c.deref-follower-items.ensures.value at at) c.last_of.ensures c.loop-follower.invariant)
 
 pub returns : goal.returns
 returns c =

@@ -2,7 +2,7 @@ use Rattle.std.proofs.Common.{[]}
 use Rattle.totem_evs.specs.declared.spec.SpecNo.TheVariants as spec
 use Rattle.std.proofs.lemmas.Result.{IfOk-weaker}
 use Rattle.totem_pass_ab.proofs.Passes.{lists_then}
-use Rattle.totem_pass_ab.proofs.pass.pass_b_over.Goals as goal
+use Rattle.totem_pass_ab.proofs.pass.pass_b_of.Goals as goal
 
 pub returns : goal.returns
 returns c = IfOk-weaker c.with_found.result _ _ (λ list is. lists_then _ [] spec.Unsent _ list.items _ is c.in_ok-unsent.ensures c.new.ensures.items) c.with_found.ensures
