@@ -189,8 +189,8 @@ def broken_at_the_end(kind):
 
 
 def skips(rng, entries):
-    """Three members that part before they deliver anything: 1 and 3 deliver all messages, 2 none of 3 and not its own last one but one, so
-    that 6.3 is broken at the end of one long transitional configuration."""
+    """Three members that part before they deliver anything. 1 and 3 deliver all messages; 2 delivers what it sent itself, except the last
+    message but one. So 3, 5 and 6.3 are broken, at the end of one long transitional configuration."""
     messages = max(4, entries * 2 // 7)
     ring = Ring(rng, 4, [1, 2, 3], messages)
     ring.batches = [(3 if number % 2 and number + 1 < messages else 2, number, ["a"]) for number in range(1, messages + 1)]
@@ -217,7 +217,7 @@ FAMILIES = {
     "half": ("3 logs, one lags from the middle", one_stays_behind(3, 0.5, "open")),
     "alone": ("2 logs that fail, each delivers its own", each_for_itself),
     "gap": ("6.3 broken at the end", broken_at_the_end("6.3")),
-    "skips": ("6.3 broken at the end of a long transitional configuration", skips),
+    "skips": ("3, 5 and 6.3 broken at the end of a long transitional configuration", skips),
     "atomicity": ("4 broken at the end", broken_at_the_end("4")),
     "safety": ("7.1 broken at the end", broken_at_the_end("7.1")),
 }

@@ -24,7 +24,7 @@ fn pass_a_of(alloc: Global, run: &Run, changes: &Changes) -> Result<Vec<Fault>, 
     with_found(forms, SpecNo::Turns, turns)
 }
 
-/// Pass B: the least event that breaks 1.3, if one does. It is made for runs that have passed A, which it judges in one walk.
+/// Pass B: the least event that breaks 1.3, if one does. It is made for runs that have passed A, and judges these in one walk.
 fn pass_b_of(alloc: Global, run: &Run, changes: &Changes) -> Result<Vec<Fault>, AllocError>
     requires { AreChanges run.now.logs changes.now.rows.items }
     ensures { IfOk result (λ faults. Lists run.now.logs pass_b faults.items) }

@@ -24,7 +24,7 @@ pub record AreMembersAt (log : List Entry) (i : ℕ) (members : List ℕ) : Type
   pub with : ChangesWith log change conf members
   pub named : (d : ConfId) → Names log i d → d ≡ conf
 
--- these are the members of the configuration that each entry from turn to end names
+-- these are the members, as above, at each index from turn on and before end
 pub record AreMembersAfter (log : List Entry) (turn end : ℕ) (members : List ℕ) : Type 0 where
   pub each : (i : ℕ) → turn ≤ i → i < end → AreMembersAt log i members
 

@@ -70,11 +70,11 @@ IsLater run c sender earlier i (f ∷ rest) = At f (λ p j. (i < j) × ((later :
 pub record TellsMember (run : List Log) (log : List Entry) (i q : ℕ) (test : Bool) : Type 0 where
   pub each : (x : ConfId) → Names log i x → IsTrue test ↔ IsMember run x q
 
--- if p delivers something at j, q does not deliver it before until
+-- if p delivers something at j, q does not deliver it before the index until
 pub record IsApart (run : List Log) (c : RingId) (p q until j : ℕ) : Type 0 where
   pub never : (n : MsgId) (k : ℕ) → DeliversIn (log_of run p) c n j → k < until → DeliversIn (log_of run q) c n k → ⊥
 
--- before until q does not deliver anything that p delivers after i
+-- before the index until q delivers nothing that p delivers after i
 pub record IsBeyond (run : List Log) (c : RingId) (p q until i : ℕ) : Type 0 where
   pub each : (j : ℕ) → i < j → IsApart run c p q until j
 
@@ -82,11 +82,12 @@ pub record IsBeyond (run : List Log) (c : RingId) (p q until i : ℕ) : Type 0 w
 pub record IsPassed (run : List Log) (c : RingId) (p : ℕ) (stay : Stay) (k i : ℕ) : Type 0 where
   pub never : (n : MsgId) (j : ℕ) → i < j → DeliversIn (log_of run p) c n j → DeliversIn (log_of run stay.proc) c n k → ⊥
 
--- p delivers nothing after i that the process of the stay delivers in what follows c, before end
+-- p delivers nothing after i that the process of the stay delivers from its turn on and before end
 pub record HasPassed (run : List Log) (c : RingId) (p : ℕ) (stay : Stay) (end i : ℕ) : Type 0 where
   pub each : (k : ℕ) → stay.turn ≤ k → k < end → IsPassed run c p stay k i
 
--- indices after which p delivers nothing that the process of the stay delivers, in c itself and in what follows it
+-- p delivers nothing after `regular` that the process of the stay delivers before its turn, and nothing after `following` that it
+-- delivers from its turn on
 pub record IsLast (run : List Log) (c : RingId) (p : ℕ) (stay : Stay) (last : Last) : Type 0 where
   pub regular : IsBeyond run c p stay.proc stay.turn last.regular
   pub following : HasPassed run c p stay stay.end last.following
@@ -96,15 +97,15 @@ pub record AreLasts (run : List Log) (c : RingId) (stays : List Stay) (p : ℕ) 
   pub long : length stays ≡ length lasts
   pub each : (k : ℕ) (stay : Stay) (last : Last) → slice_get stays k ≡ Some stay → slice_get lasts k ≡ Some last → IsLast run c p stay last
 
--- the process of the stay delivers n at k where the sender of m is a member, and p delivers n at j
+-- p delivers at j a message that the process of the stay delivers, in c or what follows it, where a sender of m is a member
 abbrev pub IsAhead : List Log → RingId → ℕ → MsgId → Stay → ℕ → Type 0
 IsAhead run c p m stay j = (n : MsgId) × (d x : ConfId) × (k s l : ℕ) × DeliversIn (log_of run p) c n j
     × Delivers (log_of run stay.proc) k n d × Com (log_of run stay.proc) c d × Sends (log_of run s) l m x × IsMember run d s
 
--- the process of the stay delivers m, or delivers nothing that p delivers after i where the sender of m is a member
+-- the process of the stay delivers m or, where a sender of m is a member, delivers nothing that p delivers after i
 abbrev pub KeepsUp : List Log → RingId → ℕ → MsgId → ℕ → Stay → Type 0
 KeepsUp run c p m i stay = HasDelivered (log_of run stay.proc) c m ⊎ ((j : ℕ) → i < j → IsAhead run c p m stay j → ⊥)
 
--- so does the process of each stay
+-- the process of each stay keeps up
 pub record AllKeepUp (run : List Log) (c : RingId) (stays : List Stay) (p : ℕ) (m : MsgId) (i : ℕ) : Type 0 where
   pub each : (stay : Stay) → IsAmong stays stay → KeepsUp run c p m i stay

@@ -85,8 +85,8 @@ impl Relation for Later<'_, '_, '_> {
     }
 }
 
-/// Indices of a leader's stay after which it delivers nothing that a follower delivers in the regular configuration, and nothing that the
-/// follower delivers in what follows it.
+/// Two indices of a leader's log: after `regular` the leader delivers nothing that a follower delivers in the regular configuration, and
+/// after `following` nothing that the follower delivers in what follows that.
 #[derive(Clone, Copy)]
 struct Last {
     regular: usize,
@@ -142,7 +142,7 @@ fn last_following(stays: &Stays, leader: &Stay, follower: &Stay) -> usize
     last
 }
 
-/// Returns the last indices of a follower: roughly, if the last one in either part will do for both.
+/// Returns these two indices for a follower. If `roughly`, both are that of the last message that the two have in common.
 fn last_of(stays: &Stays, leader: &Stay, follower: &Stay, roughly: bool) -> Last
     requires known { AreKnown stays.now }
     requires leader { IsAmong stays.now.list.items leader.now }
@@ -161,7 +161,7 @@ fn last_of(stays: &Stays, leader: &Stay, follower: &Stay, roughly: bool) -> Last
     Last { regular, following }
 }
 
-/// Returns the last indices of each follower, in the order of the stays.
+/// Returns these indices for each follower, in the order of the stays.
 fn lasts_of(
     alloc: Global,
     stays: &Stays,
@@ -179,8 +179,8 @@ fn lasts_of(
     Ok(lasts)
 }
 
-/// Returns whether the follower delivers the leader's message, or delivers nothing that the leader delivers after it where the sender of
-/// the message is a member.
+/// Returns `true` only if the follower delivers the leader's message or, where its sender is a member, delivers nothing that the leader
+/// delivers later.
 fn keeps_up(
     stays: &Stays,
     leader: &Stay,
@@ -206,7 +206,7 @@ fn keeps_up(
     }
 }
 
-/// Returns whether all followers keep up with the leader's message.
+/// Returns `true` only if all followers keep up with the leader's message.
 fn all_keep_up(stays: &Stays, leader: &Stay, lasts: &[Last], message: &MsgId, at: usize) -> bool
     requires known { AreKnown stays.now }
     requires lasts { AreLasts stays.now.run.now.logs stays.now.ring stays.now.list.items leader.now.proc lasts.now }
@@ -220,7 +220,7 @@ fn all_keep_up(stays: &Stays, leader: &Stay, lasts: &[Last], message: &MsgId, at
     true
 }
 
-/// Returns whether all followers keep up with each message that the leader delivers. Then no gap starts in its stay.
+/// Returns `true` only if all followers keep up with each message that the leader delivers. Then no gap starts in the leader's stay.
 fn always_keep_up(stays: &Stays, leader: &Stay, lasts: &[Last]) -> bool
     requires known { AreKnown stays.now }
     requires among { IsAmong stays.now.list.items leader.now }
@@ -284,6 +284,7 @@ impl Finder for Gaps<'_, '_> {
     ghost holds = { λ g. BreaksGapIn g.stays.now.run.now.logs g.stays.now.ring };
 
     fn find_in(&self, alloc: Global, stay: &Stay) -> FoundList {
+        // The rough look is cheaper, and mostly enough.
         let rough = lasts_of(alloc, self.stays, stay, true)?;
         if always_keep_up(self.stays, stay, &rough) {
             return Ok(None);

@@ -7,10 +7,10 @@ ghost use Rattle.totem_verdicts.specs.Report.{pending_line, waiting_line, yes_te
 use totem_evs::{Pending, Waiting};
 use totem_ids::{Failed, Pieces, Sink, Version, write_message, write_process};
 
-/// How many bytes the line of what is pending takes at most.
+/// No pending line takes more bytes.
 const WIDTH: usize = 63;
 
-/// Puts a line at once. Its end is written first, since the digits of a number come from the last to the first.
+/// Puts a pending line in one piece. Its end is written first, since the digits of a number come from the last to the first.
 fn put_pending<S: Sink>(
     pieces: &mut Pieces,
     sink: &mut S,
