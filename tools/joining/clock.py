@@ -4,18 +4,19 @@
     960.714 start 2:2
     961.300 conf r26.1"""
 import re
+from decimal import Decimal
 from typing import NamedTuple
 
 from joining.trouble import Refused
 
-LINE = re.compile(r'([0-9]+(?:\.[0-9]+)?) (?:(start|end) ([1-9][0-9]*):([1-9][0-9]*)|conf ([rt][0-9./]+))')
-NEVER = float('inf')
+LINE = re.compile(r'([0-9]{1,30}(?:\.[0-9]{1,30})?) (?:(start|end) ([1-9][0-9]{0,19}):([1-9][0-9]{0,4})|conf ([rt][0-9./]+))')
+ALWAYS, NEVER = Decimal('-Infinity'), Decimal('Infinity')
 
 
 class Note(NamedTuple):
     """A time, and the line of the file that has it."""
 
-    time: float
+    time: Decimal
     line: int
 
 
@@ -38,7 +39,7 @@ class Clock:
         found = LINE.fullmatch(line)
         if not found:
             self.refuse(number, 'a line is TIME start P:L, TIME end P:L or TIME conf CONFIGURATION')
-        note = Note(float(found[1]), number)
+        note = Note(Decimal(found[1]), number)
         if found[5]:
             known = self.changes.setdefault(found[5].encode(), note)
             if note.time < known.time:
@@ -55,21 +56,31 @@ class Clock:
         for life, note in self.ends.items():
             if life in self.starts and note.time < self.starts[life].time:
                 self.refuse(note.line, 'life %d:%d ends before it starts' % life)
-        for (process, life), note in self.starts.items():
-            for (other, earlier), before in [*self.starts.items(), *self.ends.items()]:
-                if other == process and earlier < life and note.time < before.time:
-                    self.refuse(note.line, 'life %d:%d starts before life %d:%d has started and ended' % (process, life, other, earlier))
+        for verb, notes in (('starts', self.starts), ('ends', self.ends)):
+            for (process, life), note in notes.items():
+                for (other, earlier), before in [*self.starts.items(), *self.ends.items()]:
+                    if other == process and earlier < life and note.time < before.time:
+                        self.refuse(note.line, 'life %d:%d %s before life %d:%d has started and ended' % (
+                            process, life, verb, other, earlier))
+
+    def lives_of(self, process):
+        """The lives of a process that the file names."""
+        return {life for other, life in [*self.starts, *self.ends] if other == process}
 
     def times_of(self, life):
-        """When a life ran: from its start to its end, or if that is not known to the start of the next one."""
-        later = [note.time for (process, other), note in self.starts.items() if process == life[0] and other > life[1]]
+        """Between which times a life ran, as far as the file says: from its start, or else after the lives before it, to its end, or else up to
+        the lives after it."""
+        notes = [*self.starts.items(), *self.ends.items()]
+        earlier = [note.time for (process, other), note in notes if process == life[0] and other < life[1]]
+        later = [note.time for (process, other), note in notes if process == life[0] and other > life[1]]
+        begin = self.starts[life].time if life in self.starts else max(earlier, default=ALWAYS)
         end = self.ends[life].time if life in self.ends else min(later, default=NEVER)
-        return self.starts[life].time, end
+        return begin, end
 
     def check_change(self, configuration, life):
         """Refuses the time of a configuration at which a life whose log changes to it did not run."""
         note = self.changes.get(configuration)
-        if not note or life not in self.starts:
+        if not note:
             return
         begin, end = self.times_of(life)
         if note.time < begin:
@@ -77,17 +88,15 @@ class Clock:
         if note.time > end:
             self.refuse(note.line, '%s is after the end of %d:%d, whose log changes to it' % (configuration.decode(), *life))
 
-    def life_at(self, process, configuration, came):
-        """The only life of a process that can have run when these lives changed to this configuration; None if it is not known."""
-        known = [self.times_of(life) for life in came if life in self.starts]
+    def lives_at(self, process, lives, configuration, came):
+        """Those of these lives of a process that can have run when the lives in `came` changed to this configuration."""
+        known = [self.times_of(life) for life in came]
         note = self.changes.get(configuration)
-        begin = note.time if note else max((begin for begin, _ in known), default=None)
+        begin = note.time if note else max((begin for begin, _ in known), default=ALWAYS)
         end = note.time if note else min((end for _, end in known), default=NEVER)
-        if begin is None:
-            return None
         those = []
-        for life in self.starts:
-            first, last = self.times_of(life)
-            if life[0] == process and first <= end and begin <= last:
-                those.append(life[1])
-        return those[0] if len(those) == 1 else None
+        for life in lives:
+            first, last = self.times_of((process, life))
+            if first <= end and begin <= last:
+                those.append(life)
+        return those

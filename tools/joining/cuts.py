@@ -83,12 +83,32 @@ def common_changes(logs):
     places = Places(logs)
     regular = {change.configuration: None for log in logs for change in log.changes if change.configuration.startswith(b'r')}
     cuts = [cut for cut in map(places.cut_at, regular) if cut]
-    cuts.sort(key=lambda cut: sum(cut.entries))
-    in_order = []
+    return sorted(cuts, key=lambda cut: sum(cut.entries))
+
+
+def in_a_row(cuts):
+    """Those of these cuts of which each one has more of the logs than the one before."""
+    row = []
     for cut in cuts:
-        if not in_order or _is_before(in_order[-1], cut):
-            in_order.append(cut)
-    return in_order
+        if not row or _is_before(row[-1], cut):
+            row.append(cut)
+    return row
+
+
+def torn_at(logs, cut):
+    """Why a cut is not a state in which the logs can have been together: a configuration to which one log changes before the cut, and one after
+    it. None if there is no such configuration."""
+    before = {}
+    for log, count in zip(logs, cut.changes):
+        for change in log.changes[:count]:
+            before.setdefault(change.configuration, (log, change))
+    for log, count in zip(logs, cut.changes):
+        for change in log.changes[count:]:
+            if change.configuration in before:
+                other, earlier = before[change.configuration]
+                return '%s is no place to cut: %s comes before it in %s (line %d), and after it in %s (line %d)' % (
+                    cut.configuration.decode(), change.configuration.decode(), other.name, earlier.before + 1, log.name, change.before + 1)
+    return None
 
 
 class Cutting:
@@ -98,7 +118,8 @@ class Cutting:
         self.logs = logs
         self.most = most
         self.life_of = life_of
-        self.cuts = common_changes(logs)
+        self.common = common_changes(logs)
+        self.cuts = in_a_row(self.common)
         self.begin = Cut(b'', (0,) * len(logs), (0,) * len(logs))
         self.end = Cut(b'', tuple(len(log.changes) for log in logs), tuple(log.entries for log in logs))
 
@@ -153,17 +174,13 @@ class Cutting:
         return 'no part fits between %s and %s, the next change of all that are still there: %s' % (
             begin.configuration.decode() or 'the beginning', end.configuration.decode() or 'the end', self.flaw(begin, end))
 
-    def tell_again(self, chosen):
-        """Reports configurations that come again in a later part, a defect that no single part shows."""
-        part_of, again = {}, []
-        for number, (begin, end) in enumerate(chosen, 1):
-            for index, log in enumerate(self.logs):
-                for change in log.changes[begin.changes[index]:end.changes[index]]:
-                    first = part_of.setdefault(change.configuration, number)
-                    if first != number:
-                        again.append('%s: changes to %s, which is also in part %d: a name came again, and no part shows it' % (
-                            log.name, change.configuration.decode(), first))
-        tell_each(again)
+    def rest(self, end):
+        """What a cut leaves out of each log."""
+        parts = []
+        for log, changes, kept in zip(self.logs, end.changes, end.entries):
+            if kept < log.entries:
+                parts.append(Part(log, _end_of(log, changes) if kept else 0, log.size, True))
+        return parts
 
     def all_up_to(self, end):
         """One part, from the beginning up to a cut."""
@@ -183,17 +200,28 @@ class Cutting:
                 parts.append(Part(log, start, log.size if end.entries[index] == log.entries else _end_of(log, last), is_last))
         return parts
 
-    def trimmed(self):
-        """The last common change. Reports what is left out after it."""
-        if not self.cuts:
+    def trimmed(self, changes):
+        """The last common change. Reports what is left out after it, and which endings change."""
+        if not self.common:
             raise Refused('there is no regular configuration to which all that are still there change')
-        end = self.cuts[-1]
+        end = self.common[-1]
+        torn = torn_at(self.logs, end)
+        if torn:
+            raise Refused(torn)
         name = end.configuration.decode()
-        for log, kept in zip(self.logs, end.entries):
+        for index, (log, kept) in enumerate(zip(self.logs, end.entries)):
             if not kept:
                 tell('%s: begins after %s, and is left out' % (log.name, name))
-            elif kept < log.entries:
+                changes.add('%s: left out' % log.name)
+                continue
+            if kept < log.entries:
                 tell('%s: entries left out after its change to %s: %d' % (log.name, name, log.entries - kept))
+                changes.add('%s, lines %d to %d: left out' % (log.name, kept + 1, log.entries))
+            if self._is_cut_through(index, end) and log.ending != 'open':
+                tell('%s: is open after its change to %s, and no longer %s' % (log.name, name, log.ending))
+                if log.added:
+                    changes.add('%s, end: left out: %s' % (log.name, log.added.decode().rstrip()))
+                log.end_as('open', changes)
         return end
 
 

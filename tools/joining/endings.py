@@ -1,15 +1,25 @@
 """How logs end: what the caller says about processes that failed, and about those that are quiet."""
+import re
+
 from joining.trouble import Refused, tell
 
+NAMED = re.compile(r'([1-9][0-9]{0,19})(?::([1-9][0-9]{0,19})(?:-([1-9][0-9]{0,19}))?)?')
+# More lives than this are not written as a range.
+MOST_LIVES = 65535
 
-def read_list(words):
-    """The processes, and their lives, that arguments such as 2,3:1 name."""
+
+def read_list(words, may_be_ranges=False):
+    """The processes, and their lives, that arguments such as 2,3:1 name; with ranges also 2:1-6."""
     named = []
     for word in ','.join(words).split(','):
-        process, colon, life = word.partition(':')
-        if not process.isdecimal() or (colon and not life.isdecimal()):
+        found = NAMED.fullmatch(word)
+        if not found or (found[3] and not may_be_ranges):
             raise Refused('%r is not a process: say 2, or 2:1 for life 1 of 2' % word)
-        named.append((int(process), int(life) if colon else None))
+        process, life = int(found[1]), int(found[2]) if found[2] else None
+        last = int(found[3] or found[2] or 0)
+        if last > MOST_LIVES:
+            raise Refused('%r: life %d is past %d' % (word, last, MOST_LIVES))
+        named += [(process, number) for number in range(life, last + 1)] if life else [(process, None)]
     return named
 
 
@@ -27,7 +37,7 @@ def logs_of(words, logs):
     return found
 
 
-def fail(logs, words):
+def fail(logs, words, changes):
     """Adds `fail` as the last entry of the logs of processes that are known to have failed."""
     for log in logs_of(words, logs):
         if log.ending == 'failed':
@@ -38,11 +48,12 @@ def fail(logs, words):
         if not log.last:
             raise Refused('%s changes to no configuration, so it can have failed in none' % log.name)
         log.added = b'fail %s\n' % log.last
-        log.ending = 'failed'
         tell('%s: fail %s is added' % (log.name, log.last.decode()))
+        changes.add('%s, end: fail %s is added' % (log.name, log.last.decode()))
+        log.end_as('failed', changes)
 
 
-def be_quiet(logs, words):
+def be_quiet(logs, words, changes):
     """Closes the logs that are known to be quiet; `all` are those that have not failed."""
     if 'all' in words:
         chosen = [log for log in logs if log.ending != 'failed']
@@ -53,4 +64,4 @@ def be_quiet(logs, words):
             raise Refused('%s ends with fail, and the call says that it is quiet' % log.name)
         if log.ending == 'open':
             tell('%s: is closed as quiet' % log.name)
-        log.ending = 'quiet'
+            log.end_as('quiet', changes)

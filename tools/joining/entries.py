@@ -1,6 +1,8 @@
 """Lines of a log: what an entry looks like (docs/SPECIFICATIONS.md, "Run text"), and what is wrong with a line that is not an entry."""
 import re
 
+from joining.trouble import shown
+
 MOST_PROCESS = 65535
 MOST_NUMBER = 4294967295
 MOST_MEMBERS = 32
@@ -8,8 +10,13 @@ MOST_LOGS = 32
 MOST_ENTRIES = 1000000
 
 
-# Numbers that are surely in range, also those of processes, and numbers of any size.
-SMALL, SMALL_PROCESS, ANY = rb'[1-9][0-9]{0,8}', rb'[1-9][0-9]{0,3}', rb'[1-9][0-9]{0,19}'
+# Numbers that are surely in range, also those of processes; numbers that are in range (up to MOST_NUMBER, up to MOST_PROCESS); numbers of
+# any size.
+SMALL, SMALL_PROCESS = rb'[1-9][0-9]{0,8}', rb'[1-9][0-9]{0,3}'
+NUMBER = rb'(?:[1-9][0-9]{0,8}|[1-3][0-9]{9}|4(?:[01][0-9]{8}|2(?:[0-8][0-9]{7}|9(?:[0-3][0-9]{6}|4(?:[0-8][0-9]{5}|9(?:[0-5][0-9]{4}|' \
+    rb'6(?:[0-6][0-9]{3}|7(?:[01][0-9]{2}|2(?:[0-8][0-9]|9[0-5])))))))))'
+PROCESS = rb'(?:[1-9][0-9]{0,3}|[1-5][0-9]{4}|6(?:[0-4][0-9]{3}|5(?:[0-4][0-9]{2}|5(?:[0-2][0-9]|3[0-5]))))'
+ANY = rb'[1-9][0-9]{0,19}'
 
 
 def _forms(ring_number, process, message_number, life):
@@ -19,15 +26,19 @@ def _forms(ring_number, process, message_number, life):
     message = ring + rb'#' + message_number
     member = process + rb'(?::' + life + rb')?'
     return rb'(?:dlv ' + configuration + rb' ' + message + \
-        rb'|send r' + ring + rb' [as] ' + message + \
+        rb'|send ' + configuration + rb' [as] ' + message + \
         rb'|conf ' + configuration + rb'(?: ' + member + rb')+' + \
         rb'|fail ' + configuration + rb')\n'
 
 
-# Lines whose numbers are surely in range: nearly all lines. The others are checked one by one. If processes and rings are
-# renumbered, theirs may have any size.
-PLAIN = re.compile(rb'(?:' + _forms(SMALL, SMALL_PROCESS, SMALL, SMALL_PROCESS) + rb')*')
-PLAIN_TO_NUMBER = re.compile(rb'(?:' + _forms(ANY, ANY, SMALL, SMALL_PROCESS) + rb')*')
+def _lines(*numbers):
+    return re.compile(rb'(?:' + _forms(*numbers) + rb')*')
+
+
+# Whole blocks of lines: first what nearly all lines are, then whatever is in range. Only lines that are neither are looked at one by one. If
+# processes and rings are renumbered, theirs may have any size.
+PLAIN = _lines(SMALL, SMALL_PROCESS, SMALL, SMALL_PROCESS), _lines(NUMBER, PROCESS, NUMBER, PROCESS)
+PLAIN_TO_NUMBER = _lines(ANY, ANY, SMALL, SMALL_PROCESS), _lines(ANY, ANY, NUMBER, PROCESS)
 # A line with numbers of any size.
 LARGE = re.compile(_forms(ANY, ANY, ANY, ANY))
 WITHOUT_MEMBERS = re.compile(rb'conf [rt][0-9./]+ *\n')
@@ -43,13 +54,6 @@ _EXAMPLES = {
     b'dlv': 'dlv r4.1 4.1#7',
     b'fail': 'fail r4.1',
 }
-
-
-def shown(line):
-    """A line for a person, shortened if it is long."""
-    text = line.rstrip(b'\n').decode('ascii', 'replace')
-    text = ''.join(letter if ' ' <= letter <= '~' else '?' for letter in text)
-    return text if len(text) <= 60 else text[:60] + '..'
 
 
 def _past(line):

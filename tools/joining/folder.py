@@ -40,6 +40,13 @@ class Log:
     changes: list = field(default_factory=list)
     # What an argument adds after its entries.
     added: bytes = b''
+    # When the file was last written, in nanoseconds.
+    written: int = 0
+
+    def end_as(self, ending, changes):
+        """Closes the log in another way."""
+        changes.add('%s, end: %s in place of %s' % (self.name, ending, self.ending))
+        self.ending = ending
 
     @property
     def who(self):
@@ -80,18 +87,21 @@ def _last_line_end(it, size):
 
 
 def measure(log):
-    """Finds where the entries of a log end, and whether it says that it is quiet."""
+    """Finds where the entries of a log end, and whether it says that it is quiet. Returns what was cut off behind its last line."""
     with open(log.path, 'rb') as it:
-        size = os.fstat(it.fileno()).st_size
+        status = os.fstat(it.fileno())
+        log.written, size = status.st_mtime_ns, status.st_size
         log.size = _last_line_end(it, size)
         if log.size < size:
             tell('%s: the last line was cut off, and is left out' % log.name)
-            return
+            it.seek(log.size)
+            return it.read(MOST_OF_A_LINE)
         claim = b'quiet\n'
         it.seek(max(0, size - len(claim) - 1))
         if it.read() in (claim, b'\n' + claim):
             log.size -= len(claim)
             log.ending = 'quiet'
+    return b''
 
 
 def _read_name(name, is_numbered_anew):
@@ -121,6 +131,9 @@ def find(folder, is_numbered_anew, adds_lives):
     names = sorted(name for name in os.listdir(folder) if name.endswith('.log'))
     if not names:
         raise Refused('%s has no file P.log or P.L.log' % folder)
+    others = sorted(name for name in os.listdir(folder) if '.log' in name and not name.endswith('.log'))
+    if others:
+        tell('not read, since their names do not end with .log: %s' % ', '.join(map(repr, others)))
     logs = []
     for name in names:
         process, life = _read_name(name, is_numbered_anew)
@@ -134,3 +147,10 @@ def find(folder, is_numbered_anew, adds_lives):
         for log in logs:
             log.life = log.life or 1
     return sorted(logs, key=lambda log: (log.process, log.life or 1))
+
+
+def tell_written(logs):
+    """Reports logs that were written since they were measured."""
+    for log in logs:
+        if os.stat(log.path).st_mtime_ns != log.written:
+            tell('%s was written while it was read: copy the files only after the processes have stopped' % log.name)

@@ -2,26 +2,43 @@
 from joining import endings
 from joining.clock import Clock
 from joining.scan import change_lines
-from joining.trouble import Refused, tell, tell_each
+from joining.trouble import Refused, some, tell, tell_each
 
 # How many unknown members one refusal lists.
 MOST_ASKED = 20
 
 
+def _listed(process, lives):
+    """A few lives of a process, for a person."""
+    names = ['%d:%d' % (process, life) for life in lives]
+    return ' or '.join(names if len(names) <= 6 else names[:4] + ['..', names[-1]])
+
+
+def _ranges(process, lives):
+    """Lives of a process as --absent takes them."""
+    ranges = []
+    for life in lives:
+        if ranges and ranges[-1][1] == life - 1:
+            ranges[-1][1] = life
+        else:
+            ranges.append([life, life])
+    return ','.join('%d:%d' % (process, first) + ('-%d' % last if last > first else '') for first, last in ranges)
+
+
 class Lives:
     """The life of each member of each configuration. It is that of the log which changes to the configuration. If none does, it is the
-    one that the caller names, the only one that there is, the one that was a member of the configuration just before or after, or the one
-    that ran at that time."""
+    one that the caller names, the one that was a member of the configurations just before and after, the only one that is possible, or the
+    only one that can have run at that time. `absent` are lives that have no log and were a member of no configuration."""
 
-    def __init__(self, logs, said=(), clock_file=None):
+    def __init__(self, logs, said=(), clock_file=None, absent=()):
         self.logs = logs
         self.known = {}
-        self.twice = []
         for log in logs:
             for change in log.changes:
-                self._came(log, change)
-        tell_each(self.twice)
+                self.known.setdefault(change.configuration, {}).setdefault(log.process, log.life)
         self.came = {configuration: dict(lives) for configuration, lives in self.known.items()}
+        self.clock = Clock(clock_file) if clock_file else None
+        self.possible = self._possible_lives(endings.read_list(absent, may_be_ranges=True) if absent else [])
         self.unknown = {}
         for log in logs:
             for change in log.changes:
@@ -29,87 +46,154 @@ class Lives:
                     if process not in self.known[change.configuration]:
                         self.unknown.setdefault((change.configuration, process), (log, change))
         self._say(said)
-        self._only_lives()
         self._neighbours()
-        if clock_file:
-            self._ask(Clock(clock_file))
+        self._only_lives()
+        if self.clock:
+            self._ask()
         if self.unknown:
             self._refuse()
+        self._tell_came()
 
-    def _came(self, log, change):
-        """A log changes to a configuration."""
-        lives = self.known.setdefault(change.configuration, {})
-        first = lives.setdefault(log.process, log.life)
-        if first != log.life:
-            self.twice.append('%s: lives %d and %d of process %d change to it: a ring came again' % (
-                change.configuration.decode(), first, log.life, log.process))
+    def _possible_lives(self, absent):
+        """For each process that has a log, the lives that a member may be: all from 1 to the greatest that there is, but for those that are said
+        to be absent."""
+        possible, absent = {}, set(absent)
+        for log in self.logs:
+            there = self._lives_of(log.process)
+            greatest = max(there | (self.clock.lives_of(log.process) if self.clock else set()))
+            possible[log.process] = [life for life in range(1, greatest + 1) if life in there or (log.process, life) not in absent]
+        for process, life in absent:
+            if life is None:
+                raise Refused('--absent %d: say which life of it, such as %d:1' % (process, process))
+            if life in self._lives_of(process):
+                raise Refused('--absent %d:%d: there is a log of it' % (process, life))
+        return possible
+
+    def _lives_of(self, process):
+        """The lives of a process that have a log."""
+        return {log.life for log in self.logs if log.process == process}
+
+    def _tell_came(self):
+        """Reports the lives that come from logs which change to the configurations, and lives without a log."""
+        single = [str(process) for process, lives in self.possible.items() if lives == [1]]
+        if single:
+            tell('life 1 is added to the members %s: no log is of another life of theirs' % ', '.join(single))
+        twice = []
+        for log in self.logs:
+            if self.possible[log.process] == [1]:
+                continue
+            names = list(dict.fromkeys(change.configuration for change in log.changes))
+            tell('%s: member %d is %d:%d where this log changes to the configuration: %d (%s)' % (
+                log.name, log.process, log.process, log.life, len(names), some(names)))
+            for name in names:
+                first = self.came[name][log.process]
+                if first != log.life:
+                    twice.append('%s: lives %d and %d of process %d change to it: a ring came again' % (
+                        name.decode(), first, log.life, log.process))
+        tell_each(twice)
+        members = {life for lives in self.known.values() for life in lives.items()}
+        for process, lost in self._lost():
+            lost = [life for life in lost if (process, life) not in members]
+            if lost:
+                tell('there is no log of %s: taken for a member of no configuration' % _listed(process, lost))
+
+    def _lost(self):
+        """The processes that have possible lives without a log, and these lives."""
+        for process, lives in self.possible.items():
+            lost = [life for life in lives if life not in self._lives_of(process)]
+            if lost:
+                yield process, lost
 
     def _learn(self, configuration, process, life, how):
         """Records the life of a member, which is now known."""
         self.known[configuration][process] = life
         del self.unknown[configuration, process]
-        if how:
-            tell('%s: member %d, which never came, is %d:%d: %s' % (configuration.decode(), process, process, life, how))
+        return '%s: member %d, which never came, is %d:%d: %s' % (configuration.decode(), process, process, life, how)
 
     def _say(self, said):
         """Takes what the caller says: r26.1=3:2."""
         for word in said:
             configuration, _, who = word.partition('=')
-            [(process, life)] = endings.read_list([who])
-            key = configuration.encode(), process
-            if key not in self.unknown or life is None:
+            named = endings.read_list([who])
+            key = configuration.encode('utf-8', 'replace'), named[0][0]
+            if key not in self.unknown or len(named) != 1 or named[0][1] is None:
                 raise Refused('--member %s: no member of a configuration whose life is unknown; say it as r26.1=3:2' % word)
-            self._learn(*key, life, 'the call says so')
-
-    def _lives_of(self, process):
-        return [log.life for log in self.logs if log.process == process]
+            tell(self._learn(*key, named[0][1], 'the call says so'))
 
     def _only_lives(self):
-        for configuration, process in list(self.unknown):
-            lives = self._lives_of(process)
-            if len(lives) == 1:
-                self._learn(configuration, process, lives[0], '')
+        """Takes the only life that is possible."""
+        tell_each([self._learn(configuration, process, self.possible[process][0], 'no log is of another life')
+                   for configuration, process in list(self.unknown) if len(self.possible.get(process, ())) == 1])
 
     def _neighbours(self):
-        """Takes over lives between neighbouring configurations: a process that goes on from one to the next is the same life in both."""
+        """Takes over lives from neighbouring configurations: a process that goes on from one to the next is the same life in both. Where the
+        neighbours of several unknown ones in a row say different lives, none is taken."""
         beside = {}
         wanted = {configuration for configuration, _ in self.unknown}
         for log in self.logs:
             for one, other in zip(log.changes, log.changes[1:]):
-                for this, that in ((one, other), (other, one)):
+                is_passed = one.configuration[:1] != other.configuration[:1]
+                for this, that in ((one, other), (other, one)) if is_passed else ():
                     if this.configuration in wanted:
                         beside.setdefault(this.configuration, set()).add(that.configuration)
-        learned = True
-        while learned:
-            learned = False
-            for configuration, process in list(self.unknown):
-                for other in sorted(beside.get(configuration, ())):
-                    life = self.known[other].get(process)
-                    if life is not None:
-                        self._learn(configuration, process, life, 'so it is in %s, next to it' % other.decode())
-                        learned = True
-                        break
+        lines, left = [], dict.fromkeys(self.unknown)
+        while left:
+            row, lives = self._row(next(iter(left)), beside)
+            for key in row:
+                left.pop(key)
+                if len(lives) == 1:
+                    [(life, other)] = lives.items()
+                    lines.append(self._learn(*key, life, 'so it is in %s, before or after it' % other.decode()))
+        tell_each(lines)
 
-    def _ask(self, clock):
+    def _row(self, first, beside):
+        """The unknown members that are joined to this one by neighbouring configurations, and the lives that their neighbours have, each with
+        a configuration where it is so."""
+        row, lives, process = {first: None}, {}, first[1]
+        todo = [first]
+        while todo:
+            configuration, _ = todo.pop()
+            for other in sorted(beside.get(configuration, ())):
+                key = other, process
+                if process in self.known[other]:
+                    lives.setdefault(self.known[other][process], other)
+                elif key in self.unknown and key not in row:
+                    row[key] = None
+                    todo.append(key)
+        return row, lives
+
+    def _ask(self):
         """Takes what the clock says."""
         for configuration, lives in self.came.items():
             for life in lives.items():
-                clock.check_change(configuration, life)
+                self.clock.check_change(configuration, life)
+        lines = []
         for configuration, process in list(self.unknown):
-            life = clock.life_at(process, configuration, self.came[configuration].items())
-            if life is not None:
-                self._learn(configuration, process, life, 'by the clock')
+            possible = self.possible.get(process) or sorted(self.clock.lives_of(process))
+            lives = self.clock.lives_at(process, possible, configuration, self.came[configuration].items())
+            if len(lives) == 1:
+                lines.append(self._learn(configuration, process, lives[0], 'by the clock'))
+        tell_each(lines)
 
     def _refuse(self):
         """Asks for the lives that are not known."""
         lines = []
         for (configuration, process), (log, change) in self.unknown.items():
-            lives = ' or '.join('%d:%d' % (process, life) for life in self._lives_of(process)) or 'there is no log of it'
+            lives = _listed(process, self.possible.get(process, ())) or 'there is no log of it'
             lines.append('%s, line %d: which life of %d is a member of %s? No log of it changes there: %s' % (
                 log.name, change.before + 1, process, configuration.decode(), lives))
         lines[MOST_ASKED:] = ['.. and %d more' % (len(lines) - MOST_ASKED)] if len(lines) > MOST_ASKED else []
         lines.append('Name each with --member CONFIGURATION=P:L, or give the times of the lives with --clock FILE')
+        lines += ['There is no log of %s: if it was a member of no configuration, say --absent %s' % (
+            _listed(process, lost), _ranges(process, lost))
+            for process, lost in self._lost() if any(process == other for _, other in self.unknown)]
         raise Refused('\n  '.join(lines))
+
+    def write(self, changes):
+        """Adds the life of each member of each configuration to the list of changes."""
+        for configuration, lives in self.known.items():
+            for process, life in sorted(lives.items()):
+                changes.add('%s: member %d is %d:%d' % (configuration.decode(), process, process, life))
 
     def of(self, log, configuration, process):
         """The life of a member in a change of this log: for the log's own process it is the log's life."""

@@ -51,7 +51,7 @@ class Numbers:
         """Looks first, in the next block, for the rings of this one."""
         self.recent = (there + sorted(found.difference(there)))[-MOST_RECENT:]
 
-    def settle(self, logs):
+    def settle(self, logs, changes):
         """Makes the tables, and reports them."""
         rings, processes = set(), {int(least) for least in self.leasts}
         for name in self.names:
@@ -67,8 +67,10 @@ class Numbers:
             number, _, process = name.partition(b'.')
             new = self.rings.get(int(number), int(number)), self.processes.get(int(process), int(process))
             self.new_names[name] = b'%d.%d' % new
-        lines = self.lines()
-        tell_each([line + (' becomes %d' % new) for line, new in lines] or ['no number is past what a run may have: none is changed'])
+        lines = ['%s becomes %d' % line for line in self.lines()]
+        for line in lines:
+            changes.add(line)
+        tell_each(lines or ['no number is past what a run may have: none is changed'])
 
     def lines(self):
         """What was renumbered, and the new number of each."""

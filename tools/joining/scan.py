@@ -1,7 +1,21 @@
 """Reads logs from their first line to their last: whether each line is an entry, how many there are, and where they change."""
+import re
+
 from joining import entries
 from joining.folder import Change, blocks, measure
-from joining.trouble import Refused, tell
+from joining.trouble import Refused, shown, tell
+
+
+# A ring number of ten digits, and how many of them are shortened.
+LONG_RING = re.compile(rb'[rt ]([1-4][0-9]{9})\.')
+MOST_LONG = 4
+
+
+def _shortened(block, number):
+    """The block with another number, of one digit, for this ring number."""
+    for before in (b'r', b't', b' '):
+        block = block.replace(before + number + b'.', before + b'1.')
+    return block
 
 
 def _refuse(log, line, what):
@@ -61,6 +75,24 @@ class Scan:
         self.sees = sees
         self.is_known = is_known
         self.plain = entries.PLAIN_TO_NUMBER if is_numbered_anew else entries.PLAIN
+        # Long ring numbers that are in range, which come again in nearly each line.
+        self.long = []
+
+    def _is_plain(self, block):
+        """Whether each line of a block is an entry. Long ring numbers that are in range are looked at once, and then shortened."""
+        small, whole = self.plain
+        for number in self.long:
+            block = _shortened(block, number)
+        for _ in range(MOST_LONG):
+            end = small.match(block).end()
+            if end == len(block):
+                return True
+            found = LONG_RING.search(block, end, block.find(b'\n', end) + 1)
+            if not found or self.is_numbered_anew or int(found[1]) > entries.MOST_NUMBER:
+                break
+            self.long = [found[1], *self.long[:MOST_LONG - 1]]
+            block = _shortened(block, found[1])
+        return whole.match(block).end() == len(block)
 
     def _take_changes(self, log, block, offset):
         """Takes note of the changes of a block, which begins at this offset."""
@@ -79,7 +111,7 @@ class Scan:
         """Reads one log."""
         offset, block = 0, b''
         for block in blocks(log.path, 0, log.size):
-            if not self.is_known and self.plain.match(block).end() != len(block):
+            if not self.is_known and not self._is_plain(block):
                 _check_lines(log, block, log.entries, self.is_numbered_anew)
             self._take_changes(log, block, offset)
             if self.sees:
@@ -91,14 +123,17 @@ class Scan:
                 _refuse(log, log.entries + 1, 'quiet comes after a failure')
             log.ending = 'failed'
 
-    def read_all(self, logs):
+    def read_all(self, logs, changes):
         """Reads all logs, and returns those that have an entry."""
         for log in logs:
-            measure(log)
+            cut_off = measure(log)
             self.read(log)
+            if cut_off:
+                changes.add('%s, line %d: left out: %s' % (log.name, log.entries + 1, shown(cut_off)))
         for log in logs:
             if not log.entries:
                 tell('%s has no entry, and is left out' % log.name)
+                changes.add('%s: left out' % log.name)
         with_entries = [log for log in logs if log.entries]
         if not with_entries:
             raise Refused('no log has an entry')

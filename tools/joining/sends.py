@@ -1,231 +1,144 @@
 """Moves sends that were recorded when the layer took the message: each goes to just before its sender's own delivery."""
 import os
-import re
-from typing import NamedTuple
+from collections import Counter
 
-from joining.folder import Log, blocks
+from joining.accounts import Account, pieces, regular_at
+from joining.folder import Log
 from joining.scan import Scan
-from joining.trouble import some, tell, tell_each
-
-SEND = re.compile(rb'send \S+ ([as]) (\S+)\n')
-DELIVERED = re.compile(rb'dlv \S+ (\S+)\n')
+from joining.trouble import MOST_TOLD, Refused, some, tell, tell_each
 
 
-class Segment(NamedTuple):
-    """What a log says from one change to the next. The part before the first change has no configuration."""
-
-    configuration: bytes
-    begin: int
-    end: int
-
-    @property
-    def is_regular(self):
-        """Whether messages may be sent in it."""
-        return self.configuration.startswith(b'r')
-
-
-def segments(log):
-    """The segments of a log, in their order."""
-    begins = [0] + [change.offset for change in log.changes] + [log.size]
-    names = [b''] + [change.configuration for change in log.changes]
-    return [Segment(*segment) for segment in zip(names, begins, begins[1:])]
-
-
-def pieces(log, of_log):
-    """The bytes of a log in pieces, each with the index of its segment."""
-    for index, segment in enumerate(of_log):
-        for block in blocks(log.path, segment.begin, segment.end):
-            yield index, block
-
-
-def regular_at(of_log, index):
-    """The index of the regular configuration in which a message delivered in this segment was sent, or None."""
-    for back in (index, index - 1):
-        if back >= 0 and of_log[back].is_regular:
-            return back
-    return None
-
-
-def sends_of(log):
-    """The messages that a log sends, in their order, with the service; with several letters if it sends one more than once."""
-    services = {}
-    for block in blocks(log.path, 0, log.size):
-        for service, name in SEND.findall(block):
-            services[name] = services.get(name, b'') + service
-    return services
-
-
-class Plan:
-    """Where the sends of a log go. Those that are not named here go before the own delivery."""
-
-    def __init__(self, log):
-        self.log = log
-        self.segments = segments(log)
-        # By the index of a segment, the messages whose sends go to its end.
-        self.at_end = {}
-        # Messages whose sends stay where they are, and those that are left out.
-        self.kept = set()
-        self.left_out = []
-        # Messages that this process never delivered.
-        self.missing = []
-
-    def put(self, name, index):
-        """Puts the send of this message at the end of this segment; without a segment it stays where it is."""
-        if index is None:
-            self.kept.add(name)
-        else:
-            self.at_end.setdefault(index, []).append(name)
-
-    def index_of(self, configuration):
-        """The index of the segment of a configuration, or None."""
-        for index, segment in enumerate(self.segments):
-            if configuration and segment.configuration == configuration:
-                return index
-        return None
-
-    def place_missing(self, delivered_in):
-        """Places the sends of messages that the process never delivered: at the end of the configuration in which others delivered them. If
-        nobody did, leaves them out."""
-        for name in self.missing:
-            if name in delivered_in:
-                self.put(name, self.index_of(delivered_in[name]))
-            else:
-                self.left_out.append(name)
-
-    def tell(self, count):
-        """Reports what was moved and what was left out; `count` sends are now before own deliveries."""
-        who = self.log.name
-        if count:
-            tell('%s: sends moved to just before their own deliveries: %d' % (who, count))
-        lines = []
-        for index, names in sorted(self.at_end.items()):
-            where = self.segments[index].configuration.decode()
-            lines.append('%s: sends moved to the end of %s, since it delivered the messages after it or not at all: %d (%s)'
-                         % (who, where, len(names), some(names)))
-        tell_each(lines)
-        if self.kept:
-            tell('%s: sends that stay where they are, since it was never in the configuration in which others delivered: %d (%s)' % (
-                who, len(self.kept), some(sorted(self.kept))))
-        if self.left_out:
-            tell('%s: sends that are left out, since nobody delivered the messages: %d (%s)' % (
-                who, len(self.left_out), some(self.left_out)))
-
-
-def delivered_in(plans, logs):
-    """For each message that others delivered and its sender never did, the regular configuration in which it was sent; an empty name if
-    the others were in none."""
-    missing = {name for plan in plans for name in plan.missing}
+def _delivered_in(accounts):
+    """For each message that others delivered and its sender never did, the regular configuration from which they delivered it; an empty name if
+    there is none."""
+    missing = {account.names[index] for account in accounts for index in account.missing}
     found = {}
-    if not missing:
-        return found
-    for log in logs:
-        of_log = segments(log)
-        for index, block in pieces(log, of_log):
-            for name in DELIVERED.findall(block):
-                if name in missing and not found.get(name):
-                    regular = regular_at(of_log, index)
-                    found[name] = of_log[regular].configuration if regular is not None else b''
-    return found
+    for account in accounts if missing else ():
+        for name, (_, segment) in account.deliveries(missing).items():
+            regular = regular_at(account.segments, segment)
+            if not found.get(name):
+                found[name] = account.segments[regular].configuration if regular is not None else b''
+    counts = Counter(name for account in accounts for name in account.names if name in missing) if missing else {}
+    return found, counts
 
 
 class Rewriting:
-    """A log that is rewritten by its plan. If it delivers a message of its own elsewhere than in a regular configuration, that message is
-    added to the plan. If there are such messages, or messages that it never delivers, the log is written a second time."""
+    """A log that is written with its sends in their places."""
 
-    def __init__(self, plan):
-        self.plan = plan
-        self.services = sends_of(plan.log)
-        gone = plan.kept.union(plan.left_out, *plan.at_end.values())
-        # The messages whose own deliveries have not come yet.
-        self.here = {name for name in self.services if name not in gone} if gone else set(self.services)
-        order = {name: place for place, name in enumerate(self.services)} if plan.at_end else {}
-        self.at_end = {index: sorted(names, key=order.get) for index, names in plan.at_end.items()}
-        self.count = 0
+    def __init__(self, account, changes):
+        self.account = account
+        self.changes = changes
+        self.moved = account.moved()
+        self.placed = sorted((account.places[index], index) for index in self.moved)
+        self.gone = sorted(account.lines[index] for index in [*self.moved, *account.left_out])
 
-    def lines_of(self, index, name):
-        """The sends of a message in a segment."""
-        configuration = self.plan.segments[index].configuration
-        return b''.join(b'send %s %c %s\n' % (configuration, service, name) for service in self.services[name])
+    def _line(self, index, segment):
+        account = self.account
+        return b'send %s %c %s\n' % (account.segments[segment].configuration, account.services[index], account.names[index])
 
-    def ending(self, index):
-        """The sends at the end of a segment."""
-        return b''.join(self.lines_of(index, name) for name in self.at_end.pop(index, ()))
+    def _moved_line(self, index):
+        return self._line(index, self.account.goals[index])
 
-    def without_sends(self, block):
-        """The block without the sends that move."""
-        kept = self.plan.kept
-        if not kept:
-            return SEND.sub(b'', block)
-        return SEND.sub(lambda found: found[0] if found[2] in kept else b'', block)
-
-    def own_deliveries(self, index, block):
-        """The lines of the block that deliver a message whose own delivery is still to come, each with that message."""
-        here = self.here
-        stripped = block.replace(b'dlv %s ' % self.plan.segments[index].configuration, b'')
-        if b'dlv ' in stripped:
-            names = [line[line.rfind(b' ') + 1:] for line in block.split(b'\n')]
-        else:
-            names = stripped.split(b'\n')
-        return [(at, name) for at, name in enumerate(names) if name in here]
-
-    def of(self, index, block):
-        """The piece of a segment, with the sends before their deliveries."""
-        block = self.without_sends(block)
-        lines = block.split(b'\n')
-        for at, name in self.own_deliveries(index, block):
-            if name not in self.here:
-                continue
-            self.here.discard(name)
-            if self.plan.segments[index].is_regular:
-                lines[at] = self.lines_of(index, name) + lines[at]
-                self.count += 1
-            else:
-                self.plan.put(name, regular_at(self.plan.segments, index))
-        if index in self.at_end and lines[-2:-1] and lines[-2].startswith(b'fail '):
-            lines[-2] = self.ending(index) + lines[-2]
-        return b'\n'.join(lines)
+    def _taken_line(self, index):
+        account = self.account
+        return self._line(index, account.goals[index] if index in account.late else account.inside[index])
 
     def write(self, path):
         """Writes the log into a file, and returns how many bytes it has."""
-        last = 0
+        line, gone, placed = 0, 0, 0
         with open(path, 'wb') as out:
-            for index, block in pieces(self.plan.log, self.plan.segments):
-                if index != last:
-                    out.write(self.ending(last))
-                    last = index
-                out.write(self.of(index, block))
-            out.write(self.ending(last))
+            for _, block in pieces(self.account.log, self.account.segments):
+                last = line + block.count(b'\n')
+                first_gone, first_placed = gone, placed
+                while gone < len(self.gone) and self.gone[gone] <= last:
+                    gone += 1
+                while placed < len(self.placed) and self.placed[placed][0] <= last:
+                    placed += 1
+                out.write(self._edited(block, line + 1, self.gone[first_gone:gone], self.placed[first_placed:placed]))
+                line = last
+            out.writelines(self._moved_line(index) for _, index in self.placed[placed:])
             return out.tell()
 
-    def is_settled(self):
-        """Whether the plan was known before the log was written."""
-        return not self.plan.at_end and not self.plan.kept
+    def _edited(self, block, first, gone, placed):
+        """A block, which begins with this line, without the lines that are gone, and with those that are placed there."""
+        if not gone and not placed:
+            return block
+        lines = block.splitlines(keepends=True)
+        for line in gone:
+            lines[line - first] = b''
+        for place, index in reversed(placed):
+            lines[place - first] = self._moved_line(index) + lines[place - first]
+        return b''.join(lines)
+
+    def list_changes(self):
+        """Adds each change to the list."""
+        account = self.account
+        for _, index in self.placed:
+            place, moved, taken = account.places[index], self._moved_line(index), self._taken_line(index)
+            where = 'just before line %d' % place if place <= account.log.entries else 'the end'
+            self.changes.add('%s, line %d: moved to %s, as %s: %s' % (
+                account.log.name, account.lines[index], where, moved[:-1].decode(), taken[:-1].decode()))
+        for index in sorted(account.left_out):
+            self.changes.add('%s, line %d: left out: %s' % (account.log.name, account.lines[index], self._taken_line(index)[:-1].decode()))
+
+    def tell(self):
+        """Reports what was moved, what was left out, and what stays."""
+        account, ends, inside, beyond = self.account, {}, [], []
+        for index in self.moved:
+            goal = account.goals[index]
+            if account.places[index] == account.end_of(goal):
+                ends.setdefault(goal, []).append(index)
+            else:
+                inside.append(index)
+            if goal > account.inside[index]:
+                beyond.append(index)
+        self._tell('sends moved to just before their own deliveries', inside)
+        tell_each([self._told('sends moved to the end of %s, since it delivered the messages after it or not at all' %
+                              account.segments[goal].configuration.decode(), indexes) for goal, indexes in sorted(ends.items())])
+        self._tell('sends that are now in a later configuration than the messages were taken in', beyond)
+        self._tell('sends moved back over a change, since the call says so', sorted(account.late))
+        self._tell('sends that are left out, since nobody delivered the messages', sorted(account.left_out))
+        reasons = {}
+        for index in sorted(account.stays):
+            reasons.setdefault(account.stays[index], []).append(index)
+        for why, indexes in reasons.items():
+            self._tell('sends that stay where they are, since %s' % why, indexes)
+
+    def _told(self, what, indexes):
+        names = [self.account.names[index] for index in indexes[:6]]
+        return '%s: %s: %d (%s)' % (self.account.log.name, what, len(indexes), some(names))
+
+    def _tell(self, what, indexes):
+        if indexes:
+            tell(self._told(what, indexes))
 
 
-def _first_writing(log, path):
-    """Writes a log as if each message were delivered by its sender in a regular configuration. Returns the rewriting, and the bytes."""
-    rewriting = Rewriting(Plan(log))
-    size = rewriting.write(path)
-    order = {name: place for place, name in enumerate(rewriting.services)} if rewriting.here else {}
-    rewriting.plan.missing = sorted(rewriting.here, key=order.get)
-    # What the log sends may be much, so it is found again when it is needed.
-    rewriting.services = None
-    return rewriting, size
+def _check_orders(accounts, is_order_unknown):
+    """Reports own deliveries in another order than the sends, and refuses them unless the call says that the order is unknown."""
+    swapped = [line for account in accounts for line in account.swapped][:MOST_TOLD]
+    count = sum(account.swaps for account in accounts)
+    if count > len(swapped):
+        swapped.append('.. and %d more' % (count - len(swapped)))
+    if swapped and not is_order_unknown:
+        raise Refused('\n  '.join([*swapped, 'If messages were not taken in the order of their send lines, say --own-order-unknown']))
+    for line in swapped:
+        tell(line)
 
 
-def move_sends(logs, folder, scan_words):
+def move_sends(logs, folder, scan_words, asked, changes):
     """Rewrites the logs into a folder, each send just before its sender's own delivery, and returns the logs there."""
-    paths = [os.path.join(folder, log.name) for log in logs]
-    writings = [_first_writing(log, path) for log, path in zip(logs, paths)]
-    places = delivered_in([rewriting.plan for rewriting, _ in writings], logs)
+    accounts = [Account(log, asked.late_sends) for log in logs]
+    places, counts = _delivered_in(accounts)
+    for account in accounts:
+        account.settle(places, counts, asked.own_order_unknown)
+    _check_orders(accounts, asked.own_order_unknown)
     moved = []
-    for log, path, (rewriting, size) in zip(logs, paths, writings):
-        rewriting.plan.place_missing(places)
-        if not rewriting.is_settled():
-            rewriting = Rewriting(rewriting.plan)
-            size = rewriting.write(path)
-        rewriting.plan.tell(rewriting.count)
-        new = Log(log.name, path, log.process, log.life, size=size, added=log.added)
+    for log, account in zip(logs, accounts):
+        path = os.path.join(folder, log.name)
+        rewriting = Rewriting(account, changes)
+        new = Log(log.name, path, log.process, log.life, size=rewriting.write(path), added=log.added)
+        rewriting.tell()
+        rewriting.list_changes()
         Scan(is_known=True, **scan_words).read(new)
         new.ending = log.ending
         moved.append(new)

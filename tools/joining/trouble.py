@@ -1,7 +1,9 @@
-"""Messages to the caller of the tool."""
+"""Messages to the caller of the tool, and the list of all changes."""
+import os
+import shutil
 import sys
 
-# How many lines are printed for one kind of change; of further ones only the count.
+# How many lines are printed for one kind of change; of further ones only the count. The list of changes has them all.
 MOST_TOLD = 20
 
 
@@ -10,12 +12,17 @@ class Refused(Exception):
 
 
 class WriteFailed(Exception):
-    """The output accepts no more."""
+    """The output accepts no more, or standard error: a run whose changes can't be told is not written."""
 
 
 def tell(text):
     """Reports on standard error what was changed or left out."""
-    print('logs: ' + text, file=sys.stderr)
+    try:
+        if sys.stderr is None:
+            raise OSError
+        print('logs: ' + text, file=sys.stderr, flush=True)
+    except OSError as error:
+        raise WriteFailed from error
 
 
 def tell_each(lines):
@@ -26,7 +33,36 @@ def tell_each(lines):
         tell('.. and %d more of the same kind' % (len(lines) - MOST_TOLD))
 
 
+def shown(line):
+    """A line for a person, shortened if it is long."""
+    text = line.rstrip(b'\n').decode('ascii', 'replace')
+    text = ''.join(letter if ' ' <= letter <= '~' else '?' for letter in text)
+    return text if len(text) <= 60 else text[:60] + '..'
+
+
 def some(names):
     """A few of these names, for a person."""
-    shown = ', '.join(name.decode() if isinstance(name, bytes) else name for name in names[:5])
-    return shown + (', ..' if len(names) > 5 else '')
+    first = ', '.join(name.decode() if isinstance(name, bytes) else name for name in names[:5])
+    return first + (', ..' if len(names) > 5 else '')
+
+
+class Changes:
+    """The list of all changes, one a line, for whoever wants to make the run from the logs by hand. It is gathered in a folder for temporary
+    files; without a path there is none."""
+
+    def __init__(self, path, working):
+        self.path = path
+        self.gathered = os.path.join(working, 'changes') if path else os.devnull
+        self.out = open(self.gathered, 'w', encoding='ascii', errors='replace')
+
+    def add(self, text):
+        """Adds a change."""
+        if self.path:
+            self.out.write(text + '\n')
+
+    def put_in_place(self):
+        """Writes the list to its path. Nothing else is written before that."""
+        self.out.close()
+        if self.path:
+            shutil.copyfile(self.gathered, self.path)
+            tell('all changes are written to %s' % self.path)

@@ -2,17 +2,18 @@
 import argparse
 import os
 import shutil
+import signal
 import sys
 import tempfile
 
-from joining import endings, folder, texts
+from joining import again, endings, folder, texts
 from joining.cuts import Cutting
 from joining.entries import MOST_ENTRIES, MOST_LOGS
 from joining.lives import Lives, add_lives
 from joining.numbers import Numbers
 from joining.scan import Scan
 from joining.sends import move_sends
-from joining.trouble import Refused, WriteFailed, tell
+from joining.trouble import Changes, Refused, WriteFailed, tell
 
 DESCRIPTION = """Makes one run from the logs of several processes:
 
@@ -34,8 +35,9 @@ and for logs that are too long for one run:
 
     tools/logs join --cut parts FOLDER; for part in parts/*.run; do ./totem audit < $part | head -n 1; done
 
-What is changed or left out is reported on standard error. The status is 0, or 1 if the logs can't be joined (then nothing is written), 4
-if the output fails, 64 for a usage error."""
+What is changed, inferred or left out is reported on standard error, a few of each kind by name; --changes FILE lists all. docs/OWN-LOGS.md,
+"What each option may change", says what each option can hide. The status is 0, or 1 if the logs can't be joined (then nothing is written), 4
+if the output or standard error fails, 64 for a usage error."""
 
 
 class Words(argparse.ArgumentParser):
@@ -61,9 +63,16 @@ def _add_words_of_join(join):
     join.add_argument('--clock', metavar='FILE',
                       help='with --lives: when lives began and ended, for members that never came. Lines are TIME start P:L, '
                       'TIME end P:L, TIME conf CONF')
+    join.add_argument('--absent', action='append', metavar='LIST',
+                      help='with --lives: these lives have no log and were a member of no configuration, as in 2:1 or 2:1-6')
     join.add_argument('--own-sends', action='store_true',
-                      help="move each send to just before its sender's own delivery: for logs in which a message counts as sent "
+                      help="move each send forward to just before its sender's own delivery: for logs in which a message counts as sent "
                       'when the layer takes it (the logs are rewritten into the folder for temporary files)')
+    join.add_argument('--own-order-unknown', action='store_true',
+                      help='with --own-sends: the layer may deliver the messages of a process in another order than that of their send lines')
+    join.add_argument('--late-sends', action='store_true',
+                      help='with --own-sends: a send line that was written when its sender delivered the message in a transitional '
+                      'configuration goes back to the end of the regular one before it')
     join.add_argument('--renumber', action='store_true',
                       help='renumber processes past 65535 and rings past 4294967295, in the same way in all logs')
     join.add_argument('--table', metavar='FILE', help='with --renumber: write which number became which')
@@ -74,6 +83,7 @@ def _add_words_of_join(join):
     join.add_argument('--trim', action='store_true',
                       help='leave out what comes after the last regular configuration to which all that are still there change: '
                       'for logs whose ends were lost')
+    join.add_argument('--changes', metavar='FILE', help='write a list of everything that is changed, inferred or left out')
 
 
 def read_words(words):
@@ -88,10 +98,14 @@ def read_words(words):
     asked = parser.parse_args(words)
     if not os.path.isdir(asked.folder):
         join.error('%s is not a folder' % asked.folder)
-    for word, needs in (('member', 'lives'), ('clock', 'lives'), ('table', 'renumber'), ('entries', 'cut')):
-        if getattr(asked, word) and not getattr(asked, needs):
-            join.error('--%s goes with --%s' % (word, needs))
-    if asked.cut and os.path.exists(asked.cut):
+    for word, needs in (('member', 'lives'), ('clock', 'lives'), ('absent', 'lives'), ('own_order_unknown', 'own_sends'),
+                        ('late_sends', 'own_sends'), ('table', 'renumber'), ('entries', 'cut')):
+        if getattr(asked, word) not in (None, False, []) and getattr(asked, needs) in (None, False):
+            join.error('--%s goes with --%s' % (word.replace('_', '-'), needs.replace('_', '-')))
+    for word in ('clock', 'table', 'cut', 'changes'):
+        if getattr(asked, word) == '':
+            join.error('--%s is empty' % word)
+    if asked.cut and os.path.lexists(asked.cut):
         join.error('%s is there already: --cut makes a new folder' % asked.cut)
     if asked.entries is not None and not 2 <= asked.entries <= MOST_ENTRIES:
         join.error('--entries is 2 to %d' % MOST_ENTRIES)
@@ -103,20 +117,24 @@ class Joining:
 
     def __init__(self, asked, working):
         self.asked = asked
+        self.changes = Changes(asked.changes, working)
         self.numbers = Numbers() if asked.renumber else None
         keeps = asked.lives or asked.own_sends or asked.renumber or asked.trim or bool(asked.cut)
         words = {'is_numbered_anew': asked.renumber, 'adds_lives': asked.lives, 'keeps_changes': keeps}
         found = folder.find(asked.folder, asked.renumber, asked.lives)
-        self.logs = Scan(sees=self.numbers.see if self.numbers else None, **words).read_all(found)
+        self.logs = Scan(sees=self.numbers.see if self.numbers else None, **words).read_all(found, self.changes)
+        self.read = self.logs
         if asked.failed:
-            endings.fail(self.logs, asked.failed)
+            endings.fail(self.logs, asked.failed, self.changes)
         if asked.quiet:
-            endings.be_quiet(self.logs, asked.quiet)
-        self.lives = Lives(self.logs, asked.member, asked.clock) if asked.lives else None
+            endings.be_quiet(self.logs, asked.quiet, self.changes)
+        self.lives = Lives(self.logs, asked.member, asked.clock, asked.absent) if asked.lives else None
+        if self.lives:
+            self.lives.write(self.changes)
         if asked.own_sends:
-            self.logs = move_sends(self.logs, working, words)
+            self.logs = move_sends(self.logs, working, words, asked, self.changes)
         if self.numbers:
-            self.numbers.settle(self.logs)
+            self.numbers.settle(self.logs, self.changes)
             if asked.table:
                 self.numbers.write_table(asked.table)
 
@@ -141,10 +159,13 @@ class Joining:
             self._check_limits()
             return [[texts.whole(log) for log in self.logs]]
         cutting = Cutting(self.logs, self.asked.entries or MOST_ENTRIES, self.life_of)
-        end = cutting.trimmed() if self.asked.trim else None
+        end = cutting.trimmed(self.changes) if self.asked.trim else None
         chosen = cutting.parts(end) if self.asked.cut else [cutting.all_up_to(end)]
-        cutting.tell_again(chosen)
-        return [cutting.of_part(*part) for part in chosen]
+        runs = [cutting.of_part(*part) for part in chosen]
+        called = ['part %d' % number for number in range(1, len(runs) + 1)] if self.asked.cut else ['the part that stays']
+        again.tell_configurations(self.logs, chosen, called)
+        again.tell_messages([*runs, cutting.rest(end)] if end else runs, [*called, 'the part that is left out'])
+        return runs
 
     def _check_limits(self):
         if len(self.logs) > MOST_LOGS:
@@ -155,19 +176,24 @@ class Joining:
                     log.name, log.entries, MOST_ENTRIES))
 
     def write(self):
-        """Writes the run, or the runs."""
+        """Writes the run, or the runs. The list of changes comes first."""
         runs = self.runs()
         version = max(map(texts.version_of, runs))
         number = self.numbers.process if self.numbers else lambda process: process
         steps = self.steps(version)
+        folder.tell_written(self.read)
+        self.changes.put_in_place()
         if self.asked.cut:
             self._write_parts(lambda out, parts: texts.write(out, version, parts, steps, number), runs)
             return
-        out = sys.stdout.buffer
         try:
-            texts.write(out, version, runs[0], steps, number)
-            out.flush()
+            if sys.stdout is None:
+                raise OSError
+            texts.write(sys.stdout.buffer, version, runs[0], steps, number)
+            sys.stdout.buffer.flush()
         except OSError as error:
+            if error.filename:
+                raise
             raise WriteFailed from error
 
     def _write_parts(self, write, runs):
@@ -187,21 +213,47 @@ class Joining:
             tell('%s: %d logs' % (os.path.join(self.asked.cut, 'part-%d.run' % number), len(parts)))
 
 
-def main(words):
-    """Does what the arguments ask for, and returns the status."""
-    asked = read_words(words)
+def _write_failed():
+    """Reports that a stream failed, if it can, and returns the status. Nothing more is written."""
+    try:
+        tell('write failed')
+    except WriteFailed:
+        pass
+    nowhere = os.open(os.devnull, os.O_WRONLY)
+    for stream in (sys.stdout, sys.stderr):
+        if stream is not None:
+            os.dup2(nowhere, stream.fileno())
+    return 4
+
+
+def _interrupt(*_):
+    """Treats a signal to end as an interrupt, so that no temporary file stays."""
+    raise KeyboardInterrupt
+
+
+def _join(asked):
+    """Joins the logs. Returns the status."""
     try:
         with tempfile.TemporaryDirectory() as working:
             Joining(asked, working).write()
     except Refused as refused:
         tell(str(refused))
         return 1
-    except WriteFailed:
-        tell('write failed')
-        sys.stderr.flush()
-        os.dup2(os.open(os.devnull, os.O_WRONLY), sys.stdout.fileno())
-        return 4
     except OSError as error:
         tell('%s: %s' % (error.filename, error.strerror))
         return 1
+    except KeyboardInterrupt:
+        tell('interrupted')
+        return 130
     return 0
+
+
+def main(words):
+    """Does what the arguments ask for, and returns the status."""
+    asked = read_words(words)
+    for number in (signal.SIGTERM, signal.SIGHUP):
+        signal.signal(number, _interrupt)
+    try:
+        return _join(asked)
+    except WriteFailed:
+        return _write_failed()

@@ -70,6 +70,12 @@ FOLDERS = {
     'numbers at their greatest': (
         '', {'65535.log': 'conf r4294967295.65535 65535\nsend r4294967295.65535 s 4294967295.65535#4294967295\n'},
         'totem-run 1\nlog 65535\nconf r4294967295.65535 65535\nsend r4294967295.65535 s 4294967295.65535#4294967295\nopen\nend\n', ''),
+    'a send in a transitional configuration': (
+        '', {'1.log': 'conf r4.1 1\nconf t8.1/1 1\nsend t8.1/1 a 4.1#1\n'},
+        'totem-run 1\nlog 1\nconf r4.1 1\nconf t8.1/1 1\nsend t8.1/1 a 4.1#1\nopen\nend\n', ''),
+    'a file whose name only looks like that of a log': (
+        '', {'1.log': 'conf r4.1 1\n', '1.log.1': 'conf r2.1 1\n', 'notes.txt': 'no log\n'},
+        'totem-run 1\nlog 1\nconf r4.1 1\nopen\nend\n', "logs: not read, since their names do not end with .log: '1.log.1'\n"),
     'a process that is known to have failed fails where it stood': (
         '--failed 2', {'1.log': 'conf r4.1 1 2\n', '2.log': 'conf r4.1 1 2\nconf t8.1/1 1 2\ndlv t8.1/1 4.'},
         'totem-run 1\nlog 1\nconf r4.1 1 2\nopen\nlog 2\nconf r4.1 1 2\nconf t8.1/1 1 2\nfail t8.1/1\nfailed\nend\n',
@@ -109,8 +115,6 @@ REFUSED = {
     'a line that begins well': (
         '', {'1.log': 'conf r4.1 1\nsend r4.1 4.1#1\nquiet\n'},
         'logs: 1.log, line 2: this is not an entry: send r4.1 4.1#1 (such as send '),
-    'a send in a transitional configuration is not an entry': (
-        '', {'1.log': 'conf r4.1 1\nsend t8.1/1 a 4.1#1\n'}, 'logs: 1.log, line 2: this is not an entry: send t8.1/1 a 4.1#1 '),
     'a change without members': (
         '', {'1.log': 'conf t4.1/1\n'},
         'logs: 1.log, line 1: a change must name its members: conf t4.1/1 (if it is the first callback of the layer, '),
@@ -212,17 +216,37 @@ def try_no_folder(_program):
 def try_help(_program):
     """The help explains each of the options."""
     came = join(['--help'], EXAMPLES)
-    words = (b'--failed', b'--quiet', b'--lives', b'--member', b'--clock', b'--own-sends', b'--renumber', b'--table', b'--cut',
-             b'--entries', b'--trim', b'tools/logs join FOLDER > my.run')
+    words = (b'--failed', b'--quiet', b'--lives', b'--member', b'--clock', b'--absent', b'--own-sends', b'--own-order-unknown', b'--late-sends',
+             b'--renumber', b'--table', b'--cut', b'--entries', b'--trim', b'--changes', b'tools/logs join FOLDER > my.run')
     return None if came.status == 0 and all(word in came.output for word in words) else 'came: %s' % came
 
 
-def try_full(_program):
-    """If the output accepts no more, the status says so."""
-    with open('/dev/full', 'wb') as full:
-        came = subprocess.run([TOOL, 'join', os.path.join(EXAMPLES, 'own-logs')], stdout=full, stderr=subprocess.PIPE,
-                              env=process.ENVIRONMENT, timeout=process.allowed(process.SECONDS), check=False)
-    return None if came.returncode == 4 and came.stderr.endswith(b'logs: write failed\n') else 'came: %s' % came
+def try_stream(number, path, _program):
+    """If the output or standard error accepts no more or is closed, the status says so, and no run is whole."""
+    file = os.open(path, os.O_RDWR) if path else None
+    came, _ = process.run([TOOL, 'join', os.path.join(EXAMPLES, 'own-logs')], others={number: file}, environment=os.environ)
+    if file is not None:
+        os.close(file)
+    is_told = number == 2 or came.errors.endswith(b'logs: write failed\n')
+    return None if came.status == 4 and is_told and not came.output else 'came: %s' % came
+
+
+def try_changes(_program):
+    """Everything that is changed, inferred or left out is in the list."""
+    files = {'1.1.log': 'conf r4.1 1 2\nsend r4.1 a 4.1#1\nsend r4.1 a 4.1#2\nconf t8.1/1 1\nconf r8.1 1\ndlv r8.1 4.1#1\nco',
+             '2.1.log': 'conf r2.2 2\n', '3.log': ''}
+    with tempfile.TemporaryDirectory() as folder:
+        write_files(folder, files)
+        path = os.path.join(folder, 'changes')
+        came = join(['--lives', '--own-sends', '--failed', '2', '--quiet', '1', '--changes', path], folder)
+        with open(path, encoding='ascii') as it:
+            lines = it.read()
+    wanted = '1.1.log, line 7: left out: co\n3.log: left out\n2.1.log, end: fail r2.2 is added\n2.1.log, end: failed in place of open\n' \
+        '1.1.log, end: quiet in place of open\nr4.1: member 1 is 1:1\nr4.1: member 2 is 2:1\nt8.1/1: member 1 is 1:1\nr8.1: member 1 is 1:1\n' \
+        'r2.2: member 2 is 2:1\n1.1.log, line 2: moved to just before line 6, as send r8.1 a 4.1#1: send r4.1 a 4.1#1\n' \
+        '1.1.log, line 3: left out: send r4.1 a 4.1#2\n'
+    is_right = came.status == 0 and lines == wanted and ('logs: all changes are written to %s\n' % path).encode() in came.errors
+    return None if is_right else 'came: %s, and %r' % (came, lines)
 
 
 def joined():
@@ -233,9 +257,12 @@ def joined():
     for what, (words, files, said) in REFUSED.items():
         yield what, partial(try_refused, words, files, said)
     yield 'logs that are too long', try_too_long
-    for words in ('--nothing', '--fail 1', '--clock times', '--member r4.1=1:1', '--table table', '--entries 5', '--cut /',
-                  '--cut /no/such/folder --entries 1'):
+    for words in ('--nothing', '--fail 1', '--clock times', '--member r4.1=1:1', '--absent 2:1', '--own-order-unknown', '--late-sends',
+                  '--table table', '--entries 5', '--cut /', '--cut /no/such/folder --entries 1', '--cut=', '--lives --clock=', '--changes='):
         yield 'the words %s' % words, partial(try_words, words)
     yield 'no folder', try_no_folder
     yield 'help', try_help
-    yield 'a full device', try_full
+    for number, name in ((1, 'output'), (2, 'standard error')):
+        yield 'a full device as %s' % name, partial(try_stream, number, '/dev/full')
+        yield 'a closed %s' % name, partial(try_stream, number, None)
+    yield 'all changes in a list', try_changes

@@ -5,113 +5,8 @@ from functools import partial
 
 from harness import process
 from parts.joined import EXAMPLES, join, join_files, try_folder, try_refused, write_files
-
-# Folders whose members get lives.
-LIVES = {
-    'the life whose log changes to the configuration': (
-        '--lives',
-        {'1.1.log': 'conf r4.1 1 2\nconf t8.1/1 1\nconf r8.1 1 2\n', '2.1.log': 'conf r4.1 1 2\nfail r4.1\n', '2.2.log': 'conf r8.1 1 2\n'},
-        'totem-run 2\nlog 1:1\nconf r4.1 1:1 2:1\nconf t8.1/1 1:1\nconf r8.1 1:1 2:2\nopen\n'
-        'log 2:1\nconf r4.1 1:1 2:1\nfail r4.1\nfailed\nlog 2:2\nconf r8.1 1:1 2:2\nopen\nend\n', ''),
-    'a file without a life is that of life 1': (
-        '--lives', {'1.log': 'conf r4.1 1 2\n', '2.log': 'conf r4.1 1 2\nquiet\n'},
-        'totem-run 3\nlog 1:1\nconf r4.1 1:1 2:1\nopen\nlog 2:1\nconf r4.1 1:1 2:1\nquiet\nend\n', ''),
-    'the only life that there is': (
-        '--lives', {'1.1.log': 'conf r4.1 1 2\n', '2.3.log': 'conf r5.2 2\n'},
-        'totem-run 2\nlog 1:1\nconf r4.1 1:1 2:3\nopen\nlog 2:3\nconf r5.2 2:3\nopen\nend\n', ''),
-    'the life that it is in the configuration before': (
-        '--lives',
-        {'1.1.log': 'conf r4.1 1 2\nconf t8.1/1 1 2\nconf r8.1 1 2\n', '2.1.log': 'conf r4.1 1 2\nfail r4.1\n', '2.2.log': 'conf r9.2 2\n'},
-        'totem-run 2\nlog 1:1\nconf r4.1 1:1 2:1\nconf t8.1/1 1:1 2:1\nconf r8.1 1:1 2:1\nopen\n'
-        'log 2:1\nconf r4.1 1:1 2:1\nfail r4.1\nfailed\nlog 2:2\nconf r9.2 2:2\nopen\nend\n',
-        'logs: t8.1/1: member 2, which never came, is 2:1: so it is in r4.1, next to it\n'
-        'logs: r8.1: member 2, which never came, is 2:1: so it is in t8.1/1, next to it\n'),
-    'the life that the call says': (
-        '--lives --member r4.1=2:2', {'1.log': 'conf r4.1 1 2\n', '2.1.log': 'conf r5.2 2\nfail r5.2\n', '2.2.log': 'conf r6.2 2\n'},
-        'totem-run 2\nlog 1:1\nconf r4.1 1:1 2:2\nopen\nlog 2:1\nconf r5.2 2:1\nfail r5.2\nfailed\nlog 2:2\nconf r6.2 2:2\nopen\nend\n',
-        'logs: r4.1: member 2, which never came, is 2:2: the call says so\n'),
-    'the life that ran when the configuration was changed to': (
-        '--lives --clock FOLDER/times',
-        {'1.log': 'conf r4.1 1 2\n', '2.1.log': 'conf r5.2 2\n', '2.2.log': 'conf r6.2 2\n',
-         'times': '1 start 2:1\n5 start 2:2\n6.5 conf r4.1\n'},
-        'totem-run 2\nlog 1:1\nconf r4.1 1:1 2:2\nopen\nlog 2:1\nconf r5.2 2:1\nopen\nlog 2:2\nconf r6.2 2:2\nopen\nend\n',
-        'logs: r4.1: member 2, which never came, is 2:2: by the clock\n'),
-    'the only life that ran beside that which changes to it': (
-        '--lives --clock FOLDER/times',
-        {'1.1.log': 'conf r4.1 1 2\nfail r4.1\n', '2.1.log': 'conf r5.2 2\n', '2.2.log': 'conf r6.2 2\n',
-         'times': '0 start 1:1\n1 start 2:1\n4 end 1:1\n4.5 end 2:1\n5 start 2:2\n'},
-        'totem-run 2\nlog 1:1\nconf r4.1 1:1 2:1\nfail r4.1\nfailed\nlog 2:1\nconf r5.2 2:1\nopen\nlog 2:2\nconf r6.2 2:2\nopen\nend\n',
-        'logs: r4.1: member 2, which never came, is 2:1: by the clock\n'),
-    'two lives that change to one configuration': (
-        '--lives', {'1.1.log': 'conf r4.1 1\nfail r4.1\n', '1.2.log': 'conf r4.1 1\n'},
-        'totem-run 2\nlog 1:1\nconf r4.1 1:1\nfail r4.1\nfailed\nlog 1:2\nconf r4.1 1:2\nopen\nend\n',
-        'logs: r4.1: lives 1 and 2 of process 1 change to it: a ring came again\n'),
-}
-TWO_LIVES = {'1.log': 'conf r3.1 1\nconf t4.1/1 1\nconf r4.1 1 2\n', '2.1.log': 'conf r5.2 2\n', '2.2.log': 'conf r6.2 2\n'}
-# Folders whose lives can't be found: the arguments, the files, and the messages.
-UNKNOWN = {
-    'a member of whom no life is known': (
-        '--lives', TWO_LIVES,
-        'logs: 1.log, line 3: which life of 2 is a member of r4.1? No log of it changes there: 2:1 or 2:2\n  Name each with --member '),
-    'a member without any log': ('--lives', {'1.log': 'conf r4.1 1 2\n'}, '1.log, line 1: which life of 2 is a member of r4.1? '
-                                 'No log of it changes there: there is no log of it\n'),
-    'a clock that does not tell': ('--lives --clock FOLDER/times', {**TWO_LIVES, 'times': '1 start 2:1\n'}, 'which life of 2 is a member'),
-    'a line of a clock that is none': (
-        '--lives --clock FOLDER/times', {**TWO_LIVES, 'times': '1 start 2:1\n2 begin 2:2\n'}, '/times, line 2: a line is TIME start '),
-    'a clock in which a life starts twice': (
-        '--lives --clock FOLDER/times', {**TWO_LIVES, 'times': '1 start 2:1\n2 start 2:1\n'},
-        '/times, line 2: life 2:1 has a start already, in line 1\n'),
-    'a clock in which a life ends before it starts': (
-        '--lives --clock FOLDER/times', {**TWO_LIVES, 'times': '2 start 2:1\n1 end 2:1\n'},
-        '/times, line 2: life 2:1 ends before it starts\n'),
-    'a clock in which lives run side by side': (
-        '--lives --clock FOLDER/times', {**TWO_LIVES, 'times': '2 start 2:1\n3 start 2:2\n4 end 2:1\n'},
-        '/times, line 2: life 2:2 starts before life 2:1 has started and ended\n'),
-    'a clock in which a life changes before it starts': (
-        '--lives --clock FOLDER/times', {**TWO_LIVES, 'times': '2 start 2:1\n1 conf r5.2\n'},
-        '/times, line 2: r5.2 is before the start of 2:1, whose log changes to it\n'),
-    'a clock in which a life changes behind its end': (
-        '--lives --clock FOLDER/times', {**TWO_LIVES, 'times': '2 start 2:1\n3 end 2:1\n4 conf r5.2\n'},
-        '/times, line 3: r5.2 is after the end of 2:1, whose log changes to it\n'),
-    'a member that the call names and is known': ('--lives --member r5.2=2:2', TWO_LIVES, 'logs: --member r5.2=2:2: '),
-    'members that have lives already': ('--lives', {'1.1.log': 'conf r4.1 1:1\n'}, '1.1.log, line 1: a member has a life already'),
-}
-
-ONE_OTHER = 'conf r4.1 1 2\ndlv r4.1 4.1#1\n'
-# Folders whose sends are moved to just before the own deliveries.
-SENDS = {
-    'a message that went out two configurations later': (
-        '--own-sends', {'1.log': 'conf r4.1 1\nsend r4.1 s 4.1#1\nconf t8.1/1 1\nconf r8.1 1\ndlv r8.1 4.1#1\n'},
-        'totem-run 1\nlog 1\nconf r4.1 1\nconf t8.1/1 1\nconf r8.1 1\nsend r8.1 s 4.1#1\ndlv r8.1 4.1#1\nopen\nend\n',
-        'logs: 1.log: sends moved to just before their own deliveries: 1\n'),
-    'a send that was recorded behind the delivery': (
-        '--own-sends', {'1.log': 'conf r4.1 1\ndlv r4.1 4.1#1\nsend r4.1 a 4.1#1\n'},
-        'totem-run 1\nlog 1\nconf r4.1 1\nsend r4.1 a 4.1#1\ndlv r4.1 4.1#1\nopen\nend\n',
-        'logs: 1.log: sends moved to just before their own deliveries: 1\n'),
-    'a delivery behind the transitional change': (
-        '--own-sends', {'1.log': 'conf r4.1 1\nsend r4.1 a 4.1#1\nsend r4.1 a 4.1#2\ndlv r4.1 4.1#1\nconf t8.1/1 1\ndlv t8.1/1 4.1#2\n'},
-        'totem-run 1\nlog 1\nconf r4.1 1\nsend r4.1 a 4.1#1\ndlv r4.1 4.1#1\nsend r4.1 a 4.1#2\nconf t8.1/1 1\ndlv t8.1/1 4.1#2\n'
-        'open\nend\n',
-        'logs: 1.log: sends moved to just before their own deliveries: 1\n'
-        'logs: 1.log: sends moved to the end of r4.1, since it delivered the messages after it or not at all: 1 (4.1#2)\n'),
-    'a send that was recorded behind the transitional change': (
-        '--own-sends', {'1.log': 'conf r4.1 1\nconf t8.1/1 1\nsend r4.1 a 4.1#1\ndlv t8.1/1 4.1#1\n'},
-        'totem-run 1\nlog 1\nconf r4.1 1\nsend r4.1 a 4.1#1\nconf t8.1/1 1\ndlv t8.1/1 4.1#1\nopen\nend\n',
-        'logs: 1.log: sends moved to the end of r4.1, since it delivered the messages after it or not at all: 1 (4.1#1)\n'),
-    'what a process that failed never delivered, and another one did': (
-        '--own-sends', {'1.log': 'conf r4.1 1 2\nsend r4.1 a 4.1#1\nsend r4.1 a 4.1#2\nfail r4.1\n', '2.log': ONE_OTHER},
-        'totem-run 1\nlog 1\nconf r4.1 1 2\nsend r4.1 a 4.1#1\nfail r4.1\nfailed\nlog 2\nconf r4.1 1 2\ndlv r4.1 4.1#1\nopen\nend\n',
-        'logs: 1.log: sends moved to the end of r4.1, since it delivered the messages after it or not at all: 1 (4.1#1)\n'
-        'logs: 1.log: sends that are left out, since nobody delivered the messages: 1 (4.1#2)\n'),
-    'what others delivered where the sender never was': (
-        '--own-sends', {'1.log': 'conf r3.1 1\nsend r3.1 a 4.1#1\n', '2.log': ONE_OTHER},
-        'totem-run 1\nlog 1\nconf r3.1 1\nsend r3.1 a 4.1#1\nopen\nlog 2\nconf r4.1 1 2\ndlv r4.1 4.1#1\nopen\nend\n',
-        'logs: 1.log: sends that stay where they are, since it was never in the configuration in which others delivered: 1 (4.1#1)\n'),
-    'a message that was sent twice stays so': (
-        '--own-sends', {'1.log': 'conf r4.1 1\nsend r4.1 a 4.1#1\nsend r4.1 s 4.1#1\ndlv r4.1 4.1#1\ndlv r4.1 4.1#1\n'},
-        'totem-run 1\nlog 1\nconf r4.1 1\nsend r4.1 a 4.1#1\nsend r4.1 s 4.1#1\ndlv r4.1 4.1#1\ndlv r4.1 4.1#1\nopen\nend\n',
-        'logs: 1.log: sends moved to just before their own deliveries: 1\n'),
-}
+from parts.lives import LIVES, UNKNOWN
+from parts.sends import SENDS, SWAPPED
 
 LARGE = 4294967300
 # Folders whose processes and rings are renumbered.
@@ -130,6 +25,8 @@ NUMBERS = {
         'logs: ring number %d becomes 1\n' % LARGE),
     'lives': (
         '--renumber --lives', {'70000.2.log': 'conf r5.70000 70000\n'}, 'totem-run 2\nlog 1:2\nconf r5.1 1:2\nopen\nend\n',
+        'logs: 70000.2.log: member 70000 is 70000:2 where this log changes to the configuration: 1 (r5.70000)\n'
+        'logs: there is no log of 70000:1: taken for a member of no configuration\n'
         'logs: process 70000 becomes 1\n'),
     'nothing that is past its range': (
         '--renumber', {'3.log': 'conf r9.3 3\n'}, 'totem-run 1\nlog 3\nconf r9.3 3\nopen\nend\n',
@@ -160,7 +57,23 @@ TRIMMED = {
         '--trim', LOST_TAIL,
         'totem-run 1\nlog 1\nconf r4.1 1 2\ndlv r4.1 4.1#1\nconf t8.1/1 1 2\nconf r8.1 1 2\nopen\n'
         'log 2\nconf r4.1 1 2\nsend r4.1 a 4.1#1\ndlv r4.1 4.1#1\nconf t8.1/1 1 2\nconf r8.1 1 2\nopen\nend\n',
-        'logs: 1.log: entries left out after its change to r8.1: 1\n'),
+        'logs: 1.log: entries left out after its change to r8.1: 1\n'
+        'logs: 1.log: is open after its change to r8.1, and no longer quiet\n'),
+    'quiet and failed logs that end there, and are open': (
+        '--trim', {'1.log': 'conf r4.1 1 2\nquiet\n', '2.log': 'conf r4.1 1 2\nfail r4.1\n'},
+        'totem-run 1\nlog 1\nconf r4.1 1 2\nopen\nlog 2\nconf r4.1 1 2\nopen\nend\n',
+        'logs: 1.log: is open after its change to r4.1, and no longer quiet\nlogs: 2.log: entries left out after its change to r4.1: 1\n'
+        'logs: 2.log: is open after its change to r4.1, and no longer failed\n'),
+    'a failure that the call adds, and that is left out': (
+        '--trim --failed 2', {'1.log': 'conf r4.1 1 2\n', '2.log': 'conf r4.1 1 2\n'},
+        'totem-run 1\nlog 1\nconf r4.1 1 2\nopen\nlog 2\nconf r4.1 1 2\nopen\nend\n',
+        'logs: 2.log: fail r4.1 is added\nlogs: 2.log: is open after its change to r4.1, and no longer failed\n'),
+    'a message that is sent again after the cut': (
+        '--trim', {'1.log': 'conf r4.1 1\nsend r4.1 a 4.1#1\ndlv r4.1 4.1#1\nconf t8.1/1 1\nconf r8.1 1\nsend r8.1 a 4.1#1\n'},
+        'totem-run 1\nlog 1\nconf r4.1 1\nsend r4.1 a 4.1#1\ndlv r4.1 4.1#1\nconf t8.1/1 1\nconf r8.1 1\nopen\nend\n',
+        'logs: 1.log: entries left out after its change to r8.1: 1\n'
+        'logs: 1.log: sends 4.1#1 in the part that is left out, and a log does so in the part that stays: a name came again, and no part shows '
+        'it\n'),
     'a process that failed is not waited for': (
         '--trim', {'1.log': 'conf r4.1 1 2\nconf t8.1/1 1\nconf r8.1 1\ndlv r8.1 8.1#1\n', '2.log': 'conf r4.1 1 2\nfail r4.1\n'},
         'totem-run 1\nlog 1\nconf r4.1 1 2\nconf t8.1/1 1\nconf r8.1 1\nopen\nlog 2\nconf r4.1 1 2\nfail r4.1\nfailed\nend\n',
@@ -173,6 +86,10 @@ TRIMMED = {
 NOT_CUT = {
     'no change in common': (
         '--trim', {'1.log': 'conf r4.1 1\n', '2.log': 'conf r5.2 2\n'}, 'logs: there is no regular configuration to which all'),
+    'a configuration before the last common change in one log, and after it in another': (
+        '--trim', {'1.log': 'conf r4.1 1 2\nconf t8.1/1 1 2\nconf r8.1 1 2\nconf t12.1/1 1 2\nconf r12.1 1 2\n',
+                   '2.log': 'conf r4.1 1 2\nconf t12.1/1 1 2\nconf r12.1 1 2\nconf t8.1/1 1 2\nconf r8.1 1 2\n'},
+        'logs: r12.1 is no place to cut: t8.1/1 comes before it in 1.log (line 2), and after it in 2.log (line 4)\n'),
     'a log that is too long between two common changes': (
         '--cut FOLDER/parts --entries 2', {'1.log': 'conf r4.1 1\ndlv r4.1 4.1#1\ndlv r4.1 4.1#2\n'},
         'logs: no part fits between r4.1 and the end, the next change of all that are still there: 1.log has 3 entries\n'),
@@ -277,7 +194,7 @@ def mended():
     for folders in (LIVES, SENDS, NUMBERS, TRIMMED):
         for what, (words, files, wanted, told) in folders.items():
             yield what, partial(try_folder, words, files, wanted, told)
-    for folders in (UNKNOWN, NOT_CUT):
+    for folders in (UNKNOWN, SWAPPED, NOT_CUT):
         for what, (words, files, said) in folders.items():
             yield what, partial(try_refused, words, files, said)
     yield 'cut at each common change', partial(try_cut, '--entries 5', THREE_RINGS, [FIRST, SECOND, THIRD], '')
@@ -290,7 +207,13 @@ def mended():
         try_cut, '--entries 3', {'1.log': 'conf r4.1 1\nconf t8.1/1 1\nconf r8.1 1\nconf t4.1/1 1\nconf r4.1 1\n'},
         ['totem-run 1\nlog 1\nconf r4.1 1\nconf t8.1/1 1\nconf r8.1 1\nopen\nend\n',
          'totem-run 1\nlog 1\nconf r8.1 1\nconf t4.1/1 1\nconf r4.1 1\nopen\nend\n'],
-        'logs: 1.log: changes to r4.1, which is also in part 1: a name came again, and no part shows it\n')
+        'logs: 1.log: changes to r4.1 in part 2, and a log does so in part 1: a name came again, and no part shows it\n')
+    yield 'a message that is sent again in another part', partial(
+        try_cut, '--entries 5', {'1.log': 'conf r4.1 1\nsend r4.1 a 4.1#1\ndlv r4.1 4.1#1\nconf t8.1/1 1\nconf r8.1 1\nsend r8.1 a 4.1#1\n'
+                                          'dlv r8.1 4.1#1\n'},
+        ['totem-run 1\nlog 1\nconf r4.1 1\nsend r4.1 a 4.1#1\ndlv r4.1 4.1#1\nconf t8.1/1 1\nconf r8.1 1\nopen\nend\n',
+         'totem-run 1\nlog 1\nconf r8.1 1\nsend r8.1 a 4.1#1\ndlv r8.1 4.1#1\nopen\nend\n'],
+        'logs: 1.log: sends 4.1#1 in part 2, and a log does so in part 1: a name came again, and no part shows it\n')
     for folder, (words, told) in ASKED.items():
         yield 'the folder %s' % folder, partial(try_asked, folder, words, told)
     yield 'parts that are judged', try_parts
