@@ -70,6 +70,8 @@ class Account:
         self.places, self.goals = array('Q'), array('Q')
         # By their indexes: those that stay and why; those of messages that this process never delivered; those that go back.
         self.stays, self.missing, self.late, self.left_out = {}, set(), set(), set()
+        # Those that go to the end of a configuration.
+        self.ends = set()
         # Own deliveries in another order than the sends: the first ones in words, and how many there are.
         self.swapped, self.swaps = [], 0
         named = self._read_sends()
@@ -123,7 +125,7 @@ class Account:
         elif named != self.segments[inside].configuration:
             if own and moves_late and self._is_late(index, named, own):
                 self.late.add(index)
-                self._go(index, self.end_of(inside - 1), inside - 1)
+                self._go_to_end(index, inside - 1)
             else:
                 why = ELSEWHERE
         elif own:
@@ -142,7 +144,10 @@ class Account:
             return NOWHERE
         if self.end_of(regular) <= self.lines[index]:
             return AFTER_CHANGE
-        self._go(index, line if regular == segment else self.end_of(regular), regular)
+        if regular == segment:
+            self.places[index], self.goals[index] = line, segment
+        else:
+            self._go_to_end(index, regular)
         return None
 
     def _is_late(self, index, named, own):
@@ -152,8 +157,9 @@ class Account:
         is_passed = before.is_regular and not self.segments[inside].is_regular
         return is_passed and named == before.configuration and own[1] == inside and own[0] > self.lines[index]
 
-    def _go(self, index, place, segment):
-        self.places[index], self.goals[index] = place, segment
+    def _go_to_end(self, index, segment):
+        self.ends.add(index)
+        self.places[index], self.goals[index] = self.end_of(segment), segment
 
     def end_of(self, segment):
         """The line before which the end of a segment is: a failure there, or else the next change."""
@@ -211,20 +217,21 @@ class Account:
         if not delivered_in[name] or not later:
             self.stays[index] = LEFT_BEFORE if delivered_in[name] and there else NEVER_THERE
         elif later[0] > inside:
-            self._go(index, self.end_of(later[0]), later[0])
+            self._go_to_end(index, later[0])
 
     def moved(self):
         """The indexes of the sends that get another line or another configuration, in their order. Those that come right before their place
-        already do not move."""
+        already do not move. (To be called once.)"""
         moved, place, free = [], 0, 0
         for index in reversed(range(len(self.lines))):
             if index in self.stays or index in self.left_out or self.places[index] == self.lines[index]:
                 continue
-            # The line before which the next one of this place is free of sends that stay right there.
+            # The line before which the next one of this place goes: before those that come right there already.
             free = free if self.places[index] == place else self.places[index]
             place = self.places[index]
             if self.lines[index] + 1 == free and self.goals[index] == self.inside[index]:
                 free = self.lines[index]
             else:
+                self.places[index] = free
                 moved.append(index)
         return moved[::-1]

@@ -42,6 +42,8 @@ class Log:
     added: bytes = b''
     # When the file was last written, in nanoseconds.
     written: int = 0
+    # If its sends were moved: the log as it is in its file.
+    source: 'Optional[Log]' = None
 
     def end_as(self, ending, changes):
         """Closes the log in another way."""

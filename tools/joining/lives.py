@@ -28,24 +28,26 @@ def _ranges(process, lives):
 class Lives:
     """The life of each member of each configuration. It is that of the log which changes to the configuration. If none does, it is the
     one that the caller names, the one that was a member of the configurations just before and after, the only one that is possible, or the
-    only one that can have run at that time. `absent` are lives that have no log and were a member of no configuration."""
+    only one that can have run at that time. `absent` are lives that have no log and were a member of no configuration; `files` are all logs, also
+    those without an entry."""
 
-    def __init__(self, logs, said=(), clock_file=None, absent=()):
+    def __init__(self, logs, files, asked):
         self.logs = logs
+        self.files = files
         self.known = {}
         for log in logs:
             for change in log.changes:
                 self.known.setdefault(change.configuration, {}).setdefault(log.process, log.life)
         self.came = {configuration: dict(lives) for configuration, lives in self.known.items()}
-        self.clock = Clock(clock_file) if clock_file else None
-        self.possible = self._possible_lives(endings.read_list(absent, may_be_ranges=True) if absent else [])
+        self.clock = Clock(asked.clock) if asked.clock else None
+        self.possible = self._possible_lives(endings.read_list(asked.absent, may_be_ranges=True) if asked.absent else [])
         self.unknown = {}
         for log in logs:
             for change in log.changes:
                 for process, _ in change.members:
                     if process not in self.known[change.configuration]:
                         self.unknown.setdefault((change.configuration, process), (log, change))
-        self._say(said)
+        self._say(asked.member)
         self._neighbours()
         self._only_lives()
         if self.clock:
@@ -58,7 +60,7 @@ class Lives:
         """For each process that has a log, the lives that a member may be: all from 1 to the greatest that there is, but for those that are said
         to be absent."""
         possible, absent = {}, set(absent)
-        for log in self.logs:
+        for log in self.files:
             there = self._lives_of(log.process)
             greatest = max(there | (self.clock.lives_of(log.process) if self.clock else set()))
             possible[log.process] = [life for life in range(1, greatest + 1) if life in there or (log.process, life) not in absent]
@@ -70,8 +72,8 @@ class Lives:
         return possible
 
     def _lives_of(self, process):
-        """The lives of a process that have a log."""
-        return {log.life for log in self.logs if log.process == process}
+        """The lives of a process that have a log, even if it has no entry."""
+        return {log.life for log in self.files if log.process == process}
 
     def _tell_came(self):
         """Reports the lives that come from logs which change to the configurations, and lives without a log."""

@@ -86,14 +86,14 @@ class Rewriting:
         account, ends, inside, beyond = self.account, {}, [], []
         for index in self.moved:
             goal = account.goals[index]
-            if account.places[index] == account.end_of(goal):
+            if index in account.ends:
                 ends.setdefault(goal, []).append(index)
             else:
                 inside.append(index)
             if goal > account.inside[index]:
                 beyond.append(index)
         self._tell('sends moved to just before their own deliveries', inside)
-        tell_each([self._told('sends moved to the end of %s, since it delivered the messages after it or not at all' %
+        tell_each([self._told('sends moved to the end of %s, or before a later send there, since it delivered the messages after it or not at all' %
                               account.segments[goal].configuration.decode(), indexes) for goal, indexes in sorted(ends.items())])
         self._tell('sends that are now in a later configuration than the messages were taken in', beyond)
         self._tell('sends moved back over a change, since the call says so', sorted(account.late))
@@ -136,7 +136,7 @@ def move_sends(logs, folder, scan_words, asked, changes):
     for log, account in zip(logs, accounts):
         path = os.path.join(folder, log.name)
         rewriting = Rewriting(account, changes)
-        new = Log(log.name, path, log.process, log.life, size=rewriting.write(path), added=log.added)
+        new = Log(log.name, path, log.process, log.life, size=rewriting.write(path), added=log.added, source=log)
         rewriting.tell()
         rewriting.list_changes()
         Scan(is_known=True, **scan_words).read(new)

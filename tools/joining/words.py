@@ -128,7 +128,7 @@ class Joining:
             endings.fail(self.logs, asked.failed, self.changes)
         if asked.quiet:
             endings.be_quiet(self.logs, asked.quiet, self.changes)
-        self.lives = Lives(self.logs, asked.member, asked.clock, asked.absent) if asked.lives else None
+        self.lives = Lives(self.logs, found, asked) if asked.lives else None
         if self.lives:
             self.lives.write(self.changes)
         if asked.own_sends:

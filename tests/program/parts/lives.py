@@ -89,6 +89,9 @@ UNKNOWN = {
         'No log of it changes there: 2:1 or 2:2 or 2:4 or 2:5 or .. or 2:9\n'
         '  Name each with --member CONFIGURATION=P:L, or give the times of the lives with --clock FILE\n'
         '  There is no log of 2:1 or 2:2 or 2:4 or 2:5 or .. or 2:8: if it was a member of no configuration, say --absent 2:1-2,2:4-8\n'),
+    'a life whose log has no entry': (
+        '--lives', {'1.log': 'conf r4.1 1 2\n', '2.1.log': 'conf r5.2 2\n', '2.2.log': ''},
+        'which life of 2 is a member of r4.1? No log of it changes there: 2:1 or 2:2\n'),
     'lives that differ before and after': (
         '--lives', {'1.log': 'conf r4.1 1 2\nconf t8.1/1 1 2\nconf r8.1 1 2\n', '2.1.log': 'conf r4.1 1 2\nfail r4.1\n',
                     '2.2.log': 'conf r8.1 1 2\n'},

@@ -152,6 +152,32 @@ def try_asked(folder, words, told, _program):
     return None if came == process.Answer(1, b'', told.encode()) else 'came: %s\n  wanted: %r' % (came, told)
 
 
+# Folders of the examples in which an option hides something: the arguments, and what is told of it (docs/OWN-LOGS.md).
+HIDDEN = {
+    'lost-last-life': ('--lives', 'logs: r12.1: member 2, which never came, is 2:1: no log is of another life\n'),
+    'lost-first-life': ('--lives --absent 2:1', 'logs: r4.1: member 2, which never came, is 2:2: no log is of another life\n'),
+    'another-life': ('--lives', 'logs: 2.2.log: member 2 is 2:2 where this log changes to the configuration: 1 (r4.1)\n'),
+    'taken-and-lost': ('--own-sends', 'logs: 1.log: sends that are left out, since nobody delivered the messages: 1 (4.1#1)\n'),
+    'sent-when-taken': ('--own-sends', 'logs: 1.log: sends that are now in a later configuration than the messages were taken in: 1 (4.1#33)\n'),
+    'sent-between-rings': ('--own-sends', 'logs: 1.log: sends that are now in a later configuration than the messages were taken in: 1 (8.1#1)\n'),
+    'gained-cause': ('--own-sends', 'logs: 1.log: sends moved to just before their own deliveries: 1 (4.1#2)\n'),
+    'own-order': ('--own-sends --own-order-unknown', 'logs: 1.log: sends 4.1#1 (line 2) and then 4.1#2 (line 3), and delivers the first one in '
+                  'line 5 and the second one in line 4\n'),
+    'sent-when-delivered-late': ('--own-sends --late-sends', 'logs: 1.log: sends moved back over a change, since the call says so: 1 (4.1#1)\n'),
+    'lost-tail': ('--trim', 'logs: 1.log: entries left out after its change to r8.1: 1\n'),
+    'sent-again': ('--cut FOLDER --entries 5',
+                   'logs: 1.log: sends 4.1#1 in part 2, and a log does so in part 1: a name came again, and no part shows it\n'),
+}
+
+
+def try_hidden(name, words, told, _program):
+    """A folder of the examples is joined, and this is told."""
+    with tempfile.TemporaryDirectory() as folder:
+        words = words.replace('FOLDER', os.path.join(folder, 'parts')).split()
+        came = join(words, os.path.join(EXAMPLES, 'logs', name))
+    return None if came.status == 0 and told.encode() in came.errors else 'came: %s\n  wanted: %r' % (came, told)
+
+
 def try_parts(program):
     """A folder of the examples is cut into two parts, each of which is a yes."""
     with tempfile.TemporaryDirectory() as folder:
@@ -216,6 +242,8 @@ def mended():
         'logs: 1.log: sends 4.1#1 in part 2, and a log does so in part 1: a name came again, and no part shows it\n')
     for folder, (words, told) in ASKED.items():
         yield 'the folder %s' % folder, partial(try_asked, folder, words, told)
+    for folder, (words, told) in HIDDEN.items():
+        yield 'what %s hides in %s' % (words, folder), partial(try_hidden, folder, words, told)
     yield 'parts that are judged', try_parts
     yield 'long logs', try_long
     yield 'a long table', try_table
