@@ -216,9 +216,8 @@ class Cutting:
                 continue
             if kept < log.entries:
                 tell('%s: entries left out after its change to %s: %d' % (log.name, name, log.entries - kept))
-                source = log.source or log
-                first = source.changes[end.changes[index] - 1].before + 2
-                changes.add('%s, lines %d to %d: left out' % (log.name, first, source.entries))
+                last = (log.source or log).changes[end.changes[index] - 1].before + 1
+                changes.add('%s, after line %d: left out' % (log.name, last))
             if self._is_cut_through(index, end) and log.ending != 'open':
                 tell('%s: is open after its change to %s, and no longer %s' % (log.name, name, log.ending))
                 if log.added:
