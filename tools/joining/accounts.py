@@ -6,11 +6,10 @@ from joining.folder import blocks
 from joining.trouble import MOST_TOLD
 
 class Segment(NamedTuple):
-    """What a log says from one change to the next. The part before the first change has no configuration. `first` is the line of the change
-    (or 1), `after` the first line after the segment."""
+    """What a log says from one change to the next. The part before the first change has no configuration. `end` is an offset of the file,
+    `first` the line of the change (or 1), `after` the first line after the segment."""
 
     configuration: bytes
-    begin: int
     end: int
     first: int
     after: int
@@ -23,17 +22,24 @@ class Segment(NamedTuple):
 
 def segments(log):
     """The segments of a log, in their order."""
-    begins = [0] + [change.offset for change in log.changes] + [log.size]
+    ends = [change.offset for change in log.changes] + [log.size]
     lines = [1] + [change.before + 1 for change in log.changes] + [log.entries + 1]
     names = [b''] + [change.configuration for change in log.changes]
-    return [Segment(*segment) for segment in zip(names, begins, begins[1:], lines, lines[1:])]
+    return [Segment(*segment) for segment in zip(names, ends, lines, lines[1:])]
 
 
 def pieces(log, of_log):
     """The bytes of a log in pieces, each with the index of its segment."""
-    for index, segment in enumerate(of_log):
-        for block in blocks(log.path, segment.begin, segment.end):
-            yield index, block
+    offset, index = 0, 0
+    for block in blocks(log.path, 0, log.size):
+        at = 0
+        while at < len(block):
+            while of_log[index].end <= offset + at:
+                index += 1
+            end = min(len(block), of_log[index].end - offset)
+            yield index, block[at:end]
+            at = end
+        offset += len(block)
 
 
 def regular_at(of_log, index):
