@@ -86,6 +86,12 @@ def _add_words_of_join(join):
     join.add_argument('--changes', metavar='FILE', help='write a list of everything that is changed, inferred or left out')
 
 
+def _is_log(path, folder):
+    """Whether a path is that of a file of the folder that may be a log."""
+    logs = [os.path.join(folder, name) for name in os.listdir(folder) if '.log' in name]
+    return os.path.exists(path) and any(os.path.samefile(path, log) for log in logs if os.path.exists(log))
+
+
 def read_words(words):
     """What the arguments ask for."""
     form = argparse.RawDescriptionHelpFormatter
@@ -105,6 +111,9 @@ def read_words(words):
     for word in ('clock', 'table', 'cut', 'changes'):
         if getattr(asked, word) == '':
             join.error('--%s is empty' % word)
+    for word in ('table', 'changes'):
+        if getattr(asked, word) and _is_log(getattr(asked, word), asked.folder):
+            join.error('--%s would overwrite %s' % (word, getattr(asked, word)))
     if asked.cut and os.path.lexists(asked.cut):
         join.error('%s is there already: --cut makes a new folder' % asked.cut)
     if asked.entries is not None and not 2 <= asked.entries <= MOST_ENTRIES:

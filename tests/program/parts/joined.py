@@ -201,7 +201,7 @@ def try_too_long(_program):
 
 def try_words(words, _program):
     """Usage errors get the usage."""
-    came = join(words.split(), EXAMPLES)
+    came = join(words.split(), os.path.join(EXAMPLES, 'own-logs'))
     is_right = (came.status, came.output) == (64, b'') and came.errors.startswith(b'usage: logs ')
     return None if is_right else 'came: %s' % came
 
@@ -258,7 +258,8 @@ def joined():
         yield what, partial(try_refused, words, files, said)
     yield 'logs that are too long', try_too_long
     for words in ('--nothing', '--fail 1', '--clock times', '--member r4.1=1:1', '--absent 2:1', '--own-order-unknown', '--late-sends',
-                  '--table table', '--entries 5', '--cut /', '--cut /no/such/folder --entries 1', '--cut=', '--lives --clock=', '--changes='):
+                  '--table table', '--entries 5', '--cut /', '--cut /no/such/folder --entries 1', '--cut=', '--lives --clock=', '--changes=',
+                  '--changes %s' % os.path.join(EXAMPLES, 'own-logs', '1.log')):
         yield 'the words %s' % words, partial(try_words, words)
     yield 'no folder', try_no_folder
     yield 'help', try_help
