@@ -7,6 +7,7 @@ import re
 from decimal import Decimal
 from typing import NamedTuple
 
+from joining.entries import MOST_LIFE
 from joining.trouble import Refused
 
 LINE = re.compile(r'([0-9]{1,30}(?:\.[0-9]{1,30})?) (?:(start|end) ([1-9][0-9]{0,19}):([1-9][0-9]{0,4})|conf ([rt][0-9./]+))')
@@ -46,6 +47,8 @@ class Clock:
                 self.changes[found[5].encode()] = note
             return
         life = int(found[3]), int(found[4])
+        if life[1] > MOST_LIFE:
+            self.refuse(number, 'life %d is past %d' % (life[1], MOST_LIFE))
         known = self.starts if found[2] == 'start' else self.ends
         if life in known:
             self.refuse(number, 'life %d:%d has a %s already, in line %d' % (*life, found[2], known[life].line))

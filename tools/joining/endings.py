@@ -1,11 +1,10 @@
 """How logs end: what the caller says about processes that failed, and about those that are quiet."""
 import re
 
+from joining.entries import MOST_LIFE
 from joining.trouble import Refused, tell
 
 NAMED = re.compile(r'([1-9][0-9]{0,19})(?::([1-9][0-9]{0,19})(?:-([1-9][0-9]{0,19}))?)?')
-# More lives than this are not written as a range.
-MOST_LIVES = 65535
 
 
 def read_list(words, may_be_ranges=False):
@@ -17,8 +16,8 @@ def read_list(words, may_be_ranges=False):
             raise Refused('%r is not a process: say 2, or 2:1 for life 1 of 2' % word)
         process, life = int(found[1]), int(found[2]) if found[2] else None
         last = int(found[3] or found[2] or 0)
-        if last > MOST_LIVES:
-            raise Refused('%r: life %d is past %d' % (word, last, MOST_LIVES))
+        if last > MOST_LIFE:
+            raise Refused('%r: life %d is past %d' % (word, last, MOST_LIFE))
         named += [(process, number) for number in range(life, last + 1)] if life else [(process, None)]
     return named
 

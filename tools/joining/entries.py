@@ -4,6 +4,7 @@ import re
 from joining.trouble import shown
 
 MOST_PROCESS = 65535
+MOST_LIFE = 65535
 MOST_NUMBER = 4294967295
 MOST_MEMBERS = 32
 MOST_LOGS = 32
@@ -76,8 +77,8 @@ def _past_always(line):
             return 'message number %d is past %d' % (int(message[1]), MOST_NUMBER)
     if line.startswith(b'conf '):
         for member in MEMBER.finditer(line, line.index(b' ', 5)):
-            if member[2] and int(member[2]) > MOST_PROCESS:
-                return 'life %d is past %d' % (int(member[2]), MOST_PROCESS)
+            if member[2] and int(member[2]) > MOST_LIFE:
+                return 'life %d is past %d' % (int(member[2]), MOST_LIFE)
     return None
 
 

@@ -4,7 +4,7 @@ import re
 from dataclasses import dataclass, field
 from typing import NamedTuple, Optional
 
-from joining.entries import MOST_PROCESS
+from joining.entries import MOST_LIFE, MOST_PROCESS
 from joining.trouble import Refused, tell
 
 NAME = re.compile(r'([1-9][0-9]{0,19})(?:\.([1-9][0-9]{0,19}))?\.log')
@@ -114,8 +114,8 @@ def _read_name(name, is_numbered_anew):
     process, life = int(found[1]), int(found[2]) if found[2] else None
     if process > MOST_PROCESS and not is_numbered_anew:
         raise Refused('%s: process %d is past %d; --renumber renumbers processes' % (name, process, MOST_PROCESS))
-    if life and life > MOST_PROCESS:
-        raise Refused('%s: life %d is past %d' % (name, life, MOST_PROCESS))
+    if life and life > MOST_LIFE:
+        raise Refused('%s: life %d is past %d' % (name, life, MOST_LIFE))
     return process, life
 
 
@@ -154,5 +154,14 @@ def find(folder, is_numbered_anew, adds_lives):
 def tell_written(logs):
     """Reports logs that were written since they were measured."""
     for log in logs:
-        if os.stat(log.path).st_mtime_ns != log.written:
+        written = os.stat(log.path).st_mtime_ns
+        if written != log.written:
+            log.written = written
             tell('%s was written while it was read: copy the files only after the processes have stopped' % log.name)
+
+
+def check_unwritten(logs):
+    """Refuses logs that were written since that report."""
+    for log in logs:
+        if os.stat(log.path).st_mtime_ns != log.written:
+            raise Refused('%s was written while the run was made from it: don\'t use what was made' % log.name)

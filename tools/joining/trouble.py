@@ -64,5 +64,6 @@ class Changes:
         """Writes the list to its path. Nothing else is written before that."""
         self.out.close()
         if self.path:
-            shutil.copyfile(self.gathered, self.path)
+            with open(self.gathered, 'rb') as it, open(self.path, 'wb') as out:
+                shutil.copyfileobj(it, out)
             tell('all changes are written to %s' % self.path)

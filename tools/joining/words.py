@@ -114,6 +114,8 @@ def read_words(words):
     for word in ('table', 'changes'):
         if getattr(asked, word) and _is_log(getattr(asked, word), asked.folder):
             join.error('--%s would overwrite %s' % (word, getattr(asked, word)))
+    if asked.changes and asked.table and os.path.realpath(asked.changes) == os.path.realpath(asked.table):
+        join.error('--changes and --table are one file')
     if asked.cut and os.path.lexists(asked.cut):
         join.error('%s is there already: --cut makes a new folder' % asked.cut)
     if asked.entries is not None and not 2 <= asked.entries <= MOST_ENTRIES:
@@ -200,6 +202,7 @@ class Joining:
                 raise OSError
             texts.write(sys.stdout.buffer, version, runs[0], steps, number)
             sys.stdout.buffer.flush()
+            folder.check_unwritten(self.read)
         except OSError as error:
             if error.filename:
                 raise
@@ -213,6 +216,7 @@ class Joining:
                 path = os.path.join(made, 'part-%d.run' % number)
                 with open(path, 'wb') as out:
                     write(out, parts)
+            folder.check_unwritten(self.read)
             os.chmod(made, 0o755)
             os.rename(made, self.asked.cut)
         except BaseException:

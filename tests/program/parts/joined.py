@@ -231,6 +231,22 @@ def try_stream(number, path, _program):
     return None if came.status == 4 and is_told and not came.output else 'came: %s' % came
 
 
+def try_written(_program):
+    """A log that is written while the run is made from it is reported, with status 1."""
+    with tempfile.TemporaryDirectory() as folder:
+        path, pipe = os.path.join(folder, '1.log'), os.path.join(folder, 'changes')
+        write_files(folder, {'1.log': 'conf r4.1 1\n' + 'dlv r4.1 4.1#1\n' * 20000})
+        os.mkfifo(pipe)
+        # The tool waits here, before it writes the run, until somebody reads its list of changes.
+        started = subprocess.Popen([TOOL, 'join', '--changes', pipe, folder], stdout=subprocess.PIPE, stderr=subprocess.PIPE, env=process.ENVIRONMENT)
+        with open(pipe, 'rb') as it:
+            os.utime(path, (1, 1))
+            it.read()
+        output, errors = started.communicate(timeout=process.allowed(process.SECONDS))
+    is_right = started.returncode == 1 and b'logs: 1.log was written while the run was made from it: ' in errors
+    return None if is_right else 'came: %s' % process.Answer(started.returncode, output, errors)
+
+
 def try_changes(_program):
     """Everything that is changed, inferred or left out is in the list."""
     files = {'1.1.log': 'conf r4.1 1 2\nsend r4.1 a 4.1#1\nsend r4.1 a 4.1#2\nconf t8.1/1 1\nconf r8.1 1\ndlv r8.1 4.1#1\nco',
@@ -259,6 +275,7 @@ def joined():
     yield 'logs that are too long', try_too_long
     for words in ('--nothing', '--fail 1', '--clock times', '--member r4.1=1:1', '--absent 2:1', '--own-order-unknown', '--late-sends',
                   '--table table', '--entries 5', '--cut /', '--cut /no/such/folder --entries 1', '--cut=', '--lives --clock=', '--changes=',
+                  '--renumber --table /tmp/one --changes /tmp/../tmp/one',
                   '--changes %s' % os.path.join(EXAMPLES, 'own-logs', '1.log')):
         yield 'the words %s' % words, partial(try_words, words)
     yield 'no folder', try_no_folder
@@ -267,3 +284,4 @@ def joined():
         yield 'a full device as %s' % name, partial(try_stream, number, '/dev/full')
         yield 'a closed %s' % name, partial(try_stream, number, None)
     yield 'all changes in a list', try_changes
+    yield 'a log that is written meanwhile', try_written

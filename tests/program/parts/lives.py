@@ -104,6 +104,8 @@ UNKNOWN = {
         'which life of 2 is a member of r4.1? No log of it changes there: 2:1 or 2:2\n'),
     'a line of a clock that is none': (
         '--lives --clock FOLDER/times', {**TWO_LIVES, 'times': '1 start 2:1\n2 begin 2:2\n'}, '/times, line 2: a line is TIME start '),
+    'a clock with a life past its range': (
+        '--lives --clock FOLDER/times', {**TWO_LIVES, 'times': '5 start 2:65536\n'}, '/times, line 1: life 65536 is past 65535\n'),
     'a clock in which a life starts twice': (
         '--lives --clock FOLDER/times', {**TWO_LIVES, 'times': '1 start 2:1\n2 start 2:1\n'},
         '/times, line 2: life 2:1 has a start already, in line 1\n'),
