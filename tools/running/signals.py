@@ -10,11 +10,20 @@ PR_SET_PDEATHSIG = 1
 _LIBC = ctypes.CDLL(None, use_errno=True)
 
 
+# Those that are ignored here (`nohup`, or a shell's background).
+_IGNORED = [number for number in ENDING if signal.getsignal(number) == signal.SIG_IGN]
+
+
 def on_ending(handler):
-    """Calls the handler at each signal that ends a tool, except those that are ignored here (`nohup`, or a shell's background)."""
+    """Calls the handler at each signal that ends a tool, except those that are ignored here."""
     for number in ENDING:
-        if signal.getsignal(number) != signal.SIG_IGN:
+        if number not in _IGNORED:
             signal.signal(number, handler)
+
+
+def end_as_usual():
+    """Lets these signals end the tool at once."""
+    on_ending(signal.SIG_DFL)
 
 
 def ignore_ending():
