@@ -78,7 +78,7 @@ class Scene:
             for number in closed:
                 os.close(number)
         return subprocess.Popen([os.path.join(self.top, name), *words], stdin=streams[0], stdout=streams[1], stderr=streams[2],
-                                env={**self.environment, **environment}, start_new_session=True, preexec_fn=before)
+                                cwd=self.top, env={**self.environment, **environment}, start_new_session=True, preexec_fn=before)
 
     def run(self, *words, **environment):
         """Runs the launcher to its end."""

@@ -8,9 +8,10 @@ from proving.telling import Unmade
 
 
 def _git(*words):
-    """What git prints, or None if it fails or is not there."""
+    """What git prints about the repository of this folder, whatever the environment says; or None if it fails or is not there."""
+    environment = {name: value for name, value in os.environ.items() if not name.startswith('GIT_')}
     try:
-        came = subprocess.run(['git', '-C', TOP, *words], stdin=subprocess.DEVNULL, stdout=subprocess.PIPE, stderr=subprocess.DEVNULL,
+        came = subprocess.run(['git', '-C', TOP, *words], env=environment, stdin=subprocess.DEVNULL, stdout=subprocess.PIPE, stderr=subprocess.DEVNULL,
                               check=False)
     except OSError:
         return None

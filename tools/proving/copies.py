@@ -15,10 +15,10 @@ Crate = namedtuple('Crate', 'name below size')
 
 def _lines(text):
     """The lines of a crates.txt, each with the crate that it is about and the crates that this one uses."""
-    for line in text.splitlines(keepends=True):
+    for line in text.split('\n'):
         name, colon, below = line.partition('#')[0].partition(':')
         if colon and name.split():
-            yield line, name.split()[0], below.split()
+            yield line + '\n', name.split()[0], below.split()
 
 
 def _needed(text, program):

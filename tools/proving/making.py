@@ -27,22 +27,27 @@ def _last_lines(path):
         return ''.join(it.readlines()[-LAST_LINES:])
 
 
+def _prove_told(crates, copies, progress, log, anew):
+    """Proves the copy; if that fails, prints the last lines of the prover, or how far it came."""
+    try:
+        return prove(crates, copies, progress, Log(log), anew)
+    except Unmade:
+        streams.say(_last_lines(log.name), end='')
+        raise
+    except KeyboardInterrupt:
+        tell('interrupted: %d of %d crates are proved, and the next call continues from there' % (len(progress.proved), len(crates)))
+        raise
+
+
 def _prove_logged(crates, copies, progress, path, anew):
     """Proves the copy, with all that the prover says in a file."""
-    with open(path, 'w', encoding='utf-8') as log:
-        try:
-            return prove(crates, copies, progress, Log(log), anew)
-        except Unmade:
-            streams.say(_last_lines(path), end='')
+    try:
+        with open(path, 'w', encoding='utf-8') as log:
+            return _prove_told(crates, copies, progress, log, anew)
+    except OSError as error:
+        if error.filename:
             raise
-        except OSError as error:
-            if error.filename:
-                raise
-            raise Unmade('proving failed, and %s says how far it came: %s' % (path, error.strerror)) from error
-        except KeyboardInterrupt:
-            tell('interrupted: %d of %d crates are proved, and the next call continues from there' % (
-                len(progress.proved), len(crates)))
-            raise
+        raise Unmade('proving failed, and %s says how far it came: %s' % (path, error.strerror)) from error
 
 
 def make(program, anew):
@@ -50,14 +55,18 @@ def make(program, anew):
     before = kit()
     if not anew and is_fresh(program):
         return
-    room = os.environ.get('TMPDIR') or '/var/tmp'
+    room = os.path.abspath(os.environ.get('TMPDIR') or '/var/tmp')
     check_room(room)
+    sources = sum_of(TOP, program)
+    # (first here, so that nothing is copied of crates in no order)
     crates_of(program)
     os.makedirs(out_of(program), exist_ok=True)
     with leftovers.folder_in(room) as copies:
         folder = os.path.join(copies, 'whole')
         copy_crates(program, folder)
-        crates, sources = crates_of(program, folder), sum_of(folder, program)
+        if sum_of(folder, program) != sources:
+            raise Unmade('a source changed while the sources were copied: call it again')
+        crates = crates_of(program, folder)
         commit = commit_of(folder, program)
         progress = Progress(crates, folder)
         tell('proving and building %s, only once: %d crates, perhaps %d min on %d processors; '

@@ -5,6 +5,7 @@ import signal
 import time
 from functools import partial
 
+from harness import process
 from harness.small_repository import PROGRAM, differs, end, left_by, scene
 
 AUDITED, MADE = 'totem_auditor audit\nthe input\n', 'totem run\nthe input\n'
@@ -125,6 +126,15 @@ def put_a_link(it):
     os.symlink('/dev/null', os.path.join(it.top, 'crates/low/src/more.rt'))
 
 
+def end_lines_twice(it):
+    """Line ends of another system: read by one tool and not by the other, crates would be left out."""
+    path = os.path.join(it.top, 'crates.txt')
+    with open(path, encoding='ascii') as file:
+        text = file.read()
+    with open(path, 'w', encoding='ascii', newline='') as file:
+        file.write(text.replace('\n', '\r\n'))
+
+
 def break_command(name, it):
     """A command prints all that it would, and fails."""
     it.replace(name, '#!/bin/sh\n%s "$@"\nexit 1\n' % shutil.which(name, path='/usr/bin:/bin'))
@@ -136,6 +146,7 @@ TROUBLES = {
     'no folder of a crate': (remove_a_crate, 'crates/low'),
     'no HANDLES': (lambda it: os.remove(os.path.join(it.top, 'HANDLES')), 'HANDLES'),
     'a link': (put_a_link, 'crates/low/src/more.rt is neither a file nor a folder'),
+    'other line ends': (end_lines_twice, 'crates.txt'),
     'no logic': (lambda it: os.remove(os.path.join(it.top, 'tools/proving/LOGIC')), 'LOGIC'),
     'no tools/sources': (lambda it: os.remove(os.path.join(it.top, 'tools/sources')), 'tools/sources'),
     'a crate that is not listed': (lambda it: it.write('crates.txt', 'low: itoa\n'), 'crates.txt names no crate totem'),
@@ -158,9 +169,8 @@ def stop_unbuilt(how, told, _program):
         return differs(it.run('audit'), 70, '', told)
 
 
-def change_during_copy(_program):
-    """A source that changes while the others are copied: what is proved is the copy, and the program does not count as that of the
-    sources."""
+def change_during_proof(_program):
+    """A source that changes during the proof: what is proved is the copy, and the program does not count as that of the sources."""
     with scene() as it:
         it.say(slow='low\n', seconds='1')
         started = it.start('audit')
@@ -169,6 +179,15 @@ def change_during_copy(_program):
         wrong = differs(end(started), 70, '', 'a source changed while totem_auditor was proved')
         it.say(slow='')
         return wrong or is_proved_again(it, 'audit')
+
+
+def change_within_copy(_program):
+    """A source that changes while the others are copied ends the call, before it proves a mixture."""
+    with scene() as it:
+        # (the change comes when they are summed up)
+        it.replace('sha256sum', '#!/bin/sh\n/usr/bin/sha256sum "$@" || exit\necho "fn g() {}" >"%s/crates/low/src/lib.rt"\n' % it.top)
+        wrong = differs(it.run('audit'), 70, '', 'totem: a source changed while the sources were copied')
+        return wrong or (it.told('calls') != ['version'] and 'rt was called so: %r' % it.told('calls'))
 
 
 def change_and_back(_program):
@@ -209,7 +228,7 @@ def kill_proof(_program):
             prover = int(file.read().rpartition(')')[2].split()[1])
         os.kill(prover, signal.SIGKILL)
         came = end(started)
-        until = time.monotonic() + 10
+        until = time.monotonic() + process.allowed(10)
         while os.path.exists('/proc/%d' % slow) and time.monotonic() < until:
             time.sleep(0.05)
         if os.path.exists('/proc/%d' % slow) or came.status != 70 or len(left_by(it)) != 1:
@@ -258,7 +277,8 @@ def freshness():
         for words in (['audit'], ['prove'], ['try', 'audit']):
             yield '%s, %s' % (what, ' '.join(words)), partial(stop, how, told, words)
         yield what + ', and nothing built', partial(stop_unbuilt, how, told)
-    yield 'a change during the proof', change_during_copy
+    yield 'a change while the sources are copied', change_within_copy
+    yield 'a change during the proof', change_during_proof
     yield 'a change during the proof that is taken back', change_and_back
     yield 'an end between the last steps', kill_anywhere
     yield 'a proof that is killed', kill_proof

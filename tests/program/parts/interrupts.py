@@ -130,6 +130,19 @@ def end_hunt(number, status, _program):
         return wrong or len(workers) != 2 or (came.status, came.output) != (status, seen) and 'came: %s' % came
 
 
+def lose_worker(_program):
+    """If one of its processes is killed, the hunt ends and says so: its seeds were not all played."""
+    with tempfile.TemporaryDirectory() as folder:
+        started = start('hunt', '--seeds', '0', '99999', '--jobs', '2', '--program', write_program(folder, HANGS))
+        until(lambda: len(numbers_in(folder)) == 2)
+        os.kill(children_of(started.pid)[0], signal.SIGKILL)
+        came = end(started)
+        for number in filter(is_running, numbers_in(folder)):
+            os.kill(number, signal.SIGKILL)
+        is_right = came.status == 1 and came.errors == b'hunt: a process of the hunt ended with the code -9: its seeds were not all played\n'
+        return None if is_right else 'came: %s' % came
+
+
 def keep_hunting(_program):
     """Under `nohup` a closed terminal ends nothing."""
     with tempfile.TemporaryDirectory() as folder:
@@ -237,6 +250,33 @@ def keep_of_two(_program):
         return None if came == SHORT and ' 3 lines (it was there before)' in list(one.lines())[1] else 'came: %r' % came
 
 
+def keep_on_full_disk(_program):
+    """If a script can't be written, the seed is told all the same."""
+    with tempfile.TemporaryDirectory() as folder:
+        os.symlink('/dev/full', os.path.join(folder, 'noes'))
+        found = found_in(folder)
+        try:
+            found.add_no(7, FOUR, SHORT)
+            return 'it was written'
+        except OSError:
+            told = list(found.lines())[1:]
+        return None if told == ['4: 1 runs, the first by seed 7; its script could not be written'] else 'told: %r' % told
+
+
+def keep_half(_program):
+    """A hunt that is killed while it writes leaves the script that was there."""
+    with tempfile.TemporaryDirectory() as folder:
+        found_in(folder).add_no(7, FOUR, LONG)
+        os.mkdir(os.path.join(folder, NAME + '.new'))
+        try:
+            found_in(folder).add_no(8, FOUR, SHORT)
+            return 'it was written'
+        except OSError:
+            with open(os.path.join(folder, NAME), 'rb') as it:
+                came = it.read()
+        return None if came == LONG else 'came: %r' % came
+
+
 def keep_other(_program):
     """A script with which the program disagrees replaces no other one."""
     with tempfile.TemporaryDirectory() as folder:
@@ -327,6 +367,7 @@ def interrupts():
     for number, status in ((signal.SIGKILL, -signal.SIGKILL), (signal.SIGHUP, 0), (signal.SIGTERM, 0), (signal.SIGINT, 0)):
         yield 'a hunt and the signal %d' % number, partial(end_hunt, number, status)
     yield 'a hunt and a closed terminal, ignored', keep_hunting
+    yield 'a hunt that loses a process', lose_worker
     for what, text, told in (('no verdict', '#!/bin/sh\ncat >/dev/null; exit 9\n', b' sim` ended with status 9'),
                              ('no program', '\1\2\n', b'Exec format error')):
         yield 'a hunt, ' + what, partial(hunt_wrongly, text, told)
@@ -337,6 +378,8 @@ def interrupts():
     for what, case in KEPT.items():
         yield 'kept: ' + what, partial(keep, *case)
     yield 'kept: two hunts at once', keep_of_two
+    yield 'kept: on a full disk', keep_on_full_disk
+    yield 'kept: half written', keep_half
     yield 'kept: scripts with another run', keep_other
     for numbers in ((signal.SIGINT,), (signal.SIGINT,) * 3, (signal.SIGHUP, signal.SIGTERM), (signal.SIGTERM,) * 2):
         for jobs in (1, 2):

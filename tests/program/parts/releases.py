@@ -94,6 +94,18 @@ AFTER = {
 }
 
 
+def release_in_hook(_program):
+    """Where git's variables name another repository, as in a hook, the commit is still that of this one."""
+    with scene() as it, scene() as other:
+        prepare(it)
+        name = commit(it)
+        commit(other)
+        it.environment.update(GIT_DIR=os.path.join(other.top, '.git'), GIT_WORK_TREE=other.top)
+        wrong = differs(it.run_tool('tools/release', folder_of(it)), 0, os.path.join(folder_of(it), NAME + '.tar.gz') + '\n')
+        lines, trouble = ([], wrong) if wrong else unpack(it)
+        return trouble or lines[1] != 'commit: ' + name and 'it says: %r' % lines[1]
+
+
 def release_kept(_program):
     """With --kept the kit is the one that proved the program, not the one of today."""
     with scene() as it:
@@ -189,6 +201,7 @@ def releases():
     yield 'names of examples', release_names
     for what, (change, wanted) in AFTER.items():
         yield 'after a commit, ' + what, partial(release_of_commit, change, wanted)
+    yield 'in a hook of another repository', release_in_hook
     yield 'a release of what is kept', release_kept
     yield 'a release beside a proof', release_beside_proof
     yield 'a proof beside a release', proof_beside_release

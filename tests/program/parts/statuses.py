@@ -5,6 +5,7 @@ import subprocess
 import time
 from functools import partial
 
+from harness import process
 from harness.small_repository import differs, end, left_by, scene
 
 AUDITED = 'totem_auditor audit\nthe input\n'
@@ -113,6 +114,12 @@ def wrong_kit(_program):
         return differs(it.run_tool('tools/prove', 'totem'), 70, '', 'this needs a Rattle kit of the logic')
 
 
+def fill_log(it):
+    """A full disk where the prover's output is written."""
+    os.mkdir(os.path.join(it.top, 'crates/totem_auditor/out'))
+    os.symlink('/dev/full', os.path.join(it.top, 'crates/totem_auditor/out/build.log'))
+
+
 def put_file(it):
     """A file where the folder of what is built should be."""
     it.write('crates/totem_auditor/out', 'a file\n')
@@ -121,10 +128,11 @@ def put_file(it):
 # What can be wrong in the repository, and what is said.
 WRONG = {
     'a file for a folder': (put_file, 'crates/totem_auditor/out'),
+    'a full disk': (fill_log, 'totem: proving failed, and '),
     'crates.txt in no encoding': (lambda it: write_bytes(it, 'crates.txt', b'# \xff\nlow:\ntotem_auditor: low\ntotem: low\n'), 'crates.txt'),
     'crates in no order': (lambda it: it.write('crates.txt', 'totem_auditor: low\nlow:\ntotem: low\n'), 'totem_auditor is listed before low'),
     'a crate listed twice': (lambda it: it.write('crates.txt', 'low:\nlow:\ntotem_auditor: low\ntotem: low\n'), 'low is listed twice'),
-    'a name of a crate that leads elsewhere': (lambda it: it.write('crates.txt', '../low:\ntotem_auditor: ../low\ntotem:\n'), '../low'),
+    'a name of a crate that leads elsewhere': (lambda it: it.write('crates.txt', '../low:\ntotem_auditor: ../low\ntotem:\n'), 'crates.txt'),
     'a fifo': (lambda it: os.mkfifo(os.path.join(it.top, 'crates/low/src/more.rt')), 'crates/low/src/more.rt'),
     'no room': (lambda it: it.environment.update(TMPDIR=os.path.join(it.top, 'none')), 'none'),
 }
@@ -157,6 +165,50 @@ def interrupt_twice(_program):
         return wrong or (left_by(it) and 'it left %r' % left_by(it))
 
 
+def try_dash(_program):
+    """A folder for temporary files with a hard name, relative to the one where the call is made."""
+    with scene() as it:
+        for name in ('-a', 'a b', 'a\nb', 'a\\b'):
+            os.mkdir(os.path.join(it.top, name))
+            came = it.run('try', 'audit', TMPDIR=name)
+            wrong = differs(came, 1, 'verdict no\n', 'NOT PROVED') or os.listdir(os.path.join(it.top, name))
+            if wrong:
+                return '%r: %s' % (name, wrong)
+    return None
+
+
+def build_dash(_program):
+    """The same for a proof."""
+    with scene() as it:
+        for number, name in enumerate(('-a', 'a b', 'a\nb', 'a\\b')):
+            os.mkdir(os.path.join(it.top, name))
+            it.write('crates/low/src/lib.rt', 'fn f%d() {}\n' % number)
+            wrong = differs(it.run('audit', TMPDIR=name), 9, AUDITED, '2 of 2') or os.listdir(os.path.join(it.top, name))
+            if wrong:
+                return '%r: %s' % (name, wrong)
+    return None
+
+
+def prove_words(_program):
+    """`prove` takes no words: none is left out in silence."""
+    with scene() as it:
+        return differs(it.run('prove', 'totem_auditor'), 64, '', 'usage: ./totem prove') or (it.told('calls') and 'it began')
+
+
+def called_by_link(_program):
+    """A link to the script, and a folder that is a link, lead to the repository."""
+    with scene() as it:
+        os.symlink(os.path.join(it.top, 'totem'), os.path.join(it.stand_in, '-totem'))
+        os.symlink(it.top, os.path.join(it.stand_in, 'folder'))
+        for name in ('-totem', 'folder/totem'):
+            started = subprocess.Popen(['bash', '-c', 'PATH="$PWD:$PATH"; exec -- "$0" audit', name], cwd=it.stand_in, env=it.environment,
+                                       stdin=subprocess.PIPE, stdout=subprocess.PIPE, stderr=subprocess.PIPE, start_new_session=True)
+            wrong = differs(end(started), 9, AUDITED)
+            if wrong:
+                return '%s: %s' % (name, wrong)
+    return None
+
+
 def ignore_hangup(_program):
     """Under `nohup` a closed terminal ends nothing."""
     with scene() as it:
@@ -175,7 +227,7 @@ def hang_up(_program):
         slow = it.is_slow_at()
         os.killpg(started.pid, signal.SIGHUP)
         end(started)
-        until = time.monotonic() + 10
+        until = time.monotonic() + process.allowed(10)
         while (os.path.exists('/proc/%d' % slow) or left_by(it)) and time.monotonic() < until:
             time.sleep(0.05)
         return (os.path.exists('/proc/%d' % slow) or left_by(it)) and 'rt runs on, or it left %r' % left_by(it)
@@ -219,9 +271,13 @@ def statuses():
     yield 'tools/prove with another kit', wrong_kit
     for what, (how, told) in WRONG.items():
         yield what, partial(stop, how, told)
+    yield 'try, folders with hard names', try_dash
+    yield 'a build, folders with hard names', build_dash
+    yield 'the words of prove', prove_words
+    yield 'called by a link', called_by_link
     yield 'two interrupts', interrupt_twice
     yield 'a closed terminal', hang_up
     yield 'a closed terminal, ignored', ignore_hangup
     for change in ({'HOME': None}, {'LANG': 'C', 'LC_ALL': 'C'}, {'LC_ALL': 'xx_YY.none'}, {'TMPDIR': None}, {'CDPATH': '/usr'},
-                   {'BASH_ENV': '/no/such'}, {'GREP_OPTIONS': '-v'}):
+                   {'BASH_ENV': '/no/such'}, {'POSIXLY_CORRECT': '1'}, {'PYTHONIOENCODING': 'ascii'}):
         yield 'the environment %r' % change, partial(surround, change)
