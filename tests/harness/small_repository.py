@@ -30,9 +30,10 @@ class Scene:
         for it in (self.stand_in, os.path.join(folder, 'bin'), os.path.join(folder, 'room')):
             os.mkdir(it)
         os.makedirs(os.path.join(self.top, 'tools'))
-        for it in ('totem', 'tools/prove', 'tools/release', 'tools/sources', 'HANDLES'):
+        for it in ('totem', *('tools/' + it for it in ('prove', 'release', 'sources', 'shrink', 'hunt')), 'HANDLES'):
             shutil.copy(os.path.join(REPOSITORY, it), os.path.join(self.top, it))
-        for it in ('tools/proving', 'tools/running'):
+        for it in ('proving', 'running', 'shrinking', 'hunting', 'playing'):
+            it = os.path.join('tools', it)
             shutil.copytree(os.path.join(REPOSITORY, it), os.path.join(self.top, it), ignore=shutil.ignore_patterns('__pycache__'))
         shutil.copy(STAND_IN, os.path.join(folder, 'bin', 'rt'))
         self.write('crates.txt', CRATES)
@@ -41,7 +42,8 @@ class Scene:
         self.say(version='rattle-kit-0 logic %s\n' % LOGIC, built=PROGRAM, tried=ANSWERED, **{'tried-output': 'verdict no\n'})
         paths = [os.path.join(folder, 'bin'), os.path.dirname(sys.executable), '/usr/bin', '/bin']
         self.environment = {**process.ENVIRONMENT, 'PATH': ':'.join(paths), 'STAND_IN': self.stand_in,
-                            'TMPDIR': os.path.join(folder, 'room'), 'TOTEM_MEMORY_MB': '1', 'TOTEM_DISK_MB': '1', 'TOTEM_AHEAD_MB': '999999999'}
+                            'TMPDIR': os.path.join(folder, 'room'), 'TOTEM_MEMORY_MB': '1', 'TOTEM_DISK_MB': '1',
+                            'TOTEM_AHEAD_MB': '999999999'}
 
     def write(self, path, text):
         """Writes a file of the repository."""

@@ -1,8 +1,11 @@
 """The built program: its commands, each applied to a text, and its answers."""
 import os
 import signal
+import subprocess
 import threading
 from typing import NamedTuple
+
+from running import streams
 
 TOP = os.path.dirname(os.path.dirname(os.path.dirname(os.path.abspath(__file__))))
 # Where the launcher puts the whole program, and the auditor alone, which answers `audit` and `explain`.
@@ -49,8 +52,16 @@ def _content_of(file):
         return it.read()
 
 
+def _note_if_stale(place):
+    """Says so if a program was not proved from the sources as they are."""
+    words = [os.path.join(TOP, 'tools', 'sources'), 'state', os.path.basename(place)]
+    came = subprocess.run(words, stdin=subprocess.DEVNULL, stdout=subprocess.PIPE, check=False)
+    if came.stdout != b'fresh\n':
+        streams.say('note: %s was not proved from the sources as they are; `./totem prove` makes one that is' % place)
+
+
 class Program:
-    """The program at a path."""
+    """The program at a path; if none is given, the one of this repository."""
 
     def __init__(self, path, makes_runs=False):
         places = [path] if path else [WHOLE] if makes_runs else [WHOLE, AUDITOR]
@@ -58,6 +69,8 @@ class Program:
         if not self.path:
             builds = '' if path else ': `./totem prove` builds it, and --program takes another one'
             raise Refused('the program %s is not there%s' % (places[0], builds))
+        if not path:
+            _note_if_stale(self.path)
         # What runs. (A signal's handler may come here while this thread has the lock.)
         self.lock, self.running, self.is_over = threading.RLock(), set(), False
 

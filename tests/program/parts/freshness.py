@@ -238,6 +238,18 @@ def kill_proof(_program):
             left_by(it) and 'it left %r' % left_by(it))
 
 
+def note(name, words, _program):
+    """A tool that runs the program by itself says so if that is not the one that was proved from the sources."""
+    with scene() as it:
+        it.say(built='#!/bin/sh\nexit 2\n')
+        it.run('prove')
+        told = b'note: %s was not proved from the sources as they are' % os.fsencode(it.program)
+        before = it.run_tool(name, *words)
+        write_old(it)
+        after = it.run_tool(name, *words)
+        return (told in before.errors or not after.errors.startswith(told)) and 'before: %s\n  after: %s' % (before, after)
+
+
 def change_kit(_program):
     """Another kit that comes during the proof."""
     with scene() as it:
@@ -282,5 +294,7 @@ def freshness():
     yield 'a change during the proof that is taken back', change_and_back
     yield 'an end between the last steps', kill_anywhere
     yield 'a proof that is killed', kill_proof
+    for name, words in (('tools/shrink', []), ('tools/hunt', ['--seeds', '0', '0', '--jobs', '1'])):
+        yield 'a note by ' + name, partial(note, name, words)
     yield 'another kit during the proof', change_kit
     yield 'another crates.txt during the proof', replace_listing_meanwhile
