@@ -31,7 +31,12 @@ def _is_own(path):
 
 def _sweep(room):
     """Removes what proofs left that were killed."""
-    for name in os.listdir(room):
+    try:
+        names = os.listdir(room)
+    except PermissionError:
+        # (a folder in which one may only make others)
+        return
+    for name in names:
         path = os.path.join(room, name)
         try:
             file = _lock(path) if name.startswith(PREFIX) and _is_own(path) else None
