@@ -6,7 +6,6 @@ import sys
 from running import signals, streams
 from running.words import Words
 from shrinking.program import Program, Refused
-from shrinking.run_text import write
 from shrinking.runs import RunShrinker
 from shrinking.scripts import ScriptShrinker
 

@@ -3,7 +3,7 @@ import os
 import signal
 from functools import partial
 
-from harness.small_repository import LOGIC, differs, end, left_by, scene
+from harness.small_repository import LOGIC, differs, end, scene
 
 # Arguments that the auditor alone answers, and those that need the whole program.
 FOR_AUDITOR = (['audit', '--workers', '2'], ['check'], ['explain', '--svg'], ['help', 'run'], ['--version'], ['sim', '--help'], ['no-verb'])
