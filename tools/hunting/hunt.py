@@ -1,5 +1,6 @@
 """A hunt: scripts by seed, each played and judged by the program, in several processes."""
 import multiprocessing
+import os
 import re
 import signal
 from collections import Counter
@@ -7,6 +8,7 @@ from multiprocessing.connection import wait
 
 from hunting.block import BLOCK, Block
 from playing import script
+from running import signals
 from shrinking.program import Program, Refused
 from shrinking.scripts import ScriptShrinker
 
@@ -40,12 +42,15 @@ class _Hunter:
     def _judge(self, seed, commands, scene, kinds):
         text = script.write(commands)
         if len(text) > script.MOST_BYTES:
+            self.counts.update(long=1)
             return
         run = self.program.play(text)
         if run is None or run != scene.text(script.version_of(commands)):
             self.tell(('other', seed, text))
             return
         verdict = self.program.audit(run)
+        if verdict is None:
+            raise Refused('`%s audit` refuses the run that it made of the script of seed %d' % (self.program.path, seed))
         self.counts.update(runs=1, packets=scene.came, rings=len(set(RING.findall(run))), no=verdict.is_no, yes=not verdict.is_no)
         if verdict.is_no:
             self._tell_counts()
@@ -59,16 +64,25 @@ class _Hunter:
             self._tell_counts()
 
 
-def _work(path, blocks, first, last, pipe):
-    """What one process does."""
-    signal.signal(signal.SIGINT, signal.SIG_IGN)
-    signal.signal(signal.SIGTERM, signal.SIG_DFL)
+def _work(path, blocks, first, last, pipe, parent):
+    """What one process does. It ends when its parent ends, however that ends, and the program ends with it."""
+    program = Program(path, makes_runs=True)
+
+    def end(*_):
+        program.end()
+        os._exit(1)
+
+    signals.ignore_ending()
+    signal.signal(signal.SIGTERM, end)
+    signals.end_with_parent(signal.SIGTERM, parent)
     try:
-        hunter = _Hunter(Program(path, makes_runs=True), first, last, pipe.send)
+        hunter = _Hunter(program, first, last, pipe.send)
         for number in blocks:
             hunter.hunt(number)
     except Refused as refused:
         pipe.send(('refused', str(refused)))
+    except OSError as error:
+        pipe.send(('refused', '%s: %s' % (error.filename or path, error.strerror)))
 
 
 class Hunt:
@@ -79,24 +93,35 @@ class Hunt:
         context = multiprocessing.get_context('fork')
         self.found = found
         self.workers = {}
+        # (a pipe, so that a signal is seen between two reports and not within one)
+        self.bell, self.ringer = os.pipe()
         for number in range(min(jobs, len(blocks))):
             reader, pipe = context.Pipe(duplex=False)
-            worker = context.Process(target=_work, args=(program.path, blocks[number::jobs], first, last, pipe), daemon=True)
+            worker = context.Process(target=_work, args=(program.path, blocks[number::jobs], first, last, pipe, os.getpid()), daemon=True)
             worker.start()
             pipe.close()
             self.workers[reader] = worker
 
+    def ask_to_end(self, *_):
+        """Lets `follow` return early. A signal may call this at any moment, and again."""
+        signals.ignore_ending()
+        os.write(self.ringer, b'.')
+
     def follow(self, tell):
-        """Takes the reports of the processes, until these end, and calls `tell` after each report."""
+        """Takes the reports of the processes, until these end, and calls `tell` after each report. Returns whether they came to the end."""
         left = list(self.workers)
         while left:
-            for reader in wait(left):
+            ready = wait([*left, self.bell])
+            if self.bell in ready:
+                return False
+            for reader in ready:
                 try:
                     self._take(*reader.recv())
                 except (EOFError, ConnectionError):
                     left.remove(reader)
                     self._check_end(self.workers[reader])
             tell()
+        return True
 
     @staticmethod
     def _check_end(worker):
@@ -110,7 +135,19 @@ class Hunt:
         getattr(self.found, 'add_' + kind)(*told)
 
     def end(self):
-        """Ends the processes."""
+        """Ends the processes, and takes the reports that they had sent."""
         for worker in self.workers.values():
             worker.terminate()
+        for reader, worker in self.workers.items():
+            # (before its end, as it may wait until somebody reads)
+            self._take_rest(reader)
             worker.join()
+
+    def _take_rest(self, reader):
+        while True:
+            try:
+                kind, *told = reader.recv()
+            except (EOFError, OSError):
+                return
+            if kind != 'refused':
+                self._take(kind, *told)

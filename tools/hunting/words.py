@@ -1,14 +1,15 @@
 """The arguments of `tools/hunt`, and what it does with them."""
 import argparse
-import signal
-import sys
+import os
 
 from hunting.block import BLOCK, Block
 from hunting.hunt import Hunt
 from hunting.prey import Found
 from playing import script
+from running import signals, streams
+from running.words import Words
 from shrinking.program import Program, Refused
-from shrinking.words import Progress, Words, add_words_of_program, interrupt
+from shrinking.words import Progress, add_words_of_program
 
 DESCRIPTION = """Searches for runs of the protocol that break the specifications:
 
@@ -19,12 +20,13 @@ expire in every state; processes crash and return. `totem sim` follows each scri
 first to reach something, such as an input in a state of a node, or a ring that is entered twice, later seeds continue from there: a seed
 builds on those before it, from the last multiple of %d on. So a seed makes the same script on every machine.""" % BLOCK
 EXAMPLES = """For each set of broken specifications the folder keeps the shortest script, shortened as by `tools/shrink --script`, and the
-file `noes` there has a line for each seed that was a no; an interrupt loses none of that. At the end the hunt prints what it saw and found.
+file `noes` there has a line for each seed that was a no; an interrupt loses none of that. A shorter script that is there already stays, and
+another file with its name gets a new name. At the end the hunt prints what it saw and found.
 It knows what the nodes do from an implementation of docs/PROTOCOL.md in tools/playing, and also reports scripts for which the program makes
 another run.
 
-The status is 0, even if broken runs were found; 1 if the program is not there, does not answer, or makes another run than tools/playing; 64
-for a usage error."""
+The status is 0, even if broken runs were found; 1 if the program is not there, does not answer, or makes another run than tools/playing, or
+if the folder can't be written; 4 if the output fails; 64 for a usage error."""
 
 
 def read_words(words):
@@ -54,32 +56,48 @@ def _show(seed):
 
 def _hunt(asked):
     """Hunts, and prints what was seen and found, also after an interrupt."""
-    found = Found(asked.keep)
-    hunt = Hunt(Program(asked.program, makes_runs=True), *asked.seeds, asked.jobs, found)
+    program = Program(asked.program, makes_runs=True)
+
+    def judge(text):
+        run = program.play(text)
+        verdict = program.audit(run) if run is not None else None
+        return verdict.broken if verdict and verdict.is_no else None
+
+    found = Found(asked.keep, judge)
+    found.check_folder()
+    hunt = Hunt(program, *asked.seeds, asked.jobs, found)
+    signals.on_ending(hunt.ask_to_end)
     progress = Progress()
     try:
-        hunt.follow(lambda: progress.show('%d runs, %d no' % (found.counts['runs'], found.counts['no'])))
-    except KeyboardInterrupt:
-        print('hunt: interrupted', file=sys.stderr)
+        if not hunt.follow(lambda: progress.show('%d runs, %d no' % (found.counts['runs'], found.counts['no']))):
+            streams.say('hunt: interrupted')
     finally:
-        hunt.end()
-        progress.wipe()
-        for line in found.lines():
-            print(line, flush=True)
-    return 1 if found.others else 0
+        try:
+            hunt.end()
+        finally:
+            progress.wipe()
+            is_written = streams.write(b''.join(os.fsencode(line) + b'\n' for line in found.lines()))
+    return _written(is_written) or (1 if found.others else 0)
+
+
+def _written(is_written):
+    """The status of what was written."""
+    if not is_written:
+        streams.say('hunt: write failed')
+    return 0 if is_written else 4
 
 
 def main(words):
     """Does what the arguments ask for, and returns the status."""
+    streams.reserve()
     asked = read_words(words)
-    signal.signal(signal.SIGTERM, interrupt)
+    signals.on_ending(signals.interrupt)
     try:
-        if asked.show is not None:
-            sys.stdout.buffer.write(_show(asked.show))
-            return 0
-        return _hunt(asked)
+        return _hunt(asked) if asked.show is None else _written(streams.write(_show(asked.show)))
+    except KeyboardInterrupt:
+        streams.say('hunt: interrupted')
     except Refused as refused:
-        print('hunt: %s' % refused, file=sys.stderr)
+        streams.say('hunt: %s' % refused)
     except OSError as error:
-        print('hunt: %s: %s' % (error.filename or 'the output', error.strerror), file=sys.stderr)
+        streams.say('hunt: %s: %s' % (error.filename or asked.keep, error.strerror))
     return 1

@@ -1,12 +1,16 @@
 """The built program: its commands, each applied to a text, and its answers."""
 import os
+import signal
+import subprocess
+import threading
 from typing import NamedTuple
+
+from running import streams
 
 TOP = os.path.dirname(os.path.dirname(os.path.dirname(os.path.abspath(__file__))))
 # Where the launcher puts the whole program, and the auditor alone, which answers `audit` and `explain`.
 WHOLE, AUDITOR = (os.path.join(TOP, 'crates', name, 'out', name) for name in ('totem', 'totem_auditor'))
 ENVIRONMENT = {'PATH': '/usr/bin:/bin', 'LANG': 'C.UTF-8'}
-MOST_READ = 1 << 30
 
 
 class Refused(Exception):
@@ -34,12 +38,30 @@ class Verdict(NamedTuple):
 
 
 def _verdict_of(report):
-    words = [line.split() for line in report.decode('ascii').splitlines()]
-    return Verdict(words[0] == ['verdict', 'no'], tuple((line[1], tuple(line[2:])) for line in words if line[0] == 'fault'))
+    """The verdict of a report, or None if there is none."""
+    words = [line.split() for line in report.decode('ascii', 'replace').splitlines()]
+    if words[:1] not in ([['verdict', 'yes']], [['verdict', 'no']]) or words[-1] != ['end']:
+        return None
+    return Verdict(words[0][1] == 'no', tuple((line[1], tuple(line[2:])) for line in words if line[:1] == ['fault'] and len(line) > 2))
+
+
+def _content_of(file):
+    """All that is in a file in memory."""
+    with open(file, 'rb', closefd=False) as it:
+        it.seek(0)
+        return it.read()
+
+
+def _note_if_stale(place):
+    """Says so if a program was not proved from the sources as they are."""
+    words = [os.path.join(TOP, 'tools', 'sources'), 'state', os.path.basename(place)]
+    came = subprocess.run(words, stdin=subprocess.DEVNULL, stdout=subprocess.PIPE, check=False)
+    if came.stdout != b'fresh\n':
+        streams.say('note: %s was not proved from the sources as they are; `./totem prove` makes one that is' % place)
 
 
 class Program:
-    """The program at a path."""
+    """The program at a path; if none is given, the one of this repository."""
 
     def __init__(self, path, makes_runs=False):
         places = [path] if path else [WHOLE] if makes_runs else [WHOLE, AUDITOR]
@@ -47,6 +69,10 @@ class Program:
         if not self.path:
             builds = '' if path else ': `./totem prove` builds it, and --program takes another one'
             raise Refused('the program %s is not there%s' % (places[0], builds))
+        if not path:
+            _note_if_stale(self.path)
+        # What runs. (A signal's handler may come here while this thread has the lock.)
+        self.lock, self.running, self.is_over = threading.RLock(), set(), False
 
     def ask(self, words, given):
         """Runs the program to its end. Its streams are files in memory."""
@@ -55,13 +81,38 @@ class Program:
             with open(files[0], 'wb', closefd=False) as it:
                 it.write(given)
             os.lseek(files[0], 0, os.SEEK_SET)
-            actions = [(os.POSIX_SPAWN_DUP2, file, number) for number, file in enumerate(files)]
-            _, code = os.waitpid(os.posix_spawn(self.path, [self.path, *words], ENVIRONMENT, file_actions=actions), 0)
-            status = os.WEXITSTATUS(code) if os.WIFEXITED(code) else 128 + os.WTERMSIG(code)
-            return Answer(status, *(os.pread(file, MOST_READ, 0) for file in files[1:]))
+            status = self._run(words, [(os.POSIX_SPAWN_DUP2, file, number) for number, file in enumerate(files)])
+            return Answer(status, *map(_content_of, files[1:]))
         finally:
             for file in files:
                 os.close(file)
+
+    def _run(self, words, actions):
+        """Runs the program in a group of its own, which an interrupt from the terminal does not reach. Returns its status."""
+        with self.lock:
+            if self.is_over:
+                raise Refused('the program was ended')
+            # (with the signals of a shell's children, though Python ignores some)
+            pid = os.posix_spawn(self.path, [self.path, *words], ENVIRONMENT, file_actions=actions, setpgroup=0,
+                                 setsigdef=[signal.SIGPIPE, signal.SIGXFSZ])
+            self.running.add(pid)
+        try:
+            os.waitid(os.P_PID, pid, os.WEXITED | os.WNOWAIT)
+        except KeyboardInterrupt:
+            os.kill(pid, signal.SIGKILL)
+            raise
+        finally:
+            with self.lock:
+                _, code = os.waitpid(pid, 0)
+                self.running.discard(pid)
+        return os.WEXITSTATUS(code) if os.WIFEXITED(code) else 128 + os.WTERMSIG(code)
+
+    def end(self):
+        """Ends all that runs; nothing begins after that."""
+        with self.lock:
+            self.is_over = True
+            for pid in self.running:
+                os.kill(pid, signal.SIGKILL)
 
     def audit(self, text):
         """The verdict on the text of a run, or None if it is refused."""
@@ -85,7 +136,12 @@ class Program:
     def _judged(self, answer, verb):
         if answer.status not in (0, 1, 2):
             raise Refused('`%s %s` ended with status %d: %s' % (self.path, verb, answer.status, self._told(answer)))
-        return None if answer.status == 2 else _verdict_of(answer.output)
+        if answer.status == 2:
+            return None
+        verdict = _verdict_of(answer.output)
+        if verdict is None or verdict.is_no != (answer.status == 1):
+            raise Refused('`%s %s` ended with status %d, but has no such verdict' % (self.path, verb, answer.status))
+        return verdict
 
     @staticmethod
     def _told(answer):

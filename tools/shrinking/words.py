@@ -1,11 +1,11 @@
 """The arguments of `tools/shrink`, and what it does with them."""
 import argparse
 import os
-import signal
 import sys
 
+from running import signals, streams
+from running.words import Words
 from shrinking.program import Program, Refused
-from shrinking.run_text import write
 from shrinking.runs import RunShrinker
 from shrinking.scripts import ScriptShrinker
 
@@ -19,24 +19,18 @@ Then it gives processes, rings and messages small numbers. It explains the small
 
 With --script it does the same for a script whose run is broken (`totem sim`): it leaves out, moves and joins steps."""
 EXAMPLES = """The run is read from standard input if no file is given. The program crates/totem/out/totem judges each run that is tried, or
-if it is not built crates/totem_auditor/out/totem_auditor (`./totem prove` and `./totem audit` build them).
+if it is not built crates/totem_auditor/out/totem_auditor (`./totem prove` and `./totem audit` build them). If that program was not proved
+from the sources as they are, a note says so.
 
-An interrupt writes the smallest run that was found so far. The status is 0, or 1 if the run is not broken, can't be read, or the program
-is not there; 4 if the output fails; 64 for a usage error."""
-
-
-class Words(argparse.ArgumentParser):
-    """Usage errors have the status 64, as those of totem have."""
-
-    def error(self, message):
-        self.print_usage(sys.stderr)
-        self.exit(64, '%s: %s\n' % (self.prog, message))
+An interrupt writes the smallest run that was found so far, at once. The status is 0, or 1 if the run is not broken, can't be read, or the
+program is not there; also 1 if the program failed later: then it writes the smallest run that was found until then. It is 4 if the output
+fails, and 64 for a usage error."""
 
 
 def add_words_of_program(parser):
     """Adds the arguments that say which program to run, and how many runs in parallel."""
     parser.add_argument('--program', metavar='PATH', help='the built program to run')
-    parser.add_argument('--jobs', type=int, metavar='N', default=os.cpu_count() or 1, 
+    parser.add_argument('--jobs', type=int, metavar='N', default=os.cpu_count() or 1,
                         help='how many runs to try in parallel (all cores)')
 
 
@@ -72,7 +66,7 @@ class Progress:
     def show(self, text):
         """Shows this text instead of the last one."""
         if self.is_shown:
-            print('\r\033[K' + text, end='', file=sys.stderr, flush=True)
+            streams.say('\r\033[K' + text, end='')
 
     def tell(self, lines, tried):
         """Shows how many lines there are now, and how many runs were tried."""
@@ -83,22 +77,26 @@ class Progress:
         self.show('')
 
 
-def interrupt(*_):
-    """Treats a signal to end as an interrupt."""
-    raise KeyboardInterrupt
-
-
-def _shrink(asked, program, text):
-    """The smallest text that was found."""
+def _read(asked, program, text):
+    """What makes this text small."""
     progress = Progress()
     words = {'jobs': asked.jobs, 'tell': progress.tell, 'specification': asked.specification, 'same_places': asked.same_places}
-    shrinker = (ScriptShrinker if asked.script else RunShrinker)(program, text, **words)
+    return (ScriptShrinker if asked.script else RunShrinker)(program, text, **words), progress
+
+
+def _shrink(shrinker, progress):
+    """Looks for the smallest text. Returns why that failed, or None; what was found stays with the shrinker."""
     try:
         shrinker.shrink()
     except KeyboardInterrupt:
-        print('shrink: interrupted', file=sys.stderr)
-    progress.wipe()
-    return shrinker.text
+        streams.say('shrink: interrupted')
+    except Refused as refused:
+        return str(refused)
+    except OSError as error:
+        return '%s: %s' % (error.filename or 'the program', error.strerror)
+    finally:
+        progress.wipe()
+    return None
 
 
 def _tell_outcome(asked, program, text, small):
@@ -106,35 +104,42 @@ def _tell_outcome(asked, program, text, small):
     run = program.play(small) if asked.script else small
     faults = ['fault %s %s' % (specification, ' '.join(places)) for specification, places in program.audit(run).faults]
     what = 'script' if asked.script else 'run'
-    print('shrink: a %s of %d lines became one of %d' % (what, text.count(b'\n'), small.count(b'\n')), file=sys.stderr)
-    print('\n'.join(faults) + '\n\n' + program.explain(run), end='', file=sys.stderr)
+    streams.say('shrink: a %s of %d lines became one of %d' % (what, text.count(b'\n'), small.count(b'\n')))
+    streams.say('\n'.join(faults) + '\n\n' + program.explain(run), end='')
+
+
+def _do(asked):
+    """Makes the text small, writes the outcome, and only then reports it. Returns the status."""
+    program = Program(asked.program, makes_runs=asked.script)
+    text = _read_input(asked.file)
+    shrinker, progress = _read(asked, program, text)
+    why = _shrink(shrinker, progress)
+    signals.ignore_ending()
+    program.end()
+    small = shrinker.text
+    is_written = streams.write(small)
+    signals.end_as_usual()
+    if why:
+        streams.say('shrink: %s; so this is only the smallest that was found until then' % why)
+    else:
+        _tell_outcome(asked, Program(program.path), text, small)
+    if not is_written:
+        streams.say('shrink: write failed')
+        return 4
+    return 1 if why else 0
 
 
 def main(words):
     """Does what the arguments ask for, and returns the status."""
+    streams.reserve()
     asked = read_words(words)
-    signal.signal(signal.SIGTERM, interrupt)
+    signals.on_ending(signals.interrupt)
     try:
-        program = Program(asked.program, makes_runs=asked.script)
-        text = _read_input(asked.file)
-        small = _shrink(asked, program, text)
-        _tell_outcome(asked, program, text, small)
+        return _do(asked)
+    except KeyboardInterrupt:
+        streams.say('shrink: interrupted before anything was tried')
     except Refused as refused:
-        print('shrink: %s' % refused, file=sys.stderr)
-        return 1
+        streams.say('shrink: %s' % refused)
     except OSError as error:
-        print('shrink: %s: %s' % (error.filename or 'the input', error.strerror), file=sys.stderr)
-        return 1
-    return _write(small)
-
-
-def _write(text):
-    """Writes the outcome, and returns the status."""
-    try:
-        sys.stdout.buffer.write(text)
-        sys.stdout.buffer.flush()
-    except OSError:
-        print('shrink: write failed', file=sys.stderr)
-        os.dup2(os.open(os.devnull, os.O_WRONLY), sys.stdout.fileno())
-        return 4
-    return 0
+        streams.say('shrink: %s: %s' % (error.filename or 'the input', error.strerror))
+    return 1

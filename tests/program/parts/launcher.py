@@ -1,124 +1,13 @@
 """The launcher `./totem` over a small repository, with a stand-in for `rt`: the first look, the proved build, and what stops them."""
 import os
-import shutil
 import signal
-import subprocess
-import sys
-import tempfile
-import time
-from contextlib import contextmanager
 from functools import partial
 
-from harness import process
+from harness.small_repository import LOGIC, differs, end, scene
 
-REPOSITORY = os.path.dirname(os.path.dirname(os.path.dirname(os.path.dirname(os.path.abspath(__file__)))))
-STAND_IN = os.path.join(REPOSITORY, 'tests', 'harness', 'rt_stand_in')
-LOGIC = next(line.partition('=')[2].strip() for line in open(os.path.join(REPOSITORY, 'totem'), encoding='utf-8')
-             if line.startswith('logic='))
-CRATES = 'low: itoa\ntotem_auditor: low\nhigh: low\ntotem: low high\n# A crate that no program uses.\nother: low\n'
-# What the stand-in builds: it prints its name, its arguments and its input, and ends with a status that nothing else here has.
-PROGRAM = '#!/bin/sh\necho "${0##*/} $*"\ncat\nexit 9\n'
-ANSWERED = 'a line of the program\nchecked: ended status=1\nraces: not looked for\nrun=ended status=1 runners=1 races=unchecked proved=no\n'
 # Arguments that the auditor alone answers, and those that need the whole program.
 FOR_AUDITOR = (['audit', '--workers', '2'], ['check'], ['explain', '--svg'], ['help', 'run'], ['--version'], ['sim', '--help'], ['no-verb'])
 FOR_WHOLE = (['sim'], ['run', '--nodes', '3'], ['explain', '--script'])
-SECONDS = 30
-
-
-class Scene:
-    """A small repository with the launcher, and the folder that controls the stand-in."""
-
-    def __init__(self, folder):
-        self.top, self.stand_in = os.path.join(folder, 'top'), os.path.join(folder, 'stand-in')
-        self.program = os.path.join(self.top, 'crates', 'totem', 'out', 'totem')
-        for it in (self.stand_in, os.path.join(folder, 'bin'), os.path.join(folder, 'room')):
-            os.mkdir(it)
-        os.makedirs(os.path.join(self.top, 'tools'))
-        for it in ('totem', 'tools/prove', 'tools/release', 'HANDLES'):
-            shutil.copy(os.path.join(REPOSITORY, it), os.path.join(self.top, it))
-        shutil.copy(STAND_IN, os.path.join(folder, 'bin', 'rt'))
-        self.write('crates.txt', CRATES)
-        for name in ('low', 'totem_auditor', 'high', 'totem', 'other'):
-            self.write('crates/%s/src/lib.rt' % name, 'fn f() {}\n')
-        self.say(version='rattle-kit-0 logic %s\n' % LOGIC, built=PROGRAM, tried=ANSWERED, **{'tried-output': 'verdict no\n'})
-        paths = [os.path.join(folder, 'bin'), os.path.dirname(sys.executable), '/usr/bin', '/bin']
-        self.environment = {**process.ENVIRONMENT, 'PATH': ':'.join(paths), 'STAND_IN': self.stand_in,
-                            'TMPDIR': os.path.join(folder, 'room'), 'TOTEM_MEMORY_MB': '1', 'TOTEM_DISK_MB': '1', 'TOTEM_AHEAD_MB': '999999999'}
-
-    def write(self, path, text):
-        """Writes a file of the repository."""
-        path = os.path.join(self.top, path)
-        os.makedirs(os.path.dirname(path), exist_ok=True)
-        with open(path, 'w', encoding='utf-8') as it:
-            it.write(text)
-
-    def say(self, **files):
-        """Sets what the stand-in does from now on."""
-        for name, text in files.items():
-            with open(os.path.join(self.stand_in, name), 'w', encoding='utf-8') as it:
-                it.write(text)
-
-    def told(self, name):
-        """The lines of a file of the stand-in."""
-        path = os.path.join(self.stand_in, name)
-        if not os.path.exists(path):
-            return []
-        with open(path, encoding='utf-8') as it:
-            return it.read().splitlines()
-
-    def start(self, *words, **environment):
-        """Starts the launcher in a group of its own."""
-        return subprocess.Popen([os.path.join(self.top, 'totem'), *words], stdin=subprocess.PIPE, stdout=subprocess.PIPE,
-                                stderr=subprocess.PIPE, env={**self.environment, **environment}, start_new_session=True)
-
-    def run(self, *words, **environment):
-        """Runs the launcher to its end."""
-        return end(self.start(*words, **environment))
-
-    def run_tool(self, name, *words):
-        """Runs one of the tools to its end."""
-        return end(subprocess.Popen([os.path.join(self.top, 'tools', name), *words], stdin=subprocess.PIPE, stdout=subprocess.PIPE,
-                                    stderr=subprocess.PIPE, env=self.environment, start_new_session=True))
-
-    def is_slow_at(self):
-        """Waits until the stand-in is at the crate for which it takes long. Returns its process."""
-        until = time.monotonic() + process.allowed(SECONDS)
-        while time.monotonic() < until:
-            found = self.told('is-slow')
-            if found:
-                return int(found[0])
-            time.sleep(0.05)
-        raise TimeoutError('the stand-in did not come to its slow crate')
-
-
-def end(started):
-    """Gives a started launcher its input, and waits for its end."""
-    try:
-        output, errors = started.communicate(b'the input\n', process.allowed(SECONDS))
-    except subprocess.TimeoutExpired:
-        os.killpg(started.pid, signal.SIGKILL)
-        output, errors = started.communicate()
-        return process.Answer('hangs', output, errors)
-    return process.Answer(started.returncode, output, errors)
-
-
-@contextmanager
-def scene():
-    """A scene that is removed in the end."""
-    with tempfile.TemporaryDirectory() as folder:
-        yield Scene(folder)
-
-
-def differs(came, status, output, *parts):
-    """What is wrong with an answer: its status, its output, or a part that is missing in its errors, in this order."""
-    place = 0
-    for part in parts:
-        place = came.errors.find(part.encode(), place)
-        if place < 0:
-            return 'the errors lack %r there: %s' % (part, came)
-    return None if (came.status, came.output) == (status, output.encode()) else 'came: %s' % came
-
-
 AUDITED, MADE = 'totem_auditor audit\nthe input\n', 'totem run\nthe input\n'
 WHOLE = 'totem audit\nthe input\n'
 
@@ -193,7 +82,7 @@ def build_anew(_program):
     with scene() as it:
         it.say(kept='low\n')
         wrong = differs(it.run('prove', TOTEM_ANEW='1'), 0, '', '1 of 3 proved: low')
-        return wrong or (it.told('calls')[-1] != 'ci --anew' and 'rt was called so: %r' % it.told('calls'))
+        return wrong or (it.told('calls') != ['version', 'ci --anew', 'version'] and 'rt was called so: %r' % it.told('calls'))
 
 
 def build_refused(_program):
@@ -296,33 +185,6 @@ def stop_at_word(words, name, _program):
         return differs(it.run(*words, **{name: 'many'}), 70, '', name + '=many is not a number')
 
 
-# ---- a release
-
-def release(_program):
-    """The archive has the program, the examples, the lines of what was proved, and correct checksums."""
-    with scene() as it:
-        it.write('examples/first.run', 'totem-run 1\nend\n')
-        # (`strip` takes no script)
-        strip = os.path.join(os.path.dirname(it.stand_in), 'bin', 'strip')
-        with open(strip, 'w', encoding='ascii') as file:
-            file.write('#!/bin/sh\ncp "$4" "$3"\n')
-        os.chmod(strip, 0o755)
-        it.say(built='#!/bin/sh\necho totem 1.2.3\n', kept='low\n')
-        folder = os.path.join(it.top, 'released')
-        came = it.run_tool('release', folder)
-        name = 'totem-1.2.3-x86_64-linux'
-        wrong = differs(came, 0, os.path.join(folder, name + '.tar.gz') + '\n', '3 of 3 proved')
-        if wrong or it.told('calls')[-2:] != ['ci --anew', 'version']:
-            return wrong or 'rt was called so: %r' % it.told('calls')
-        took = subprocess.run('sha256sum -c --quiet %s.tar.gz.sha256 && tar xzf %s.tar.gz && cd %s && sha256sum -c --quiet SHA256SUMS && '
-                              './totem && cat PROVED.txt && cat examples/first.run' % (name, name, name), shell=True, cwd=folder,
-                              env=it.environment, capture_output=True, text=True, check=False)
-        lines = took.stdout.splitlines()
-        wanted = ['%s: logic=proved functions=1' % crate for crate in ('low', 'high', 'totem')]
-        is_right = lines[0] == 'totem 1.2.3' and lines[4:7] == wanted and lines[-2:] == ['totem-run 1', 'end'] and not took.returncode
-        return None if is_right else 'it has: %r' % took
-
-
 def launcher():
     """The launcher's messages, refusals and builds."""
     yield 'the first look', look_first
@@ -353,4 +215,3 @@ def launcher():
         yield 'a requirement that is not a number, ' + ' '.join(words), partial(stop_at_word, words, 'TOTEM_MEMORY_MB')
     yield 'too little disk', partial(stop_for_lack, ['audit'], 'TOTEM_DISK_MB', 'disk')
     yield 'a disk requirement that is not a number', partial(stop_at_word, ['audit'], 'TOTEM_DISK_MB')
-    yield 'a release', release

@@ -1,0 +1,108 @@
+"""An archive with a proved program."""
+import gzip
+import os
+import shutil
+import subprocess
+import tarfile
+import tempfile
+
+from proving import record
+from proving.copies import TOP, is_fresh
+from proving.making import make, out_of
+from proving.telling import Unmade
+
+PROGRAM = 'totem'
+
+
+def _answer_of(what, *words):
+    """What a command prints; raises if it fails."""
+    try:
+        came = subprocess.run(words, stdin=subprocess.DEVNULL, stdout=subprocess.PIPE, encoding='utf-8', errors='replace', check=False)
+    except OSError as error:
+        raise Unmade('there is no release: %s: %s' % (what, error)) from error
+    if came.returncode:
+        raise Unmade('there is no release: %s ended with status %d' % (what, came.returncode))
+    return came.stdout
+
+
+def _version_of(program):
+    """The version that a program names."""
+    words = _answer_of('the program', program, '--version').split()
+    if len(words) != 2 or words[0] != PROGRAM or not words[1].replace('.', '').replace('-', '').isalnum():
+        raise Unmade('there is no release: the program names no version, but says %r' % ' '.join(words))
+    return words[1]
+
+
+def _copy_built(folder):
+    """Copies the program and its PROVED.txt to a folder. Raises if they don't belong together, or not to the sources as they are."""
+    built, told = os.path.join(folder, 'built'), os.path.join(folder, record.NAME)
+    shutil.copy(os.path.join(out_of(PROGRAM), PROGRAM), built)
+    shutil.copyfile(os.path.join(out_of(PROGRAM), record.NAME), told)
+    with open(told, encoding='utf-8') as it:
+        lines = it.read().splitlines()
+    if record.PROGRAM + record.digest_of(built) not in lines:
+        raise Unmade('there is no release: %s is not about the program beside it' % os.path.join(out_of(PROGRAM), record.NAME))
+    if not is_fresh(PROGRAM):
+        raise Unmade('there is no release: a source changed since the program was proved')
+    return built
+
+
+def _line_of(path, name):
+    """A line of SHA256SUMS, as sha256sum writes it."""
+    spelled = name.replace('\\', '\\\\').replace('\n', '\\n').replace('\r', '\\r')
+    return '%s%s  %s\n' % ('\\' * (spelled != name), record.digest_of(path), spelled)
+
+
+def _write_sums(folder):
+    """Writes the SHA-256 of all files below a folder to its file SHA256SUMS."""
+    names = [os.path.relpath(os.path.join(at, name), folder) for at, _, files in os.walk(folder) for name in files]
+    lines = [_line_of(os.path.join(folder, name), './' + name) for name in sorted(names, key=os.fsencode)]
+    with open(os.path.join(folder, 'SHA256SUMS'), 'w', encoding='utf-8', errors='surrogateescape') as it:
+        it.writelines(lines)
+
+
+def _plain(entry):
+    """An entry of the archive, without what differs from machine to machine."""
+    entry.mtime = entry.uid = entry.gid = 0
+    entry.uname = entry.gname = ''
+    entry.mode = 0o755 if entry.isdir() or entry.mode & 0o100 else 0o644
+    return entry
+
+
+def _pack(folder, path):
+    """Writes a folder to an archive, its files in order."""
+    with open(path, 'wb') as file, gzip.GzipFile('', 'wb', 9, file, 0) as packed, \
+            tarfile.open(fileobj=packed, mode='w', format=tarfile.GNU_FORMAT) as archive:
+        archive.add(folder, os.path.basename(folder), filter=_plain)
+
+
+def _put(path, folder, name):
+    """Moves a file to a folder, at once."""
+    place = os.path.join(folder, name)
+    shutil.copyfile(path, place + '.new')
+    os.replace(place + '.new', place)
+    return place
+
+
+def release(folder, anew):
+    """Proves the program, and writes its archive to a folder; returns the path of the archive. Whoever calls this has the lock."""
+    os.makedirs(folder, exist_ok=True)
+    make(PROGRAM, anew)
+    with tempfile.TemporaryDirectory() as room:
+        built = _copy_built(room)
+        name = '%s-%s-x86_64-linux' % (PROGRAM, _version_of(built))
+        whole = os.path.join(room, name)
+        shutil.copytree(os.path.join(TOP, 'examples'), os.path.join(whole, 'examples'))
+        shutil.copy(os.path.join(room, record.NAME), whole)
+        _answer_of('strip', 'strip', '--strip-all', '-o', os.path.join(whole, PROGRAM), built)
+        _write_sums(whole)
+        archive, sums = os.path.join(room, 'archive'), os.path.join(room, 'sums')
+        _pack(whole, archive)
+        with open(sums, 'w', encoding='ascii') as it:
+            it.write(_line_of(archive, name + '.tar.gz'))
+        # (an archive never stands beside the checksum of another one)
+        if os.path.exists(os.path.join(folder, name + '.tar.gz.sha256')):
+            os.remove(os.path.join(folder, name + '.tar.gz.sha256'))
+        place = _put(archive, folder, name + '.tar.gz')
+        _put(sums, folder, name + '.tar.gz.sha256')
+    return place

@@ -1,0 +1,22 @@
+"""The arguments of the tools, and their statuses."""
+import argparse
+import sys
+
+from running import streams
+
+
+class Words(argparse.ArgumentParser):
+    """Usage errors have the status 64, as those of totem have."""
+
+    def error(self, message):
+        streams.say('%s%s: %s' % (self.format_usage(), self.prog, message))
+        sys.exit(64)
+
+
+def status_of(call, *given):
+    """What a tool's function returns or ends with; 4 if standard output did not take all that was written to it."""
+    try:
+        status = call(*given)
+    except SystemExit as end:
+        status = end.code or 0
+    return status if streams.write(b'') or sys.stdout is None else 4
