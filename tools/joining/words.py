@@ -2,7 +2,6 @@
 import argparse
 import os
 import shutil
-import signal
 import sys
 import tempfile
 
@@ -14,6 +13,8 @@ from joining.numbers import Numbers
 from joining.scan import Scan
 from joining.sends import move_sends
 from joining.trouble import Changes, Refused, WriteFailed, tell
+from running import signals
+from running.words import Words
 
 DESCRIPTION = """Makes one run from the logs of several processes:
 
@@ -38,14 +39,6 @@ and for logs that are too long for one run:
 What is changed, inferred or left out is reported on standard error, a few of each kind by name; --changes FILE lists all. docs/OWN-LOGS.md,
 "What each option may change", says what each option can hide. The status is 0, or 1 if the logs can't be joined (then nothing is written), 4
 if the output or standard error fails, 64 for a usage error."""
-
-
-class Words(argparse.ArgumentParser):
-    """Usage errors have the status 64, as those of totem have."""
-
-    def error(self, message):
-        self.print_usage(sys.stderr)
-        self.exit(64, 'logs: %s\n' % message)
 
 
 def _add_words_of_join(join):
@@ -239,11 +232,6 @@ def _write_failed():
     return 4
 
 
-def _interrupt(*_):
-    """Treats a signal to end as an interrupt, so that no temporary file stays."""
-    raise KeyboardInterrupt
-
-
 def _join(asked):
     """Joins the logs. Returns the status."""
     try:
@@ -264,8 +252,7 @@ def _join(asked):
 def main(words):
     """Does what the arguments ask for, and returns the status."""
     asked = read_words(words)
-    for number in (signal.SIGTERM, signal.SIGHUP):
-        signal.signal(number, _interrupt)
+    signals.on_ending(signals.interrupt)
     try:
         return _join(asked)
     except WriteFailed:
