@@ -56,7 +56,7 @@ AFTER_FAILURE = 'they are after a failure'
 ELSEWHERE = 'they name another configuration than the one in which the log is there'
 AFTER_DELIVERY = 'its own deliveries come before them'
 AFTER_CHANGE = 'it had left the configuration from which it delivered the messages'
-NOWHERE = 'it delivered the messages where none can have been sent before'
+NOWHERE = 'the messages were delivered where none can have been sent before'
 TWICE = 'they are sent more than once, and nobody delivered the messages'
 LEFT_BEFORE = 'it had left the configuration in which others delivered the messages'
 NEVER_THERE = 'it was never in the configuration in which others delivered the messages'
@@ -76,14 +76,14 @@ class Account:
         self.places, self.goals = array('Q'), array('Q')
         # By their indexes: those that stay and why; those of messages that this process never delivered; those that go back.
         self.stays, self.missing, self.late, self.left_out = {}, set(), set(), set()
-        # Those that go to the end of a configuration.
-        self.ends = set()
+        # Those that go to the end of a configuration, and those that a later one keeps back.
+        self.ends, self.kept_back = set(), set()
         # Own deliveries in another order than the sends: the first ones in words, and how many there are.
         self.swapped, self.swaps = [], 0
         named = self._read_sends()
         self.goals.extend(self.inside)
         self.places.extend(self.lines)
-        delivered = self.deliveries(set(self.names))
+        delivered = {name: own for name, own in self.deliveries(set(self.names)).items() if own[0] < self.failed_at}
         for index, name in enumerate(self.names):
             self._place(index, named[index], delivered.get(name), moves_late)
         self._compare_orders(delivered)
@@ -106,7 +106,7 @@ class Account:
         return named
 
     def deliveries(self, names):
-        """The first delivery of each of these messages before a failure: its line, and the index of its segment."""
+        """The first delivery of each of these messages: its line, and the index of its segment."""
         found, line = {}, 0
         for segment, block in pieces(self.log, self.segments):
             stripped = block.replace(b'dlv %s ' % self.segments[segment].configuration, b'')
@@ -115,7 +115,7 @@ class Account:
             else:
                 those = stripped.split(b'\n')
             for at, name in [(at, name) for at, name in enumerate(those, line + 1) if name in names]:
-                if name not in found and at < self.failed_at:
+                if name not in found:
                     found[name] = at, segment
             line += block.count(b'\n')
         return found
@@ -204,6 +204,7 @@ class Account:
                 continue
             if self.places[index] > bound:
                 self.places[index] = bound
+                self.kept_back.add(index)
                 if bound <= max(self.segments[self.goals[index]].first, self.lines[index]):
                     self._swap(index, later, 'the second one has to come before line %d, and the first one into %s' % (
                         bound, self.segments[self.goals[index]].configuration.decode()))
@@ -220,8 +221,10 @@ class Account:
             return
         there = indexes.get(delivered_in[name], ())
         later = [segment for segment in there if segment >= inside and self.segments[segment].first < self.failed_at]
-        if not delivered_in[name] or not later:
-            self.stays[index] = LEFT_BEFORE if delivered_in[name] and there else NEVER_THERE
+        if not delivered_in[name]:
+            self.stays[index] = NOWHERE
+        elif not later:
+            self.stays[index] = LEFT_BEFORE if there else NEVER_THERE
         elif later[0] > inside:
             self._go_to_end(index, later[0])
 

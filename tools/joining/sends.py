@@ -10,12 +10,12 @@ from joining.trouble import MOST_TOLD, Refused, some, tell, tell_each
 
 def _delivered_in(accounts):
     """For each message that others delivered and its sender never did, the regular configuration from which they delivered it; an empty name if
-    there is none."""
+    there is none, or they delivered it only after a failure. Also, how often such messages are sent."""
     missing = {account.names[index] for account in accounts for index in account.missing}
     found = {}
     for account in accounts if missing else ():
-        for name, (_, segment) in account.deliveries(missing).items():
-            regular = regular_at(account.segments, segment)
+        for name, (line, segment) in account.deliveries(missing).items():
+            regular = regular_at(account.segments, segment) if line < account.failed_at else None
             if not found.get(name):
                 found[name] = account.segments[regular].configuration if regular is not None else b''
     counts = Counter(name for account in accounts for name in account.names if name in missing) if missing else {}
@@ -83,18 +83,16 @@ class Rewriting:
 
     def tell(self):
         """Reports what was moved, what was left out, and what stays."""
-        account, ends, inside, beyond = self.account, {}, [], []
+        account, ends = self.account, {}
         for index in self.moved:
-            goal = account.goals[index]
-            if index in account.ends:
-                ends.setdefault(goal, []).append(index)
-            else:
-                inside.append(index)
-            if goal > account.inside[index]:
-                beyond.append(index)
-        self._tell('sends moved to just before their own deliveries', inside)
-        tell_each([self._told('sends moved to the end of %s, or before a later send there, since it delivered the messages after it or not at all' %
+            if index in account.ends - account.kept_back:
+                ends.setdefault(account.goals[index], []).append(index)
+        others = account.ends | account.kept_back
+        self._tell('sends moved to just before their own deliveries', [index for index in self.moved if index not in others])
+        tell_each([self._told('sends moved to the end of %s, since it delivered the messages after it or not at all' %
                               account.segments[goal].configuration.decode(), indexes) for goal, indexes in sorted(ends.items())])
+        self._tell('sends moved to just before a later send', [index for index in self.moved if index in account.kept_back])
+        beyond = [index for index in self.moved if account.goals[index] > account.inside[index]]
         self._tell('sends that are now in a later configuration than the messages were taken in', beyond)
         self._tell('sends moved back over a change, since the call says so', sorted(account.late))
         self._tell('sends that are left out, since nobody delivered the messages', sorted(account.left_out))

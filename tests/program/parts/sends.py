@@ -25,6 +25,10 @@ SENDS = {
         '--own-sends', {'1.log': 'conf r4.1 1\nfail r4.1\nsend r4.1 a 4.1#1\ndlv r4.1 4.1#1\n'},
         'totem-run 1\nlog 1\nconf r4.1 1\nfail r4.1\nsend r4.1 a 4.1#1\ndlv r4.1 4.1#1\nopen\nend\n',
         'logs: 1.log: sends that stay where they are, since they are after a failure: 1 (4.1#1)\n'),
+    'a message that is delivered only after a failure': (
+        '--own-sends', {'1.log': 'conf r4.1 1\nsend r4.1 a 4.1#1\nconf t8.1/1 1\nfail t8.1/1\ndlv t8.1/1 4.1#1\n'},
+        'totem-run 1\nlog 1\nconf r4.1 1\nsend r4.1 a 4.1#1\nconf t8.1/1 1\nfail t8.1/1\ndlv t8.1/1 4.1#1\nopen\nend\n',
+        'logs: 1.log: sends that stay where they are, since the messages were delivered where none can have been sent before: 1 (4.1#1)\n'),
     'a send that names another configuration stays': (
         '--own-sends', {'1.log': 'conf r4.1 1\nsend r8.1 a 4.1#1\ndlv r4.1 4.1#1\n'},
         'totem-run 1\nlog 1\nconf r4.1 1\nsend r8.1 a 4.1#1\ndlv r4.1 4.1#1\nopen\nend\n',
@@ -43,15 +47,13 @@ SENDS = {
         'totem-run 1\nlog 1\nconf r4.1 1\nsend r4.1 a 4.1#1\ndlv r4.1 4.1#1\nsend r4.1 a 4.1#2\nconf t8.1/1 1\ndlv t8.1/1 4.1#2\n'
         'open\nend\n',
         'logs: 1.log: sends moved to just before their own deliveries: 1 (4.1#1)\n'
-        'logs: 1.log: sends moved to the end of r4.1, or before a later send there, since it delivered the messages after it or not at all: 1 '
-        '(4.1#2)\n'),
+        'logs: 1.log: sends moved to the end of r4.1, since it delivered the messages after it or not at all: 1 (4.1#2)\n'),
     'two deliveries after the transitional change, the second of whose sends is at the end already': (
         '--own-sends', {'1.log': 'conf r4.1 1\nsend r4.1 a 4.1#1\ndlv r4.1 4.1#3\nsend r4.1 a 4.1#2\nconf t8.1/1 1\ndlv t8.1/1 4.1#1\n'
                                  'dlv t8.1/1 4.1#2\n'},
         'totem-run 1\nlog 1\nconf r4.1 1\ndlv r4.1 4.1#3\nsend r4.1 a 4.1#1\nsend r4.1 a 4.1#2\nconf t8.1/1 1\ndlv t8.1/1 4.1#1\n'
         'dlv t8.1/1 4.1#2\nopen\nend\n',
-        'logs: 1.log: sends moved to the end of r4.1, or before a later send there, since it delivered the messages after it or not at all: 1 '
-        '(4.1#1)\n'),
+        'logs: 1.log: sends moved to the end of r4.1, since it delivered the messages after it or not at all: 1 (4.1#1)\n'),
     'a send that was recorded when it was delivered after the transitional change stays': (
         '--own-sends', {'1.log': 'conf r4.1 1\nconf t8.1/1 1\nsend r4.1 a 4.1#1\ndlv t8.1/1 4.1#1\n'},
         'totem-run 1\nlog 1\nconf r4.1 1\nconf t8.1/1 1\nsend r4.1 a 4.1#1\ndlv t8.1/1 4.1#1\nopen\nend\n',
@@ -60,8 +62,7 @@ SENDS = {
     'the same goes back, if the call says so': (
         '--own-sends --late-sends', {'1.log': 'conf r4.1 1\nconf t8.1/1 1\nsend r4.1 a 4.1#1\ndlv t8.1/1 4.1#1\n'},
         'totem-run 1\nlog 1\nconf r4.1 1\nsend r4.1 a 4.1#1\nconf t8.1/1 1\ndlv t8.1/1 4.1#1\nopen\nend\n',
-        'logs: 1.log: sends moved to the end of r4.1, or before a later send there, since it delivered the messages after it or not at all: 1 '
-        '(4.1#1)\n'
+        'logs: 1.log: sends moved to the end of r4.1, since it delivered the messages after it or not at all: 1 (4.1#1)\n'
         'logs: 1.log: sends moved back over a change, since the call says so: 1 (4.1#1)\n'),
     'what a process that failed never delivered, and another one did, stays where it was taken': (
         '--own-sends', {'1.log': 'conf r4.1 1 2\nsend r4.1 a 4.1#1\nsend r4.1 a 4.1#2\nfail r4.1\n', '2.log': ONE_OTHER},
@@ -80,8 +81,7 @@ SENDS = {
         'totem-run 1\nlog 1\nconf r2.1 1 2\nconf t4.1/1 1 2\nconf r4.1 1 2\nsend r4.1 a 2.1#1\nsend r4.1 a 2.1#2\ndlv r4.1 2.1#2\n'
         'fail r4.1\nfailed\nlog 2\nconf r2.1 1 2\nconf t4.1/1 1 2\nconf r4.1 1 2\ndlv r4.1 2.1#1\ndlv r4.1 2.1#2\nopen\nend\n',
         'logs: 1.log: sends moved to just before their own deliveries: 1 (2.1#2)\n'
-        'logs: 1.log: sends moved to the end of r4.1, or before a later send there, since it delivered the messages after it or not at all: 1 '
-        '(2.1#1)\n'
+        'logs: 1.log: sends moved to just before a later send: 1 (2.1#1)\n'
         'logs: 1.log: sends that are now in a later configuration than the messages were taken in: 2 (2.1#1, 2.1#2)\n'),
     'what others delivered where the sender never was': (
         '--own-sends', {'1.log': 'conf r3.1 1\nsend r3.1 a 4.1#1\n', '2.log': ONE_OTHER},
