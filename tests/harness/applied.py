@@ -1,0 +1,246 @@
+"""Applies a list of changes, as `tools/logs join --changes` writes it, to the logs of a folder: what comes out is the run. This shares no code
+with the tool."""
+import re
+from dataclasses import dataclass, field
+
+FORMS = {name: re.compile(form) for name, form in {
+    'line': r'(\S+\.log), line (\d+): left out: (.*)',
+    'trimmed': r'(\S+\.log), after line (\d+): left out',
+    'log': r'(\S+\.log): left out',
+    'moved': r'(\S+\.log), line (\d+): moved to just before line (\d+), as (send \S+ [as] \S+): (.*)',
+    'moved to the end': r'(\S+\.log), line (\d+): moved to the end, as (send \S+ [as] \S+): (.*)',
+    'added': r'(\S+\.log), end: (fail \S+) is added',
+    'added no more': r'(\S+\.log), end: left out: (fail \S+)',
+    'ending': r'(\S+\.log), end: (open|failed|quiet) in place of (open|failed|quiet)',
+    'member': r'([rt]\S+): member (\d+) is (\d+):(\d+)',
+    'process': r'process (\d+) becomes (\d+)',
+    'ring': r'ring number (\d+) becomes (\d+)',
+}.items()}
+
+
+class Unfit(Exception):
+    """The list of changes does not fit the logs."""
+
+
+@dataclass
+class File:
+    """A log as its file has it, and what is to become of it."""
+
+    name: str
+    process: int
+    life: int
+    # The lines, numbered from 1; the last one may lack its line end.
+    lines: list
+    is_torn: bool
+    ending: str
+    gone: set = field(default_factory=set)
+    # The last line that is kept, together with what is moved to before it.
+    last: int = 0
+    # By the number of a line: what is moved to just before it. Behind all lines for what goes to the end.
+    moved: dict = field(default_factory=dict)
+    # By the number of a line that moves: the line before which it goes, and what it is then.
+    moves: dict = field(default_factory=dict)
+    added: list = field(default_factory=list)
+    is_left_out: bool = False
+
+    def line(self, number):
+        """A line by its number."""
+        if not 1 <= number <= len(self.lines):
+            raise Unfit('%s has no line %d' % (self.name, number))
+        return self.lines[number - 1]
+
+    @property
+    def is_trimmed(self):
+        """Whether what comes after some line is left out."""
+        return self.last > 0
+
+    def is_kept(self, number):
+        """Whether what stands at this line, or is moved to before it, comes before the place after which all is left out."""
+        return not self.last or number <= self.last
+
+    def result(self):
+        """The lines that come out."""
+        came = []
+        for number in filter(self.is_kept, range(1, len(self.lines) + 2)):
+            came += self.moved.get(number, [])
+            if number not in self.gone:
+                came += self.lines[number - 1:number]
+        return came + self.added
+
+
+def read_file(name, text):
+    """A log of a folder."""
+    found = re.fullmatch(r'(\d+)(?:\.(\d+))?\.log', name)
+    lines = text.split('\n')
+    is_torn = lines[-1] != ''
+    if not is_torn:
+        lines.pop()
+    ending = 'open'
+    if lines and not is_torn and lines[-1] == 'quiet':
+        ending = 'quiet'
+        lines.pop()
+    elif any(line.startswith('fail ') for line in (lines[-2:-1] if is_torn else lines[-1:])):
+        ending = 'failed'
+    return File(name, int(found[1]), int(found[2]) if found[2] else None, lines, is_torn, ending)
+
+
+class Applied:
+    """The logs of a folder with a list of changes applied to them."""
+
+    def __init__(self, files, changes, adds_lives):
+        self.files = {name: read_file(name, text) for name, text in files.items() if name.endswith('.log')}
+        self.adds_lives = adds_lives
+        self.lives, self.processes, self.rings = {}, {}, {}
+        self.changes = []
+        for text in changes.splitlines():
+            self._take(text)
+        for file in self.files.values():
+            if adds_lives:
+                file.life = file.life or 1
+            if file.is_torn and len(file.lines) not in file.gone and not file.is_left_out:
+                raise Unfit('%s: nothing is said of its last line, which is cut off' % file.name)
+
+    def _take(self, text):
+        for name, form in FORMS.items():
+            found = form.fullmatch(text)
+            if found:
+                self.changes.append((name, found))
+                getattr(self, '_take_' + name.replace(' ', '_'))(*found.groups())
+                return
+        raise Unfit('a line of no known form: %r' % text)
+
+    def _file(self, name):
+        if name not in self.files:
+            raise Unfit('there is no %s' % name)
+        return self.files[name]
+
+    def _remove(self, name, number, text):
+        file, number = self._file(name), int(number)
+        if file.line(number) != text:
+            raise Unfit('%s, line %d is not %r' % (name, number, text))
+        if number in file.gone:
+            raise Unfit('%s, line %d is changed twice' % (name, number))
+        file.gone.add(number)
+        return file
+
+    def _take_line(self, name, number, text):
+        self._remove(name, number, text)
+
+    def _take_trimmed(self, name, number):
+        file = self._file(name)
+        file.line(int(number))
+        file.last = int(number)
+
+    def _take_log(self, name):
+        self._file(name).is_left_out = True
+
+    def _take_moved(self, name, number, before, new, text):
+        self._file(name).line(int(before))
+        self._move(name, number, int(before), new, text)
+
+    def _take_moved_to_the_end(self, name, number, new, text):
+        self._move(name, number, len(self._file(name).lines) + 1, new, text)
+
+    def _move(self, name, number, before, new, text):
+        file = self._remove(name, number, text)
+        if new.split(' ')[2:] != text.split(' ')[2:]:
+            raise Unfit('%s: %r became %r' % (name, text, new))
+        file.moved.setdefault(before, []).append(new)
+        file.moves[int(number)] = before, new
+
+    def _take_added(self, name, line):
+        self._file(name).added.append(line)
+
+    def _take_added_no_more(self, name, line):
+        if line not in self._file(name).added:
+            raise Unfit('%s: %r was not added' % (name, line))
+        self._file(name).added.remove(line)
+
+    def _take_ending(self, name, new, old):
+        file = self._file(name)
+        if file.ending != old:
+            raise Unfit('%s is %s, not %s' % (name, file.ending, old))
+        file.ending = new
+
+    def _take_member(self, configuration, member, process, life):
+        if member != process or self.lives.setdefault((configuration, member), life) != life:
+            raise Unfit('%s: member %s has several lives' % (configuration, member))
+
+    def _take_process(self, old, new):
+        self.processes[old] = new
+
+    def _take_ring(self, old, new):
+        self.rings[old] = new
+
+    def _member(self, file, configuration, word, has_lives):
+        """A member as the run writes it."""
+        process, _, life = word.partition(':')
+        if self.adds_lives and int(process) == file.process:
+            life = str(file.life)
+        elif self.adds_lives:
+            if (configuration, process) not in self.lives:
+                raise Unfit('no life is said for member %s of %s' % (process, configuration))
+            life = self.lives[configuration, process]
+        return self._process(process) + (':' + (life or '1') if has_lives else '')
+
+    def _process(self, process):
+        return self.processes.get(process, process)
+
+    def _ring(self, ring):
+        number, _, process = ring.partition('.')
+        return '%s.%s' % (self.rings.get(number, number), self._process(process))
+
+    def _name(self, word):
+        """The name of a configuration or a message, with its new numbers."""
+        if word[0] not in 'rt' and '#' not in word:
+            return word
+        word = re.sub(r'\d+\.\d+', lambda found: self._ring(found[0]), word)
+        return re.sub(r'/(\d+)', lambda found: '/' + self._process(found[1]), word)
+
+    def _line(self, file, line, has_lives):
+        words = line.split(' ')
+        names = [words[0], *map(self._name, words[1:])]
+        if words[0] == 'conf':
+            names[2:] = [self._member(file, words[1], word, has_lives) for word in words[2:]]
+        return ' '.join(names)
+
+    def logs(self):
+        """The logs that come out, in their order: the name of each file, its lines and its ending, as the files write them."""
+        kept = [file for file in self.files.values() if not file.is_left_out]
+        return sorted(kept, key=lambda file: (file.process, file.life or 1))
+
+    def text(self):
+        """The run that comes out."""
+        logs = self.logs()
+        version = 3 if any(file.ending == 'quiet' for file in logs) else 2 if any(file.life for file in logs) else 1
+        lines = ['totem-run %d' % version]
+        for file in logs:
+            process = self._process(str(file.process))
+            lines.append('log ' + (process if version == 1 else '%s:%d' % (process, file.life or 1)))
+            lines += [self._line(file, line, version > 1) for line in file.result()]
+            lines.append(file.ending)
+        return '\n'.join([*lines, 'end', '']).encode()
+
+
+def glue(parts):
+    """The run whose parts these are: each log that goes on begins, in the next part, with the change with which it ended."""
+    first = parts[0].split(b'\n')[0]
+    logs = {}
+    for part in parts:
+        head, *lines = part.split(b'\n')
+        if head != first:
+            raise Unfit('two parts have different versions')
+        log = None
+        for line in lines[:-2]:
+            if line.startswith(b'log '):
+                log = logs.setdefault(line, [])
+                ended = log[-2:]
+                del log[-1:]
+            elif ended:
+                if ended != [line, b'open']:
+                    raise Unfit('%r ends with %r, and goes on with %r' % (log[0], ended, line))
+                ended = []
+            else:
+                log.append(line)
+    by_process = sorted(logs, key=lambda line: [int(number) for number in line[4:].split(b':')])
+    return b'\n'.join([first, *(line for name in by_process for line in (name, *logs[name])), b'end', b''])

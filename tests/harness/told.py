@@ -1,0 +1,224 @@
+"""What `tools/logs join` promises of its changes, tested by loops of its own over the logs of a folder and what became of them (of sends:
+own_sends.py). Each test returns what is wrong, in words."""
+import re
+
+from harness.lines import changes_of, configuration_of, entries_of, has_line, is_send, message_of, shortens
+from harness.recordings import is_regular
+
+
+# Which kinds of changes an option allows; without an option only a last line that is cut off is left out, and a log without an entry.
+ALLOWED = {'moved': '--own-sends', 'moved to the end': '--own-sends', 'line': '--own-sends', 'trimmed': '--trim', 'added': '--failed',
+           'added no more': '--trim', 'member': '--lives', 'process': '--renumber', 'ring': '--renumber'}
+
+
+def is_torn_line(applied, found):
+    """Whether a change leaves out a last line that was cut off."""
+    file = applied.files[found[1]]
+    return file.is_torn and int(found[2]) == len(file.lines)
+
+
+def not_asked_for(applied, words):
+    """Changes of kinds that no option asks for."""
+    for kind, found in applied.changes:
+        option = ALLOWED.get(kind)
+        if kind == 'line' and is_torn_line(applied, found):
+            continue
+        if kind == 'log' and not entries_of(applied.files[found[1]]):
+            continue
+        if kind == 'log':
+            option = '--trim'
+        if option and option not in words:
+            yield 'without %s: %s' % (option, found[0])
+
+
+def _named(words, option):
+    """What the lists of an option name."""
+    return {who for word, value in zip(words, words[1:]) if word == option for who in value.split(',')}
+
+
+def endings_not_asked_for(applied, words):
+    """Logs that end in another way than their files and the call say."""
+    failed, quiet = _named(words, '--failed'), _named(words, '--quiet')
+    for kind, found in applied.changes:
+        if kind not in ('added', 'ending'):
+            continue
+        file = applied.files[found[1]]
+        names = {str(file.process), '%d:%d' % (file.process, file.life or 1)}
+        is_said = {'failed': names & failed, 'quiet': names & quiet or 'all' in quiet, 'open': '--trim' in words}
+        changes = changes_of(entries_of(file))
+        if kind == 'added':
+            if not names & failed or found[2] != 'fail ' + changes[-1]:
+                yield 'nobody said so: %s' % found[0]
+        elif not is_said[found[2]]:
+            yield 'nobody said so: %s' % found[0]
+
+
+def untold(applied, errors):
+    """Changes of which standard error has no line: the file and what happened to it, for a send also the message, unless the line says that
+    there are more than it lists."""
+    came = {(name, file.process) for file in applied.files.values() for name in changes_of(entries_of(file))}
+    for kind, found in applied.changes:
+        if kind in ('process', 'ring'):
+            parts = ['becomes %s' % found[2], ' %s ' % found[1]]
+        elif kind == 'member':
+            if (found[1], int(found[2])) in came:
+                continue
+            parts = ['%s: member %s' % (found[1], found[2]), '%s:%s' % (found[3], found[4])]
+        elif kind in ('added', 'added no more'):
+            parts = [found[1], found[2]]
+        elif kind == 'ending':
+            if has_line(errors, found[1], found[3]):
+                continue
+            parts = [found[1], {'failed': 'fail'}.get(found[2], found[2])]
+        else:
+            parts = [found[1], 'moved' if kind.startswith('moved') else 'left out']
+        names = []
+        if kind == 'line' and not is_torn_line(applied, found) or kind.startswith('moved'):
+            names = [message_of(found[found.re.groups])]
+        if not has_line(errors, *parts, *names) and not shortens(errors, *parts):
+            yield 'not told on standard error: %s' % found[0]
+
+
+class Lives:
+    """The lives that members can have, by the logs and by what the call says."""
+
+    def __init__(self, applied, words, clock):
+        self.applied = applied
+        self.highest, self.came, self.beside, self.members = {}, {}, {}, set()
+        for file in applied.files.values():
+            self._see(file)
+        self.starts, self.ends, self.times = {}, {}, {}
+        for line in clock.splitlines():
+            self._see_time(*line.split(' '))
+        self.said = {}
+        for member in _named(words, '--member'):
+            configuration, process, life = re.fullmatch(r'(.*)=(\d+):(\d+)', member).groups()
+            self.said[configuration, int(process)] = int(life)
+        self.absent = {tuple(map(int, who.split(':'))) for who in _named(words, '--absent')}
+
+    def _see(self, file):
+        who = file.process, file.life or 1
+        self._high(*who)
+        lines = [line for line in entries_of(file) if line.startswith('conf ')]
+        names = changes_of(lines)
+        for line, name in zip(lines, names):
+            self.came.setdefault((name, who[0]), set()).add(who[1])
+            self.members |= {(name, int(process)) for process in line.split(' ')[2:]}
+        for one, other in zip(names, names[1:]):
+            if is_regular(one) != is_regular(other):
+                self.beside.setdefault(one, set()).add(other)
+                self.beside.setdefault(other, set()).add(one)
+
+    def _high(self, process, life):
+        self.highest[process] = max(life, self.highest.get(process, 1))
+
+    def _see_time(self, time, word, what):
+        if word == 'conf':
+            self.times[what] = min(float(time), self.times.get(what, float('inf')))
+            return
+        process, life = map(int, what.split(':'))
+        self._high(process, life)
+        (self.starts if word == 'start' else self.ends)[process, life] = float(time)
+
+    def _possible(self, process):
+        return {life for life in range(1, self.highest.get(process, 0) + 1) if (process, life) not in self.absent}
+
+    def _runs(self, process, life):
+        """When a life ran, as far as the clock knows it."""
+        times = [*self.starts.items(), *self.ends.items()]
+        before = max((time for (other, number), time in times if other == process and number < life), default=0)
+        after = min((time for (other, number), time in times if other == process and number > life), default=float('inf'))
+        return self.starts.get((process, life), before), self.ends.get((process, life), after)
+
+    def _by_clock(self, configuration, process):
+        """The lives that can have run when this configuration began."""
+        came = [self._runs(other, life) for (name, other), lives in self.came.items() if name == configuration for life in lives]
+        begin = self.times.get(configuration, max((begin for begin, _ in came), default=0))
+        end = self.times.get(configuration, min((end for _, end in came), default=float('inf')))
+        runs = {life: self._runs(process, life) for life in self._possible(process)}
+        return {life for life, (first, last) in runs.items() if first <= end and begin <= last}
+
+    def inferred(self):
+        """The life of each member that no log shows and that can be only one, in one of the ways that the tool may take."""
+        known = {key: set(lives) for key, lives in self.came.items()}
+        known.update({key: {life} for key, life in self.said.items() if key not in known})
+        unknown = [key for key in sorted(self.members) if key not in known]
+        for key in unknown:
+            ways = (self._possible(key[1]), self._by_clock(*key))
+            if any(len(lives) == 1 for lives in ways):
+                known[key] = set.union(*(lives for lives in ways if len(lives) == 1))
+        learned = True
+        while learned:
+            learned = False
+            for key in unknown:
+                near = [known[name, key[1]] for name in self.beside.get(key[0], ()) if (name, key[1]) in known]
+                lives = set.union(set(), *near)
+                if not lives <= known.get(key, set()) and (len(lives) == 1 or key in known):
+                    known[key] = known.get(key, set()) | lives
+                    learned = True
+        return known
+
+    def wrongs(self):
+        """Members with a life that was not said and is not the only possible one."""
+        known = self.inferred()
+        for (configuration, process), life in self.applied.lives.items():
+            key = configuration, int(process)
+            if int(life) not in known.get(key, ()):
+                yield 'member %s of %s became %s:%s, and could also be another life' % (process, configuration, process, life)
+
+
+def trims(applied):
+    """What is wrong with the change at which logs are trimmed."""
+    ends = {file.name: file.result()[-1:] for file in applied.logs() if file.is_trimmed}
+    if not ends:
+        return
+    names = {configuration_of(line) for lines in ends.values() for line in lines if line.startswith('conf r')}
+    if len(names) != 1 or any(not lines or not lines[0].startswith('conf r') for lines in ends.values()):
+        yield 'trimmed logs end differently: %s' % ends
+        return
+    name = names.pop()
+    before, after = set(), set()
+    for file in applied.files.values():
+        changes = changes_of(entries_of(file))
+        if name in changes:
+            before |= set(changes[:changes.index(name)])
+            after |= set(changes[changes.index(name) + 1:])
+        elif not file.is_left_out and file.ending != 'failed':
+            yield '%s neither failed nor changes to %s' % (file.name, name)
+    if (before & after) - {name}:
+        yield '%s come before %s in one log and after it in another' % (sorted(before & after), name)
+
+
+def names_again(applied, errors):
+    """Names in what is left out that are also in what is kept, of which standard error says nothing."""
+    kept, gone = [], []
+    for file in applied.files.values():
+        lines = entries_of(file)
+        for number, line in enumerate(lines, 1):
+            (kept if file.is_kept(number) and not file.is_left_out else gone).append(line)
+    for what, lines in (('changes to', [set(changes_of(kept)), set(changes_of(gone))]),
+                        ('sends of', [{message_of(line) for line in part if is_send(line)} for part in (kept, gone)])):
+        for name in sorted(set.intersection(*lines)):
+            if not has_line(errors, name) and not shortens(errors):
+                yield '%s %s are kept and left out, and that is not told' % (what, name)
+
+
+def names_of_two_parts(parts):
+    """Names that come in two parts, other than that of the change between them."""
+    seen, ended = {}, None
+    for number, part in enumerate(parts):
+        lines = part.decode().splitlines()
+        ends = {configuration_of(line) for line, close in zip(lines, lines[1:]) if close == 'open' and line.startswith('conf ')}
+        for name in set(changes_of(lines)) | {message_of(line) for line in lines if is_send(line)}:
+            first = seen.setdefault(name, number)
+            between = ended and first == number - 1 and name in ended
+            if first != number and not between:
+                yield name
+        ended = ends
+
+
+def parts_again(parts, errors):
+    """Those of these names of which standard error says nothing."""
+    for name in names_of_two_parts(parts):
+        if not has_line(errors, name) and not shortens(errors):
+            yield '%s is in two parts, and that is not told' % name
