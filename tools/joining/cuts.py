@@ -1,7 +1,8 @@
 """Where logs can be cut: at regular configurations to which all processes that are still there change."""
+from dataclasses import replace
 from typing import NamedTuple
 
-from joining.entries import MOST_LOGS
+from joining.entries import MOST_ENTRIES, MOST_LOGS
 from joining.folder import blocks
 from joining.texts import Part
 from joining.trouble import Refused, tell, tell_each
@@ -118,8 +119,7 @@ class Cutting:
         self.logs = logs
         self.most = most
         self.life_of = life_of
-        self.common = common_changes(logs)
-        self.cuts = in_a_row(self.common)
+        self.cuts = in_a_row(common_changes(logs))
         self.begin = Cut(b'', (0,) * len(logs), (0,) * len(logs))
         self.end = Cut(b'', tuple(len(log.changes) for log in logs), tuple(log.entries for log in logs))
 
@@ -135,18 +135,21 @@ class Cutting:
         place = cut.changes[index] - 1
         return place >= 0 and changes[place].configuration == cut.configuration
 
-    def _is_there(self, index, begin, end):
-        return self._range(index, begin, end)[2] > 0
+    def _there(self, begin, end):
+        return [index for index in range(len(self.logs)) if self._range(index, begin, end)[2] > 0]
 
-    def flaw(self, begin, end):
-        """What keeps the entries between two cuts from being a part, or None."""
-        there = [index for index in range(len(self.logs)) if self._is_there(index, begin, end)]
+    def too_long(self, begin, end):
+        """Why the entries between two cuts are too many for a part, or None."""
+        there = self._there(begin, end)
         for index in there:
             entries = self._range(index, begin, end)[2] + bool(self.logs[index].added)
             if entries > self.most:
                 return '%s has %d entries' % (self.logs[index].name, entries)
-        if len(there) > MOST_LOGS:
-            return 'there are %d logs' % len(there)
+        return 'there are %d logs' % len(there) if len(there) > MOST_LOGS else None
+
+    def stranger(self, begin, end):
+        """A member between two cuts that has no log there, in words, or None."""
+        there = self._there(begin, end)
         have = {(self.logs[index].process, self.logs[index].life) for index in there}
         for index in there:
             first, last, _ = self._range(index, begin, end)
@@ -157,15 +160,18 @@ class Cutting:
                         return '%s has the member %d, whose log is entirely before or after it' % (change.configuration.decode(), process)
         return None
 
-    def parts(self, end=None):
-        """The cuts that end the parts, as few as possible; the last is the given end, or else the end of the logs."""
-        end = end or self.end
+    def flaw(self, begin, end):
+        """What keeps the entries between two cuts from being a part, or None."""
+        return self.too_long(begin, end) or self.stranger(begin, end)
+
+    def parts(self):
+        """The cuts that end the parts, as few as possible; the last is the end of the logs."""
         begin, chosen = self.begin, []
-        while begin is not end:
-            later = [cut for cut in self.cuts if _is_before(begin, cut) and _is_before(cut, end)]
-            fit = next((cut for cut in [end] + later[::-1] if not self.flaw(begin, cut)), None)
+        while begin is not self.end:
+            later = [cut for cut in self.cuts if _is_before(begin, cut) and _is_before(cut, self.end)]
+            fit = next((cut for cut in [self.end] + later[::-1] if not self.flaw(begin, cut)), None)
             if fit is None:
-                raise Refused(self._stuck(begin, (later + [end])[0]))
+                raise Refused(self._stuck(begin, (later + [self.end])[0]))
             chosen.append((begin, fit))
             begin = fit
         return chosen
@@ -174,56 +180,16 @@ class Cutting:
         return 'no part fits between %s and %s, the next change of all that are still there: %s' % (
             begin.configuration.decode() or 'the beginning', end.configuration.decode() or 'the end', self.flaw(begin, end))
 
-    def rest(self, end):
-        """What a cut leaves out of each log."""
-        parts = []
-        for log, changes, kept in zip(self.logs, end.changes, end.entries):
-            if kept < log.entries:
-                parts.append(Part(log, _end_of(log, changes) if kept else 0, log.size, True))
-        return parts
-
-    def all_up_to(self, end):
-        """One part, from the beginning up to a cut."""
-        flaw = self.flaw(self.begin, end)
-        if flaw:
-            raise Refused('the entries up to %s are not a run: %s' % (end.configuration.decode(), flaw))
-        return self.begin, end
-
     def of_part(self, begin, end):
         """The parts of the logs between two cuts."""
         parts = []
-        for index, log in enumerate(self.logs):
-            if self._is_there(index, begin, end):
-                first, last, _ = self._range(index, begin, end)
-                start = log.changes[first].offset if begin.entries[index] else 0
-                is_last = end.entries[index] == log.entries and not self._is_cut_through(index, end)
-                parts.append(Part(log, start, log.size if end.entries[index] == log.entries else _end_of(log, last), is_last))
+        for index in self._there(begin, end):
+            log = self.logs[index]
+            first, last, _ = self._range(index, begin, end)
+            start = log.changes[first].offset if begin.entries[index] else 0
+            is_last = end.entries[index] == log.entries and not self._is_cut_through(index, end)
+            parts.append(Part(log, start, log.size if end.entries[index] == log.entries else _end_of(log, last), is_last))
         return parts
-
-    def trimmed(self, changes):
-        """The last common change. Reports what is left out after it, and which endings change."""
-        if not self.common:
-            raise Refused('there is no regular configuration to which all that are still there change')
-        end = self.common[-1]
-        torn = torn_at(self.logs, end)
-        if torn:
-            raise Refused(torn)
-        name = end.configuration.decode()
-        for index, (log, kept) in enumerate(zip(self.logs, end.entries)):
-            if not kept:
-                tell('%s: begins after %s, and is left out' % (log.name, name))
-                changes.add('%s: left out' % log.name)
-                continue
-            if kept < log.entries:
-                tell('%s: entries left out after its change to %s: %d' % (log.name, name, log.entries - kept))
-                last = (log.source or log).changes[end.changes[index] - 1].before + 1
-                changes.add('%s, after line %d: left out' % (log.name, last))
-            if self._is_cut_through(index, end) and log.ending != 'open':
-                tell('%s: is open after its change to %s, and no longer %s' % (log.name, name, log.ending))
-                if log.added:
-                    changes.add('%s, end: left out: %s' % (log.name, log.added.decode().rstrip()))
-                log.end_as('open', changes)
-        return end
 
 
 def _end_of(log, changes):
@@ -232,3 +198,46 @@ def _end_of(log, changes):
     for block in blocks(log.path, offset, log.size):
         return offset + block.index(b'\n') + 1
     return offset
+
+
+def _trimmed(log, cut, index, changes):
+    """A log up to a cut. Reports what is left out, and whether the log ends in another way."""
+    kept, name = cut.entries[index], cut.configuration.decode()
+    trimmed = replace(log, changes=log.changes[:cut.changes[index]], entries=kept)
+    if kept < log.entries:
+        tell('%s: entries left out after its change to %s: %d' % (log.name, name, log.entries - kept))
+        last = (log.source or log).changes[cut.changes[index] - 1].before + 1
+        changes.add('%s, after line %d: left out' % (log.name, last))
+        trimmed.size = _end_of(log, cut.changes[index])
+    if trimmed.changes[-1].configuration == cut.configuration and log.ending != 'open':
+        tell('%s: is open after its change to %s, and no longer %s' % (log.name, name, log.ending))
+        if log.added:
+            changes.add('%s, end: left out: %s' % (log.name, log.added.decode().rstrip()))
+            trimmed.added = b''
+        trimmed.end_as('open', changes)
+    return trimmed
+
+
+def trim(logs, life_of, changes):
+    """The logs up to the last common change, and the parts of logs that are left out. Each log has its changes."""
+    cutting = Cutting(logs, MOST_ENTRIES, life_of)
+    common = common_changes(logs)
+    if not common:
+        raise Refused('there is no regular configuration to which all that are still there change')
+    cut = common[-1]
+    torn, stranger = torn_at(logs, cut), cutting.stranger(cutting.begin, cut)
+    if torn:
+        raise Refused(torn)
+    if stranger:
+        raise Refused('the entries up to %s are not a run: %s' % (cut.configuration.decode(), stranger))
+    trimmed, rest = [], []
+    for index, log in enumerate(logs):
+        if cut.entries[index]:
+            trimmed.append(_trimmed(log, cut, index, changes))
+        else:
+            tell('%s: begins after %s, and is left out' % (log.name, cut.configuration.decode()))
+            changes.add('%s: left out' % log.name)
+        if cut.entries[index] < log.entries:
+            begin = trimmed[-1].size if cut.entries[index] else 0
+            rest.append(Part(log, begin, log.size, True))
+    return trimmed, rest

@@ -35,9 +35,12 @@ class Lives:
         self.logs = logs
         self.files = files
         self.known = {}
+        # All lives of a process that change to a configuration: there are two if a ring came again.
+        self.all = {}
         for log in logs:
             for change in log.changes:
                 self.known.setdefault(change.configuration, {}).setdefault(log.process, log.life)
+                self.all.setdefault((change.configuration, log.process), set()).add(log.life)
         self.came = {configuration: dict(lives) for configuration, lives in self.known.items()}
         self.clock = Clock(asked.clock) if asked.clock else None
         self.possible = self._possible_lives(endings.read_list(asked.absent, may_be_ranges=True) if asked.absent else [])
@@ -158,7 +161,8 @@ class Lives:
             for other in sorted(beside.get(configuration, ())):
                 key = other, process
                 if process in self.known[other]:
-                    lives.setdefault(self.known[other][process], other)
+                    for life in self.all.get(key, {self.known[other][process]}):
+                        lives.setdefault(life, other)
                 elif key in self.unknown and key not in row:
                     row[key] = None
                     todo.append(key)

@@ -6,7 +6,7 @@ import sys
 import tempfile
 
 from joining import again, endings, folder, texts
-from joining.cuts import Cutting
+from joining.cuts import Cutting, trim
 from joining.entries import MOST_ENTRIES, MOST_LOGS
 from joining.lives import Lives, add_lives
 from joining.numbers import Numbers
@@ -159,22 +159,25 @@ class Joining:
 
     def runs(self):
         """The parts of logs of each run that is written."""
-        if not self.asked.cut and not self.asked.trim:
-            self._check_limits()
-            return [[texts.whole(log) for log in self.logs]]
-        cutting = Cutting(self.logs, self.asked.entries or MOST_ENTRIES, self.life_of)
-        end = cutting.trimmed(self.changes) if self.asked.trim else None
-        chosen = cutting.parts(end) if self.asked.cut else [cutting.all_up_to(end)]
-        runs = [cutting.of_part(*part) for part in chosen]
-        called = ['part %d' % number for number in range(1, len(runs) + 1)] if self.asked.cut else ['the part that stays']
-        again.tell_configurations(self.logs, chosen, called)
-        again.tell_messages([*runs, cutting.rest(end)] if end else runs, [*called, 'the part that is left out'])
+        logs, rest = trim(self.logs, self.life_of, self.changes) if self.asked.trim else (self.logs, [])
+        if self.asked.cut:
+            cutting = Cutting(logs, self.asked.entries or MOST_ENTRIES, self.life_of)
+            chosen = cutting.parts()
+            runs = [cutting.of_part(*part) for part in chosen]
+            called = ['part %d' % number for number in range(1, len(runs) + 1)]
+            again.tell_configurations(logs, chosen, called)
+        else:
+            self._check_limits(logs)
+            runs, called = [[texts.whole(log) for log in logs]], ['the part that stays']
+        if len(runs) > 1 or rest:
+            again.tell_messages([*runs, rest], [*called, 'the part that is left out'])
         return runs
 
-    def _check_limits(self):
-        if len(self.logs) > MOST_LOGS:
-            raise Refused('there are %d logs, and a run has %d at most: --cut makes several runs' % (len(self.logs), MOST_LOGS))
-        for log in self.logs:
+    @staticmethod
+    def _check_limits(logs):
+        if len(logs) > MOST_LOGS:
+            raise Refused('there are %d logs, and a run has %d at most: --cut makes several runs' % (len(logs), MOST_LOGS))
+        for log in logs:
             if log.entries + bool(log.added) > MOST_ENTRIES:
                 raise Refused('%s has %d entries, and a run has %d of a log at most: --cut makes several runs' % (
                     log.name, log.entries, MOST_ENTRIES))

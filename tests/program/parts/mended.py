@@ -90,6 +90,9 @@ NOT_CUT = {
         '--trim', {'1.log': 'conf r4.1 1 2\nconf t8.1/1 1 2\nconf r8.1 1 2\nconf t12.1/1 1 2\nconf r12.1 1 2\n',
                    '2.log': 'conf r4.1 1 2\nconf t12.1/1 1 2\nconf r12.1 1 2\nconf t8.1/1 1 2\nconf r8.1 1 2\n'},
         'logs: r12.1 is no place to cut: t8.1/1 comes before it in 1.log (line 2), and after it in 2.log (line 4)\n'),
+    'a log that is open after a trim, and so is not before a cut': (
+        '--trim --failed 5,7 --cut FOLDER/parts --entries 2', {'5.log': 'conf r8.5 5\nconf t12.5/5 5\nconf r12.5 5\n', '7.log': 'conf r4.7 7\n'},
+        'logs: no part fits between the beginning and the end, the next change of all that are still there: 5.log has 4 entries\n'),
     'a log that is too long between two common changes': (
         '--cut FOLDER/parts --entries 2', {'1.log': 'conf r4.1 1\ndlv r4.1 4.1#1\ndlv r4.1 4.1#2\n'},
         'logs: no part fits between r4.1 and the end, the next change of all that are still there: 1.log has 3 entries\n'),
