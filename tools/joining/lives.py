@@ -165,17 +165,24 @@ class Lives:
         return row, lives
 
     def _ask(self):
-        """Takes what the clock says."""
+        """Takes what the clock says, and reports lives that were taken before, and did not run then."""
         for configuration, lives in self.came.items():
             for life in lives.items():
                 self.clock.check_change(configuration, life)
+        tell_each(['%s: member %d is taken for %d:%d, which did not run then, by the clock' % (configuration.decode(), process, process, life)
+                   for configuration, lives in self.known.items() for process, life in lives.items()
+                   if process not in self.came[configuration] and not self._have_run(process, [life], configuration)])
         lines = []
         for configuration, process in list(self.unknown):
             possible = self.possible.get(process) or sorted(self.clock.lives_of(process))
-            lives = self.clock.lives_at(process, possible, configuration, self.came[configuration].items())
+            lives = self._have_run(process, possible, configuration)
             if len(lives) == 1:
                 lines.append(self._learn(configuration, process, lives[0], 'by the clock'))
         tell_each(lines)
+
+    def _have_run(self, process, lives, configuration):
+        """Those of these lives that can have run, by the clock, when the logs changed to this configuration."""
+        return self.clock.lives_at(process, lives, configuration, self.came[configuration].items())
 
     def _refuse(self):
         """Asks for the lives that are not known."""

@@ -141,6 +141,9 @@ REFUSED = {
     'a failure of one of two lives': (
         '--failed 1', {'1.1.log': 'conf r4.1 1:1\n', '1.2.log': 'conf r8.1 1:2\n'}, 'logs: process 1 has 2 lives with a log: say which'),
     'a failure of a quiet process': ('--failed 1', {'1.log': 'conf r4.1 1\nquiet\n'}, 'logs: 1.log says that it is quiet, and the call'),
+    'a quiet process that failed, beside all': (
+        '--failed 2 --quiet all --quiet 2', {**ONE, '2.log': 'conf r4.1 1\n'}, 'logs: 2.log ends with fail, and the call says that it is quiet'),
+    'a quiet process without a log, beside all': ('--quiet all --quiet 2', ONE, 'logs: there is no log of process 2\n'),
     'a quiet process that failed': ('--quiet 1', {'1.log': 'conf r4.1 1\nfail r4.1\n'}, 'logs: 1.log ends with fail, and the call '),
     '33 logs': ('', {'%d.log' % number: 'conf r4.1 1\n' for number in range(1, 34)}, 'logs: there are 33 logs, and a run has 32 at most'),
 }
