@@ -165,13 +165,11 @@ class Lives:
         return row, lives
 
     def _ask(self):
-        """Takes what the clock says, and reports lives that were taken before, and did not run then."""
+        """Takes what the clock says."""
         for configuration, lives in self.came.items():
             for life in lives.items():
                 self.clock.check_change(configuration, life)
-        tell_each(['%s: member %d is taken for %d:%d, which did not run then, by the clock' % (configuration.decode(), process, process, life)
-                   for configuration, lives in self.known.items() for process, life in lives.items()
-                   if process not in self.came[configuration] and not self._have_run(process, [life], configuration)])
+        self._tell_contradictions()
         lines = []
         for configuration, process in list(self.unknown):
             possible = self.possible.get(process) or sorted(self.clock.lives_of(process))
@@ -179,6 +177,16 @@ class Lives:
             if len(lives) == 1:
                 lines.append(self._learn(configuration, process, lives[0], 'by the clock'))
         tell_each(lines)
+
+    def _tell_contradictions(self):
+        """Reports lives whose logs change to one configuration and that did not run at one time, and lives that never came, were taken for
+        members without the clock, and did not run then."""
+        apart = {configuration: self.clock.apart(lives.items()) for configuration, lives in self.came.items()}
+        tell_each(['%s: the logs of %d:%d and %d:%d change to it, and by the clock the first one ended before the second one began' % (
+            configuration.decode(), *pair[0], *pair[1]) for configuration, pair in apart.items() if pair])
+        tell_each(['%s: member %d is taken for %d:%d, which did not run then, by the clock' % (configuration.decode(), process, process, life)
+                   for configuration, lives in self.known.items() for process, life in lives.items()
+                   if process not in self.came[configuration] and not self._have_run(process, [life], configuration)])
 
     def _have_run(self, process, lives, configuration):
         """Those of these lives that can have run, by the clock, when the logs changed to this configuration."""
