@@ -177,9 +177,9 @@ class Cutting:
     def rest(self, end):
         """What a cut leaves out of each log."""
         parts = []
-        for log, changes, kept in zip(self.logs, end.changes, end.entries):
+        for log, count, kept in zip(self.logs, end.changes, end.entries):
             if kept < log.entries:
-                parts.append(Part(log, _end_of(log, changes) if kept else 0, log.size, True))
+                parts.append(Part(log, _end_of(log, count) if kept else 0, log.size, True))
         return parts
 
     def all_up_to(self, end):
@@ -226,9 +226,9 @@ class Cutting:
         return end
 
 
-def _end_of(log, changes):
+def _end_of(log, count):
     """The offset after the last of this many changes."""
-    offset = log.changes[changes - 1].offset
+    offset = log.changes[count - 1].offset
     for block in blocks(log.path, offset, log.size):
         return offset + block.index(b'\n') + 1
     return offset

@@ -51,7 +51,7 @@ class Lives:
         self._neighbours()
         self._only_lives()
         if self.clock:
-            self._ask()
+            self._ask_clock()
         if self.unknown:
             self._refuse()
         self._tell_came()
@@ -164,7 +164,7 @@ class Lives:
                     todo.append(key)
         return row, lives
 
-    def _ask(self):
+    def _ask_clock(self):
         """Takes what the clock says."""
         for configuration, lives in self.came.items():
             for life in lives.items():
@@ -179,8 +179,11 @@ class Lives:
         tell_each(lines)
 
     def _tell_contradictions(self):
-        """Reports lives whose logs change to one configuration and that did not run at one time, and lives that never came, were taken for
-        members without the clock, and did not run then."""
+        """Reports where the clock file contradicts the logs: configurations to which no log changes; lives whose logs change to one
+        configuration and that did not run at one time; lives that never came, were taken for members, and did not run then."""
+        unknown = [configuration for configuration in self.clock.changes if configuration not in self.came]
+        if unknown:
+            tell('the clock file has times of configurations to which no log changes: %d (%s)' % (len(unknown), some(unknown)))
         apart = {configuration: self.clock.apart(lives.items()) for configuration, lives in self.came.items()}
         tell_each(['%s: the logs of %d:%d and %d:%d change to it, and by the clock the first one ended before the second one began' % (
             configuration.decode(), *pair[0], *pair[1]) for configuration, pair in apart.items() if pair])

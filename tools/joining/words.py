@@ -108,8 +108,9 @@ def read_words(words):
     for word in ('table', 'changes'):
         if getattr(asked, word) and _is_log(getattr(asked, word), asked.folder):
             join.error('--%s would overwrite %s' % (word, getattr(asked, word)))
-    if asked.changes and asked.table and os.path.realpath(asked.changes) == os.path.realpath(asked.table):
-        join.error('--changes and --table are one file')
+    for one, other in (('table', 'changes'), ('clock', 'table'), ('clock', 'changes')):
+        if getattr(asked, one) and getattr(asked, other) and os.path.realpath(getattr(asked, one)) == os.path.realpath(getattr(asked, other)):
+            join.error('--%s and --%s are one file' % (one, other))
     if asked.cut and os.path.lexists(asked.cut):
         join.error('%s is there already: --cut makes a new folder' % asked.cut)
     if asked.entries is not None and not 2 <= asked.entries <= MOST_ENTRIES:

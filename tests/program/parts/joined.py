@@ -278,7 +278,8 @@ def joined():
     yield 'logs that are too long', try_too_long
     for words in ('--nothing', '--fail 1', '--clock times', '--member r4.1=1:1', '--absent 2:1', '--own-order-unknown', '--late-sends',
                   '--table table', '--entries 5', '--cut /', '--cut /no/such/folder --entries 1', '--cut=', '--lives --clock=', '--changes=',
-                  '--renumber --table /tmp/one --changes /tmp/../tmp/one',
+                  '--renumber --table /tmp/one --changes /tmp/../tmp/one', '--lives --clock /tmp/one --changes /tmp/../tmp/one',
+                  '--lives --renumber --clock /tmp/one --table /tmp/one',
                   '--changes %s' % os.path.join(EXAMPLES, 'own-logs', '1.log')):
         yield 'the words %s' % words, partial(try_words, words)
     yield 'no folder', try_no_folder

@@ -59,6 +59,10 @@ LIVES = {
         'logs: r4.1: member 2, which never came, is 2:1: by the clock\n' + ONE +
         'logs: 2.1.log: member 2 is 2:1 where this log changes to the configuration: 1 (r5.2)\n'
         'logs: 2.2.log: member 2 is 2:2 where this log changes to the configuration: 1 (r6.2)\n'),
+    'a clock with configurations of other logs': (
+        '--lives --clock FOLDER/times', {'1.log': 'conf r4.1 1\n', 'times': '1 start 1:1\n2 conf r4.2\n3 conf r4.1\n2 conf r4.3\n'},
+        'totem-run 2\nlog 1:1\nconf r4.1 1:1\nopen\nend\n',
+        'logs: the clock file has times of configurations to which no log changes: 2 (r4.2, r4.3)\n' + ONE),
     'a life that did not run then, by the clock': (
         '--lives --clock FOLDER/times',
         {'1.log': 'conf r4.1 1 2\n', '2.log': 'conf r2.2 2\nfail r2.2\n', 'times': '1 start 2:1\n2 end 2:1\n5 conf r4.1\n'},
