@@ -228,9 +228,9 @@ class Account:
         elif later[0] > inside:
             self._go_to_end(index, later[0])
 
-    def moved(self):
-        """The indexes of the sends that get another line or another configuration, in their order. Those that come right before their place
-        already do not move. (To be called once.)"""
+    def settle_moves(self):
+        """Returns the indexes of the sends that get another line or another configuration, in their order. Those that come right before their
+        place already do not move, and others of that place go before them."""
         moved, place, free = [], 0, 0
         for index in reversed(range(len(self.lines))):
             if index in self.stays or index in self.left_out or self.places[index] == self.lines[index]:

@@ -91,6 +91,12 @@ class Clock:
         if note.time > end:
             self.refuse(note.line, '%s is after the end of %d:%d, whose log changes to it' % (configuration.decode(), *life))
 
+    def apart(self, lives):
+        """Two of these lives of which the first one ended before the second one began, or None."""
+        first = min(lives, key=lambda life: self.times_of(life)[1])
+        second = max(lives, key=lambda life: self.times_of(life)[0])
+        return (first, second) if self.times_of(first)[1] < self.times_of(second)[0] else None
+
     def lives_at(self, process, lives, configuration, came):
         """Those of these lives of a process that can have run when the lives in `came` changed to this configuration."""
         known = [self.times_of(life) for life in came]

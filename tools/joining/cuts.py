@@ -192,9 +192,9 @@ class Cutting:
         return parts
 
 
-def _end_of(log, changes):
+def _end_of(log, count):
     """The offset after the last of this many changes."""
-    offset = log.changes[changes - 1].offset
+    offset = log.changes[count - 1].offset
     for block in blocks(log.path, offset, log.size):
         return offset + block.index(b'\n') + 1
     return offset

@@ -54,10 +54,10 @@ def fail(logs, words, changes):
 
 def be_quiet(logs, words, changes):
     """Closes the logs that are known to be quiet; `all` are those that have not failed."""
+    named = [word for word in words if word != 'all']
+    chosen = logs_of(named, logs) if named else []
     if 'all' in words:
-        chosen = [log for log in logs if log.ending != 'failed']
-    else:
-        chosen = logs_of(words, logs)
+        chosen += [log for log in logs if log.ending != 'failed']
     for log in chosen:
         if log.ending == 'failed':
             raise Refused('%s ends with fail, and the call says that it is quiet' % log.name)

@@ -54,7 +54,7 @@ class Lives:
         self._neighbours()
         self._only_lives()
         if self.clock:
-            self._ask()
+            self._ask_clock()
         if self.unknown:
             self._refuse()
         self._tell_came()
@@ -168,18 +168,36 @@ class Lives:
                     todo.append(key)
         return row, lives
 
-    def _ask(self):
+    def _ask_clock(self):
         """Takes what the clock says."""
         for configuration, lives in self.came.items():
             for life in lives.items():
                 self.clock.check_change(configuration, life)
+        self._tell_contradictions()
         lines = []
         for configuration, process in list(self.unknown):
             possible = self.possible.get(process) or sorted(self.clock.lives_of(process))
-            lives = self.clock.lives_at(process, possible, configuration, self.came[configuration].items())
+            lives = self._have_run(process, possible, configuration)
             if len(lives) == 1:
                 lines.append(self._learn(configuration, process, lives[0], 'by the clock'))
         tell_each(lines)
+
+    def _tell_contradictions(self):
+        """Reports where the clock file contradicts the logs: configurations to which no log changes; lives whose logs change to one
+        configuration and that did not run at one time; lives that never came, were taken for members, and did not run then."""
+        unknown = [configuration for configuration in self.clock.changes if configuration not in self.came]
+        if unknown:
+            tell('the clock file has times of configurations to which no log changes: %d (%s)' % (len(unknown), some(unknown)))
+        apart = {configuration: self.clock.apart(lives.items()) for configuration, lives in self.came.items()}
+        tell_each(['%s: the logs of %d:%d and %d:%d change to it, and by the clock the first one ended before the second one began' % (
+            configuration.decode(), *pair[0], *pair[1]) for configuration, pair in apart.items() if pair])
+        tell_each(['%s: member %d is taken for %d:%d, which did not run then, by the clock' % (configuration.decode(), process, process, life)
+                   for configuration, lives in self.known.items() for process, life in lives.items()
+                   if process not in self.came[configuration] and not self._have_run(process, [life], configuration)])
+
+    def _have_run(self, process, lives, configuration):
+        """Those of these lives that can have run, by the clock, when the logs changed to this configuration."""
+        return self.clock.lives_at(process, lives, configuration, self.came[configuration].items())
 
     def _refuse(self):
         """Asks for the lives that are not known."""

@@ -28,7 +28,7 @@ class Rewriting:
     def __init__(self, account, changes):
         self.account = account
         self.changes = changes
-        self.moved = account.moved()
+        self.moved = account.settle_moves()
         self.placed = sorted((account.places[index], index) for index in self.moved)
         self.gone = sorted(account.lines[index] for index in [*self.moved, *account.left_out])
 
@@ -123,8 +123,8 @@ def _check_orders(accounts, is_order_unknown):
         tell(line)
 
 
-def move_sends(logs, folder, scan_words, asked, changes):
-    """Rewrites the logs into a folder, each send just before its sender's own delivery, and returns the logs there."""
+def move_sends(logs, working, scan_words, asked, changes):
+    """Rewrites the logs into a folder for temporary files, each send just before its sender's own delivery, and returns the logs there."""
     accounts = [Account(log, asked.late_sends) for log in logs]
     places, counts = _delivered_in(accounts)
     for account in accounts:
@@ -132,7 +132,7 @@ def move_sends(logs, folder, scan_words, asked, changes):
     _check_orders(accounts, asked.own_order_unknown)
     moved = []
     for log, account in zip(logs, accounts):
-        path = os.path.join(folder, log.name)
+        path = os.path.join(working, log.name)
         rewriting = Rewriting(account, changes)
         new = Log(log.name, path, log.process, log.life, size=rewriting.write(path), added=log.added, source=log)
         rewriting.tell()

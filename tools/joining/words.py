@@ -34,7 +34,7 @@ for processes that came back, whose layer names members without lives, and whose
 
 and for logs that are too long for one run:
 
-    tools/logs join --cut parts FOLDER; for part in parts/*.run; do ./totem audit < $part | head -n 1; done
+    tools/logs join --cut parts FOLDER && for part in parts/*.run; do ./totem audit < $part | head -n 1; done
 
 What is changed, inferred or left out is reported on standard error, a few of each kind by name; --changes FILE lists all. docs/OWN-LOGS.md,
 "What each option may change", says what each option can hide. The status is 0, or 1 if the logs can't be joined (then nothing is written), 4
@@ -67,7 +67,8 @@ def _add_words_of_join(join):
                       help='with --own-sends: a send line that was written when its sender delivered the message in a transitional '
                       'configuration goes back to the end of the regular one before it')
     join.add_argument('--renumber', action='store_true',
-                      help='renumber processes past 65535 and rings past 4294967295, in the same way in all logs')
+                      help='give new numbers to all processes if one is past 65535, and to all rings if one is past 4294967295, in the same way '
+                      'in all logs')
     join.add_argument('--table', metavar='FILE', help='with --renumber: write which number became which')
     join.add_argument('--cut', metavar='NEW_FOLDER',
                       help='write several runs, NEW_FOLDER/part-1.run and so on, cut where all that are still there change to one '
@@ -107,8 +108,9 @@ def read_words(words):
     for word in ('table', 'changes'):
         if getattr(asked, word) and _is_log(getattr(asked, word), asked.folder):
             join.error('--%s would overwrite %s' % (word, getattr(asked, word)))
-    if asked.changes and asked.table and os.path.realpath(asked.changes) == os.path.realpath(asked.table):
-        join.error('--changes and --table are one file')
+    for one, other in (('table', 'changes'), ('clock', 'table'), ('clock', 'changes')):
+        if getattr(asked, one) and getattr(asked, other) and os.path.realpath(getattr(asked, one)) == os.path.realpath(getattr(asked, other)):
+            join.error('--%s and --%s are one file' % (one, other))
     if asked.cut and os.path.lexists(asked.cut):
         join.error('%s is there already: --cut makes a new folder' % asked.cut)
     if asked.entries is not None and not 2 <= asked.entries <= MOST_ENTRIES:

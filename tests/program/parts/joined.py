@@ -141,6 +141,9 @@ REFUSED = {
     'a failure of one of two lives': (
         '--failed 1', {'1.1.log': 'conf r4.1 1:1\n', '1.2.log': 'conf r8.1 1:2\n'}, 'logs: process 1 has 2 lives with a log: say which'),
     'a failure of a quiet process': ('--failed 1', {'1.log': 'conf r4.1 1\nquiet\n'}, 'logs: 1.log says that it is quiet, and the call'),
+    'a quiet process that failed, beside all': (
+        '--failed 2 --quiet all --quiet 2', {**ONE, '2.log': 'conf r4.1 1\n'}, 'logs: 2.log ends with fail, and the call says that it is quiet'),
+    'a quiet process without a log, beside all': ('--quiet all --quiet 2', ONE, 'logs: there is no log of process 2\n'),
     'a quiet process that failed': ('--quiet 1', {'1.log': 'conf r4.1 1\nfail r4.1\n'}, 'logs: 1.log ends with fail, and the call '),
     '33 logs': ('', {'%d.log' % number: 'conf r4.1 1\n' for number in range(1, 34)}, 'logs: there are 33 logs, and a run has 32 at most'),
 }
@@ -275,7 +278,8 @@ def joined():
     yield 'logs that are too long', try_too_long
     for words in ('--nothing', '--fail 1', '--clock times', '--member r4.1=1:1', '--absent 2:1', '--own-order-unknown', '--late-sends',
                   '--table table', '--entries 5', '--cut /', '--cut /no/such/folder --entries 1', '--cut=', '--lives --clock=', '--changes=',
-                  '--renumber --table /tmp/one --changes /tmp/../tmp/one',
+                  '--renumber --table /tmp/one --changes /tmp/../tmp/one', '--lives --clock /tmp/one --changes /tmp/../tmp/one',
+                  '--lives --renumber --clock /tmp/one --table /tmp/one',
                   '--changes %s' % os.path.join(EXAMPLES, 'own-logs', '1.log')):
         yield 'the words %s' % words, partial(try_words, words)
     yield 'no folder', try_no_folder

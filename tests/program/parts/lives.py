@@ -59,6 +59,31 @@ LIVES = {
         'logs: r4.1: member 2, which never came, is 2:1: by the clock\n' + ONE +
         'logs: 2.1.log: member 2 is 2:1 where this log changes to the configuration: 1 (r5.2)\n'
         'logs: 2.2.log: member 2 is 2:2 where this log changes to the configuration: 1 (r6.2)\n'),
+    'a clock with configurations of other logs': (
+        '--lives --clock FOLDER/times', {'1.log': 'conf r4.1 1\n', 'times': '1 start 1:1\n2 conf r4.2\n3 conf r4.1\n2 conf r4.3\n'},
+        'totem-run 2\nlog 1:1\nconf r4.1 1:1\nopen\nend\n',
+        'logs: the clock file has times of configurations to which no log changes: 2 (r4.2, r4.3)\n' + ONE),
+    'a life that did not run then, by the clock': (
+        '--lives --clock FOLDER/times',
+        {'1.log': 'conf r4.1 1 2\n', '2.log': 'conf r2.2 2\nfail r2.2\n', 'times': '1 start 2:1\n2 end 2:1\n5 conf r4.1\n'},
+        'totem-run 2\nlog 1:1\nconf r4.1 1:1 2:1\nopen\nlog 2:1\nconf r2.2 2:1\nfail r2.2\nfailed\nend\n',
+        'logs: r4.1: member 2, which never came, is 2:1: no log is of another life\n'
+        'logs: r4.1: member 2 is taken for 2:1, which did not run then, by the clock\n'
+        'logs: life 1 is added to the members 1, 2: no log is of another life of theirs\n'),
+    'a life that the call says, and that did not run then, by the clock': (
+        '--lives --member r4.1=2:1 --clock FOLDER/times',
+        {'1.log': 'conf r4.1 1 2\n', '2.2.log': 'conf r6.2 2\n', 'times': '0 start 1:1\n1 end 1:1\n2 start 2:1\n'},
+        'totem-run 2\nlog 1:1\nconf r4.1 1:1 2:1\nopen\nlog 2:2\nconf r6.2 2:2\nopen\nend\n',
+        'logs: r4.1: member 2, which never came, is 2:1: the call says so\n'
+        'logs: r4.1: member 2 is taken for 2:1, which did not run then, by the clock\n' + ONE +
+        'logs: 2.2.log: member 2 is 2:2 where this log changes to the configuration: 1 (r6.2)\n'),
+    'two lives that change to one configuration, and did not run at one time by the clock': (
+        '--lives --clock FOLDER/times',
+        {'1.log': 'conf r4.1 1 2\n', '2.1.log': 'conf r2.2 2\n', '2.2.log': 'conf r4.1 1 2\n', 'times': '0 start 1:1\n3 end 1:1\n5 start 2:2\n'},
+        'totem-run 2\nlog 1:1\nconf r4.1 1:1 2:2\nopen\nlog 2:1\nconf r2.2 2:1\nopen\nlog 2:2\nconf r4.1 1:1 2:2\nopen\nend\n',
+        'logs: r4.1: the logs of 1:1 and 2:2 change to it, and by the clock the first one ended before the second one began\n' + ONE +
+        'logs: 2.1.log: member 2 is 2:1 where this log changes to the configuration: 1 (r2.2)\n'
+        'logs: 2.2.log: member 2 is 2:2 where this log changes to the configuration: 1 (r4.1)\n'),
     'two lives that change to one configuration': (
         '--lives', {'1.1.log': 'conf r4.1 1\nfail r4.1\n', '1.2.log': 'conf r4.1 1\n'},
         'totem-run 2\nlog 1:1\nconf r4.1 1:1\nfail r4.1\nfailed\nlog 1:2\nconf r4.1 1:2\nopen\nend\n',
