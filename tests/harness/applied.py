@@ -197,6 +197,11 @@ class Applied:
         word = re.sub(r'\d+\.\d+', lambda found: self._ring(found[0]), word)
         return re.sub(r'/(\d+)', lambda found: '/' + self._process(found[1]), word)
 
+    def old_names(self):
+        """The names that the files have, by those in the run."""
+        words = {word for file in self.files.values() for line in file.lines for word in line.split(' ')[1:] if '.' in word}
+        return {self._name(word): word for word in words}
+
     def _line(self, file, line, has_lives):
         words = line.split(' ')
         names = [words[0], *map(self._name, words[1:])]

@@ -56,9 +56,14 @@ class Recording:
         self.say_endings()
         if self.chance(22):
             self.words.append('--trim')
-        if self.chance(18):
-            self.words += ['--cut', 'PARTS', *(['--entries', str(draw.choice((2, 3, 4, 5, 6, 8, 12)))] if self.chance(90) else [])]
+        if self.chance(60 if self.run.has_names_again else 15):
+            self.words += ['--cut', 'PARTS', *(['--entries', str(self._some_entries())] if self.chance(90) else [])]
         return self._written(Names(*large))
+
+    def _some_entries(self):
+        """How many entries a part may have, mostly fewer than the longest log."""
+        longest = max(len(log.entries) for log in self.logs)
+        return max(2, self.draw.randint(longest // 3, longest + 1))
 
     def record_sends(self):
         """Sends are written down at other places."""
@@ -94,7 +99,7 @@ class Recording:
         if at is not None:
             entry = log.entries.pop(at)
             before = [place for place in range(at) if log.entries[place].word == 'send']
-            self._put(log, entry, before[-1] + 1 if before and self.chance(90) else 1, at)
+            self._put(log, entry, before[-1] + 1 if before and self.chance(75) else 1, at)
 
     def _late(self, log):
         """A send is written behind its place, perhaps behind its delivery or a failure."""
@@ -135,7 +140,7 @@ class Recording:
         for log in self.logs:
             if self.chance(60):
                 continue
-            kept = self.draw.randint(max(0 if self.chance(10) else 1, len(log.entries) - self.draw.choice((1, 2, 4, 9))), len(log.entries))
+            kept = self.draw.randint(max(0 if self.chance(25) else 1, len(log.entries) - self.draw.choice((1, 2, 4, 9))), len(log.entries))
             gone = log.entries[kept:]
             del log.entries[kept:]
             if gone and self.chance(40):
@@ -149,7 +154,7 @@ class Recording:
     def say_lives(self, lost):
         """The layer names no lives. What is known about them may be said."""
         self.words.append('--lives')
-        if self.chance(30):
+        if self.chance(40):
             self.clock = self._clock_lines()
         highest = {}
         for log in self.run.logs:
@@ -166,13 +171,11 @@ class Recording:
     def _say_members(self):
         """Members whose life no log shows are said, and sometimes others, or wrongly."""
         changed = {(entry.configuration, log.process) for log in self.logs for entry in log.entries if entry.word == 'conf'}
-        said = {}
-        for log in self.logs:
-            for entry in log.entries:
-                for process, life in entry.members:
-                    is_known = (entry.configuration, process) in changed
-                    if self.chance(1 if is_known else 30):
-                        said[entry.configuration, process] = life if self.chance(75) else self.draw.randint(1, 3)
+        members = {(entry.configuration, process): life for log in self.logs for entry in log.entries for process, life in entry.members}
+        said = {key: life for key, life in members.items() if key not in changed and self.chance(30)}
+        if members and self.chance(6):
+            said.update([self.draw.choice(sorted(members.items()))])
+        said = {key: life if self.chance(80) else self.draw.randint(1, 3) for key, life in said.items()}
         for member in [(*key, life) for key, life in said.items()]:
             self.words += ['--member', partial(Names.member, member=member)]
 
@@ -180,7 +183,7 @@ class Recording:
         """The lines of a clock file, some of which may be missing."""
         lines = []
         for log in self.run.logs:
-            if self.chance(80):
+            if self.chance(85):
                 lines.append('%d start %d:%d' % (log.start, *log.who))
             if log.end and self.chance(60):
                 lines.append('%d end %d:%d' % (log.end, *log.who))

@@ -177,7 +177,7 @@ class Case:
         yield from told.trims(applied)
         yield from told.names_again(applied, errors)
         if '--cut' in self.words:
-            yield from told.parts_again(made.runs, errors)
+            yield from told.parts_again(applied, made.runs, errors)
             yield from self._of_cut(made, auditor.verdict(whole), auditor.of_parts(made.runs))
         if not self.words and whole != self.recorded(not whole.startswith(b'totem-run 1\n')):
             yield 'a plain join writes another run than the folder has'

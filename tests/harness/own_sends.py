@@ -57,17 +57,17 @@ class OwnSends:
         lines = entries_of(file)
         fail = next((at for at, line in enumerate(old.others) if line.startswith('fail ')), len(old.others))
         numbers = [number for number, line in enumerate(lines, 1) if is_send(line)]
-        for number, (message, place, line) in zip(numbers, old.sends):
+        places = [self._place_of(file, number, place) for number, (_, place, _) in zip(numbers, old.sends)]
+        for at, (message, place, line) in enumerate(old.sends):
+            number, new_place = numbers[at], places[at]
             if number in file.moves:
-                before, new_line = file.moves[number]
-                new_place = sum(not is_send(other) for other in lines[:before - 1])
                 if new_place < place and not self._may_go_back(old, line, place, new_place):
                     yield 'a send went backwards: %s' % line
                 if place <= fail < new_place:
                     yield 'a send went behind a failure: %s' % line
-                later = [message_of(other) for other in lines[before - 1:before] if is_send(other)]
-                is_kept_back = any(self._own(old, name) < 0 for name in later + [message] * len(later))
-                yield from self._there(old, message, new_place, new_line, is_kept_back)
+                later = [name for (name, _, _), other in zip(old.sends[at + 1:], places[at + 1:]) if other == new_place]
+                is_kept_back = any(self._own(old, name) < 0 or self._own(old, message) < 0 for name in later)
+                yield from self._there(old, message, new_place, file.moves[number][1], is_kept_back)
             elif number in file.gone:
                 if message in self.delivered or self.sent[message] > 1:
                     yield 'a send is gone whose message was delivered, or sent again: %s' % line
@@ -75,6 +75,13 @@ class OwnSends:
                 yield 'a send stays that can go to its own delivery: %s' % line
         if '--own-order-unknown' not in self.words:
             yield from self._order(file, old, new)
+
+    @staticmethod
+    def _place_of(file, number, place):
+        """The place of a send after the moves; None if it is left out."""
+        if number in file.moves:
+            return sum(not is_send(line) for line in entries_of(file)[:file.moves[number][0] - 1])
+        return None if number in file.gone else place
 
     def _order(self, file, old, new):
         """Sends keep their order. Others may pass one that has no place, and of which standard error says that it stays."""

@@ -58,6 +58,8 @@ class Run:
 
     logs: list
     times: dict
+    # Whether a ring has the name of an earlier one.
+    has_names_again: bool = False
 
 
 def is_regular(configuration):
@@ -169,7 +171,7 @@ class World:
         """Some parts enter the next regular configuration together."""
         self.draw.shuffle(self.parts)
         joined, processes = [], set()
-        for part in self.parts[:self.draw.choice((1, 2, 2, 3, 4))]:
+        for part in self.parts[:self.draw.choice((1, 2, 3, 4, 4))]:
             there = {log.process for log in part.logs}
             if not there & processes:
                 joined.append(part)
@@ -231,7 +233,7 @@ class Traffic:
             return
         dying = [log for log in self.came if self.world.chance(12)]
         others = [log for log in self.came if log not in dying]
-        groups = [[] for _ in range(self.draw.choice((1, 1, 1, 2, 2, 3)))]
+        groups = [[] for _ in range(self.draw.choice((1, 1, 1, 1, 2, 3)))]
         for log in others:
             self.draw.choice(groups).append(log)
         for log in dying:
@@ -244,7 +246,7 @@ class Traffic:
 
     def _part_of(self, group):
         """What a group delivers here, and what it takes along; None if its members stay for good."""
-        if self.world.chance(15):
+        if self.world.chance(10):
             for log in group:
                 self.targets[log.who] = self.draw.randint(0, self.limit)
             return None
@@ -293,6 +295,7 @@ class Breaking:
         self.messages = sorted({entry.message for entry in everything if entry.message}) + ['4.1#99']
         self.lives = sorted({log.who for log in self.logs})
         self.rings = sorted({ring_of(entry.configuration) for entry in everything})
+        self.has_names_again = False
 
     def once(self):
         """One change."""
@@ -361,6 +364,7 @@ class Breaking:
         for ring in (one, other):
             new[ring] = sorted(name for name in self.messages if name.startswith(ring + '#'))
         messages = dict(zip(new[other], new[one]))
+        self.has_names_again = one != other
         for log in self.logs:
             log.entries = [self._renamed(entry, one, other, messages) for entry in log.entries]
 
@@ -382,4 +386,4 @@ def broken_run(draw, run):
     breaking = Breaking(draw, run)
     for _ in range(draw.choice((1, 1, 2))):
         breaking.once()
-    return Run(breaking.logs, run.times)
+    return Run(breaking.logs, run.times, breaking.has_names_again)

@@ -199,7 +199,7 @@ def names_again(applied, errors):
     for what, lines in (('changes to', [set(changes_of(kept)), set(changes_of(gone))]),
                         ('sends of', [{message_of(line) for line in part if is_send(line)} for part in (kept, gone)])):
         for name in sorted(set.intersection(*lines)):
-            if not has_line(errors, name) and not shortens(errors):
+            if not has_line(errors, name, 'again') and not shortens(errors):
                 yield '%s %s are kept and left out, and that is not told' % (what, name)
 
 
@@ -217,8 +217,9 @@ def names_of_two_parts(parts):
         ended = ends
 
 
-def parts_again(parts, errors):
+def parts_again(applied, parts, errors):
     """Those of these names of which standard error says nothing."""
-    for name in names_of_two_parts(parts):
-        if not has_line(errors, name) and not shortens(errors):
+    old = applied.old_names()
+    for name in map(old.get, names_of_two_parts(parts)):
+        if not has_line(errors, name, 'again') and not shortens(errors):
             yield '%s is in two parts, and that is not told' % name

@@ -27,6 +27,8 @@ class Clock:
     def __init__(self, path):
         self.path = path
         self.starts, self.ends, self.changes = {}, {}, {}
+        # When lives ran, as far as they were asked for.
+        self.times = {}
         with open(path, 'r', encoding='ascii', errors='replace') as it:
             for number, line in enumerate(it, 1):
                 self._read(number, line.rstrip('\n'))
@@ -73,12 +75,14 @@ class Clock:
     def times_of(self, life):
         """Between which times a life ran, as far as the file says: from its start, or else after the lives before it, to its end, or else up to
         the lives after it."""
-        notes = [*self.starts.items(), *self.ends.items()]
-        earlier = [note.time for (process, other), note in notes if process == life[0] and other < life[1]]
-        later = [note.time for (process, other), note in notes if process == life[0] and other > life[1]]
-        begin = self.starts[life].time if life in self.starts else max(earlier, default=ALWAYS)
-        end = self.ends[life].time if life in self.ends else min(later, default=NEVER)
-        return begin, end
+        if life not in self.times:
+            notes = [*self.starts.items(), *self.ends.items()]
+            earlier = [note.time for (process, other), note in notes if process == life[0] and other < life[1]]
+            later = [note.time for (process, other), note in notes if process == life[0] and other > life[1]]
+            begin = self.starts[life].time if life in self.starts else max(earlier, default=ALWAYS)
+            end = self.ends[life].time if life in self.ends else min(later, default=NEVER)
+            self.times[life] = begin, end
+        return self.times[life]
 
     def check_change(self, configuration, life):
         """Refuses the time of a configuration at which a life whose log changes to it did not run."""
