@@ -2,9 +2,9 @@
 use crate::texts::{CERTIFICATE, RUN, certificate_told, push_end, run_told};
 use crate::values::is_told;
 use std::alloc::{AllocError, Global};
+use totem_cert::{CertFault, read_cert};
 use totem_evs::{Next, Part, RunFault, RunReader, read_run};
-use totem_ids::{Buffered, FromRead, Fused, Source};
-use totem_order::{CertFault, read_cert};
+use totem_names::{Buffered, FromRead, Fused, Source};
 
 /// Reads a run from a source that fails after this many calls.
 fn fused_told(alloc: Global, calls: usize) -> Result<String, AllocError> {

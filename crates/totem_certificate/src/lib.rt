@@ -10,7 +10,7 @@
 //! - Spelling and grammar fit, and a fault is that of the first byte after which no text goes on: the laws `read_is_spelled`,
 //!   `spelled_is_read`, `no_text_begins_another`, `fault_byte_is_first`, `faults_are_its_own`.
 //!
-//! Whether a certificate certifies a run is not known here: totem_evs defines it, totem_judge_certificate decides it, totem_order
+//! Whether a certificate certifies a run is not known here: totem_evs defines it, totem_judge_certificate decides it, totem_cert
 //! finds one.
 #![tactic(auto)]
 

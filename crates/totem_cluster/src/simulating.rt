@@ -1,13 +1,13 @@
 //! From a script to the text of the run that it makes.
 ghost use Rattle.std.specs.Prelude.{◌≡◌, ◌≤◌, ◌+◌, ◌==◌, [], length, count_by};
-ghost use Rattle.totem_ids.specs.Sources.{seen};
-ghost use Rattle.totem_ids.specs.Writing.{held};
+ghost use Rattle.totem_names.specs.Sources.{seen};
+ghost use Rattle.totem_names.specs.Writing.{held};
 ghost use Rattle.totem_cluster.specs.SimIo.{ReadsScript, Simulates, MakesRun, TellsBehind, fault_alone, unread};
 
 use crate::io_fault::IoFault;
 use std::alloc::{AllocError, Global};
 use totem_evs::{Run, write_run};
-use totem_ids::{Sink, Source};
+use totem_names::{Sink, Source};
 use totem_script::{ScriptFault, ScriptFaultKind, simulate};
 use totem_verdicts::Outcome;
 

@@ -1,7 +1,7 @@
 //! What the program prints on standard error about scripts, runs in threads and all faults. Printing doesn't allocate, and ignores a
 //! failure of that stream.
 ghost use Rattle.std.specs.Prelude.{◌≡◌, ◌++◌};
-ghost use Rattle.totem_ids.specs.Writing.{Writes};
+ghost use Rattle.totem_names.specs.Writing.{Writes};
 ghost use Rattle.totem_verdicts.specs.Endings.{Tells, bare};
 ghost use Rattle.totem_cluster.specs.declared.io_fault.IoFault.TheVariants.{Book};
 ghost use Rattle.totem_cluster.specs.Endings.{script_line, fault_line, script_status, fault_status};
@@ -9,7 +9,7 @@ ghost use Rattle.totem_cluster.specs.Endings.{script_line, fault_line, script_st
 use crate::io_fault::IoFault;
 use totem_certificate::CertFault;
 use totem_evs::RunFault;
-use totem_ids::{Failed, Sink};
+use totem_names::{Failed, Sink};
 use totem_script::{ScriptFault, ScriptFaultKind};
 use totem_threads::BookTrouble;
 use totem_verdicts::{put_cert_fault, put_check_fault, put_refusal, put_run_fault, put_text};
@@ -56,7 +56,7 @@ fn put_fault<E: Sink>(errors: &mut E, fault: &IoFault) -> Result<(), Failed>
 }
 
 /// Writes the line of a fault and an explanation after it.
-#[tactic(auto, using(totem_ids::proofs::Writers::wrote_then, totem_ids::proofs::Writers::wrote_failed))]
+#[tactic(auto, using(totem_names::proofs::Writers::wrote_then, totem_names::proofs::Writers::wrote_failed))]
 fn put_with_words<E: Sink>(errors: &mut E, fault: &IoFault, words: &str) -> Result<(), Failed>
     ensures { Writes (bare E.contents E.failures errors.old) (bare E.contents E.failures errors.new) result
         (fault_line fault.now ++ words.now) }

@@ -8,7 +8,7 @@ use std::test::Fail;
 use std::thread::Threads;
 use totem_cluster::{IoFault, Outcome, Workers, audit_io, check_io, program, sim_io};
 use totem_evs::RunFault;
-use totem_ids::{FromRead, Fused, ToWrite};
+use totem_names::{FromRead, Fused, ToWrite};
 use totem_script::{ScriptFault, ScriptFaultKind};
 
 const GOOD: &str =

@@ -13,7 +13,7 @@
 //!   2.2, causal delivery between the sends and deliveries of each log gives it over chains of any length (`chains_are_fine`).
 //! - `examples` tries each definition on small runs, as laws.
 //!
-//! The nodes, which know nothing of the audit, write their logs with these types: this crate and totem_ids are all that both share.
+//! The nodes, which know nothing of the audit, write their logs with these types: this crate and totem_names are all that both share.
 #![tactic(auto)]
 
 mod display;
@@ -71,5 +71,5 @@ pub use text_laws::{
     a_fault_is_no_text, cut_text_goes_on, fault_byte_is_first, fault_is_first,
     no_text_begins_another, read_is_spelled, spelled_is_read,
 };
-pub use totem_ids::{ListFault, Refused};
+pub use totem_names::{ListFault, Refused};
 pub use writing::{WriteFault, put_header, write_run};

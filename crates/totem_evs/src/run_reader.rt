@@ -1,6 +1,6 @@
 //! A run, read part by part.
 ghost use Rattle.std.specs.Prelude.{◌≢◌, IfErr};
-ghost use Rattle.totem_ids.specs.Sources.{seen};
+ghost use Rattle.totem_names.specs.Sources.{seen};
 
 use crate::form::RunText;
 use crate::heads::read_header;
@@ -10,7 +10,7 @@ use crate::run_fault::RunFault;
 use std::alloc::Global;
 use std::fmt;
 use std::marker::Model;
-use totem_ids::Source;
+use totem_names::Source;
 
 /// What `RunReader::next` returns.
 #[derive(Debug, Drop)]

@@ -3,7 +3,7 @@
 use std::alloc::Global;
 use std::test::Fail;
 use totem_evs::write_run;
-use totem_ids::ToWrite;
+use totem_names::ToWrite;
 use totem_script::{
     ScriptFault, ScriptFaultKind, ScriptVersion, a_return_begins_the_next_life,
     only_the_crashed_return, simulate,

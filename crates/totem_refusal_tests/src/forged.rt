@@ -6,7 +6,7 @@ use rand_pcg::Pcg32;
 use std::alloc::{AllocError, Global};
 use std::test::Fail;
 use totem_evs::{Next, RunFault, RunReader, read_run};
-use totem_ids::FromRead;
+use totem_names::FromRead;
 use totem_packets::{Packet, PacketFault};
 
 /// The number of times that each packet and the text are changed.

@@ -5,8 +5,8 @@ use Rattle.std.proofs.lemmas.List.{take_more}
 use Rattle.std.proofs.lemmas.List.Folds.{concat-append}
 use Rattle.totem_packets.specs.declared.packet.Packet.{Packet}
 use Rattle.totem_ring.specs.Visits.{Sending}
-use Rattle.totem_node.specs.declared.input.Input.{Input}
-use Rattle.totem_node.specs.declared.input.Input.TheVariants as input
+use Rattle.totem_core.specs.declared.input.Input.{Input}
+use Rattle.totem_core.specs.declared.input.Input.TheVariants as input
 use Rattle.totem_script.specs.declared.script_fault.ScriptFaultKind.{ScriptFaultKind}
 use Rattle.totem_script.specs.Judged.{Judged, Fails, ◌>>=◌}
 use Rattle.totem_script.specs.Actors.{Actor}

@@ -1,18 +1,18 @@
 //! A process of a script.
 ghost use Rattle.std.specs.Prelude.{◌≡◌, ◌+◌, ◌<◌, ◌≤◌, ◌∷◌, ◌++◌, [], length, true, IfOk, OnOk};
 ghost use Rattle.totem_evs.specs.Members.{IsMembers};
-ghost use Rattle.totem_ids.specs.Ranks.{id_of};
-ghost use Rattle.totem_node.specs.Nodes.{new_node};
-ghost use Rattle.totem_node.specs.Replay.{first_change};
+ghost use Rattle.totem_names.specs.Ranks.{id_of};
+ghost use Rattle.totem_core.specs.Nodes.{new_node};
+ghost use Rattle.totem_core.specs.Replay.{first_change};
 ghost use Rattle.totem_script.specs.Actors.{new_actor, actor_step, log_of, log_with, logs_of, may_return, returned, ring_of_return, IsHistory, IsActorStep};
 
 use crate::script_fault::ScriptFaultKind;
 use std::alloc::{AllocError, Global};
 use std::marker::Model;
 use std::mem;
+use totem_core::{Input, NodeCore, NodeFault};
 use totem_evs::{Entries, Entry, Log};
-use totem_ids::{Proc, ProcId, RingId, Version, life_fits};
-use totem_node::{Input, NodeCore, NodeFault};
+use totem_names::{Proc, ProcId, RingId, Version, life_fits};
 use totem_packets::Packet;
 use totem_ring::To;
 

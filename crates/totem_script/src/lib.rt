@@ -4,7 +4,7 @@
 //! - `read_command` returns the command of a line by the grammar, or the fault of its first unexpected byte (`command_of`,
 //!   specs/Commands).
 //! - `simulate` returns the run of the script: its lines folded over the defined node step, with a log for each life of each
-//!   process (`simulate`, specs/Simulation, over `step` of totem_node). A fault is that of the first line that has one, and names
+//!   process (`simulate`, specs/Simulation, over `step` of totem_core). A fault is that of the first line that has one, and names
 //!   the line.
 //! - A process returns exactly if it has crashed and numbers and lives are left, and then begins its next life, alone on a ring:
 //!   the laws `only_the_crashed_return`, `a_return_begins_the_next_life`.

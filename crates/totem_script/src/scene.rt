@@ -13,9 +13,9 @@ use crate::script_version::ScriptVersion;
 use std::alloc::{AllocError, Global};
 use std::collections::VecDeque;
 use std::marker::Model;
+use totem_core::Input;
 use totem_evs::Run;
-use totem_ids::ProcId;
-use totem_node::Input;
+use totem_names::ProcId;
 
 mod cutting_off;
 mod making;

@@ -7,9 +7,9 @@ use std::marker::Brand;
 use std::sync::{Arc, Wait};
 use std::test::Fail;
 use totem_books::{Blank, BookName, ClosedBook, Reply, Seat, SharedBook};
+use totem_core::Input;
 use totem_evs::Members;
-use totem_ids::{Proc, ProcId};
-use totem_node::Input;
+use totem_names::{Proc, ProcId};
 use totem_packets::Packet;
 
 /// Returns the process with this number, in this life.

@@ -13,8 +13,8 @@ use std::thread::Threads;
 use totem_books::{
     Blank, BookName, CloseFault, CloseRefused, ClosedBook, Reply, Seat, SharedBook, Stub,
 };
+use totem_core::Input;
 use totem_evs::Members;
-use totem_node::Input;
 
 /// Returns the input that the thread of this number gives its node: the first two threads are clients, the third receives, the
 /// fourth is a timer.

@@ -16,7 +16,7 @@ use std::thread;
 use std::thread::{Promise, Threads};
 use totem_books::{Blank, BookFault, BookName, ClosedBook, Seat, SharedBook};
 use totem_evs::Members;
-use totem_ids::Proc;
+use totem_names::Proc;
 use totem_net::{NodeEnds, Outlet, Start};
 
 /// A promise of a thread: the calls of the seat that it gives back name no life but the first.

@@ -1,5 +1,5 @@
 //! The result of weaving the books of a ring.
-use totem_ids::Proc;
+use totem_names::Proc;
 use totem_packets::Message;
 use totem_ring::RingMove;
 

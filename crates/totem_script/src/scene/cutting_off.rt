@@ -1,7 +1,7 @@
 //! `cut`: groups between which no packet passes.
 ghost use Rattle.std.specs.Prelude.{◌≡◌, ◌==◌, count_by, IfOk};
 ghost use Rattle.std.specs.List.{concat, list_all};
-ghost use Rattle.totem_ids.specs.Ranks.{id_of};
+ghost use Rattle.totem_names.specs.Ranks.{id_of};
 ghost use Rattle.totem_script.specs.Judged.{Becomes};
 ghost use Rattle.totem_script.specs.Scenes.{parted};
 
@@ -11,7 +11,7 @@ use crate::process_list::ProcessList;
 use crate::scene::SceneState;
 use crate::script_fault::ScriptFaultKind;
 use std::alloc::{AllocError, Global};
-use totem_ids::ProcId;
+use totem_names::ProcId;
 
 /// Returns all processes of these groups, each as often as it is listed.
 fn all_of(alloc: Global, groups: &[ProcessList]) -> Result<Vec<ProcId>, AllocError>

@@ -6,7 +6,7 @@ ghost use Rattle.totem_script.specs.Scenes.{ring_made, with_first_token};
 use crate::scene::SceneState;
 use crate::script_fault::ScriptFaultKind;
 use std::alloc::{AllocError, Global};
-use totem_ids::{ProcId, RingId};
+use totem_names::{ProcId, RingId};
 use totem_packets::Packet;
 use totem_ring::first_token;
 

@@ -5,7 +5,7 @@ ghost use Rattle.totem_script.specs.Scenes.{brought_back};
 use crate::scene::SceneState;
 use crate::script_fault::ScriptFaultKind;
 use std::alloc::Global;
-use totem_ids::ProcId;
+use totem_names::ProcId;
 
 impl SceneState {
     /// Begins the next life of a process, and puts the first token of its ring on its way to it, whatever the cut.

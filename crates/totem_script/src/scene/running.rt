@@ -5,7 +5,7 @@ ghost use Rattle.totem_script.specs.Scenes.{run_times};
 use crate::scene::SceneState;
 use crate::script_fault::ScriptFaultKind;
 use std::alloc::Global;
-use totem_node::Input;
+use totem_core::Input;
 
 impl SceneState {
     /// Gives the first packet to its receiver, this many times while there is one.
