@@ -12,8 +12,8 @@ use std::marker::Model;
 /// identifier, then by life.
 #[derive(Clone, Copy, Debug, PartialEq, Eq, PartialOrd, Ord, Hash)]
 pub struct Proc {
-    id: ProcId,
-    life: u16,
+    pub id: ProcId,
+    pub life: u16,
 }
 
 impl Model for Proc {
