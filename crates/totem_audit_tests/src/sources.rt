@@ -97,13 +97,14 @@ fn push_part(text: &mut String, part: &Part) -> Result<(), AllocError> {
 
 /// Adds at most twenty parts, and what follows them.
 fn push_parts<S: Source>(
+    alloc: Global,
     text: &mut String,
     source: &mut S,
     reader: RunReader,
 ) -> Result<(), AllocError> {
     let mut reader = reader;
     for _ in 0..20u8 {
-        match reader.next(source) {
+        match reader.next(alloc, source) {
             Ok(Next::Part(part, later)) => {
                 push_part(text, &part)?;
                 reader = later;
@@ -120,7 +121,7 @@ fn parts_told(alloc: Global, given: &str) -> Result<String, AllocError> {
     let mut source = FromRead::new(given.as_bytes());
     let mut text = String::new(alloc);
     match RunReader::begin(alloc, &mut source) {
-        Ok(reader) => push_parts(&mut text, &mut source, reader)?,
+        Ok(reader) => push_parts(alloc, &mut text, &mut source, reader)?,
         Err(fault) => text.push_str(fault.name())?,
     }
     push_end(&mut text, &mut source)?;

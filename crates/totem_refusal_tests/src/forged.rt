@@ -143,7 +143,7 @@ fn fault_of_parts(alloc: Global, bytes: &[u8]) -> Option<RunFault> {
         Err(fault) => return Some(fault),
     };
     for _ in 0..=bytes.len() {
-        match reader.next(&mut source) {
+        match reader.next(alloc, &mut source) {
             Ok(Next::Part(_, later)) => reader = later,
             Ok(Next::End) => return None,
             Err(fault) => return Some(fault),
