@@ -4,9 +4,9 @@ use Rattle.clap.specs.declared.error.kind.ErrorKind.{ErrorKind}
 use Rattle.totem_names.specs.Sources.{Seen}
 use Rattle.totem_names.specs.Writing.{Held}
 use Rattle.totem_evs.specs.RunText.{line}
+use Rattle.totem_script.specs.declared.script_fault.FaultyLine.{FaultyLine}
 use Rattle.totem_script.specs.declared.script_fault.ScriptFault.{ScriptFault}
-use Rattle.totem_script.specs.declared.script_fault.ScriptFaultKind.{ScriptFaultKind}
-use Rattle.totem_script.specs.declared.script_fault.ScriptFaultKind.TheVariants as script_faults
+use Rattle.totem_script.specs.declared.script_fault.ScriptFault.TheVariants as script_faults
 use Rattle.totem_script.specs.ScriptFaults.{fault_number as script_fault_number, fault_name as script_fault_name}
 use Rattle.totem_threads.specs.Faults.{trouble_number, trouble_name}
 use Rattle.totem_verdicts.specs.declared.outcome.Outcome.{Outcome}
@@ -20,11 +20,11 @@ use Rattle.totem_cluster.specs.WeaveIo.{WeavesRun, weave_status}
 
 -- ---- faults
 
-abbrev pub script_line_of : ScriptFaultKind → List ℕ
+abbrev pub script_line_of : ScriptFault → List ℕ
 script_line_of script_faults.Read = line (codes "totem: read failed")
 script_line_of kind = line (refusal_text (codes "totem: script refused: ") (script_fault_number kind) (script_fault_name kind))
 
-abbrev pub script_line : ScriptFault → List ℕ
+abbrev pub script_line : FaultyLine → List ℕ
 script_line fault = script_line_of fault.kind
 
 -- the line that reports a fault
@@ -37,7 +37,7 @@ fault_line (faults.Book trouble) = line (refusal_text (codes "totem: book refuse
 fault_line faults.Memory = memory_line
 fault_line faults.Write = write_line
 
-abbrev pub script_status : ScriptFaultKind → ℕ
+abbrev pub script_status : ScriptFault → ℕ
 script_status script_faults.Read = 4
 script_status kind = 2
 

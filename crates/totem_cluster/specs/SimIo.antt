@@ -6,9 +6,9 @@ use Rattle.totem_names.specs.Sources.{Seen}
 use Rattle.totem_names.specs.Writing.{Held, Wrote}
 use Rattle.totem_evs.specs.declared.run.Run.{Run}
 use Rattle.totem_evs.specs.RunText.{run_text}
+use Rattle.totem_script.specs.declared.script_fault.FaultyLine.{FaultyLine}
 use Rattle.totem_script.specs.declared.script_fault.ScriptFault.{ScriptFault}
-use Rattle.totem_script.specs.declared.script_fault.ScriptFaultKind.{ScriptFaultKind}
-use Rattle.totem_script.specs.declared.script_fault.ScriptFaultKind.TheVariants.{Truncated, Read, Memory}
+use Rattle.totem_script.specs.declared.script_fault.ScriptFault.TheVariants.{Truncated, Read, Memory}
 use Rattle.totem_script.specs.Simulation.{Told, simulate}
 use Rattle.totem_cluster.specs.declared.simulating.Reading.{Reading}
 use Rattle.totem_cluster.specs.declared.simulating.Unmade.{Unmade}
@@ -46,21 +46,21 @@ ReadsScript old new (Err e) = new.failures ≡ old.failures
 -- ---- faults
 
 -- the script can't be read further: the fault names the line that is under way
-abbrev pub unread : List ℕ → ScriptFault
+abbrev pub unread : List ℕ → FaultyLine
 unread read = record { kind = Read; line = count_by (λ b. b == 10) read + 1 }
 
 -- a fault in an earlier line takes precedence
-abbrev pub unless_earlier : ScriptFault → ScriptFault → ScriptFaultKind → ScriptFault
+abbrev pub unless_earlier : FaultyLine → FaultyLine → ScriptFault → FaultyLine
 unless_earlier now earlier Truncated = now
 unless_earlier now earlier Memory = now
 unless_earlier now earlier kind = earlier
 
-abbrev pub fault_of_rest : ScriptFault → Told Run → ScriptFault
+abbrev pub fault_of_rest : FaultyLine → Told Run → FaultyLine
 fault_of_rest now (Ok run) = now
 fault_of_rest now (Err earlier) = unless_earlier now earlier earlier.kind
 
 -- the fault of a script whose source failed after these bytes
-abbrev pub fault_behind : List ℕ → ScriptFault
+abbrev pub fault_behind : List ℕ → FaultyLine
 fault_behind read = fault_of_rest (unread read) (simulate read)
 
 -- a call that reports this fault, unless memory was refused
@@ -94,14 +94,14 @@ pub record IsSimulated (old new : Seen) (was is : Held) : Type 0 where
   pub written : Wrote was is (run_text run)
 
 -- a script was read, and makes no run
-pub record IsNoScript (old new : Seen) (fault : ScriptFault) : Type 0 where
+pub record IsNoScript (old new : Seen) (fault : FaultyLine) : Type 0 where
   pub read : List ℕ
   pub is_read : IsRead old new read
   pub made : simulate read ≡ Err fault
   pub of_all : IfSome old.remaining (λ bytes. simulate bytes ≡ Err fault)
 
 -- the source failed
-pub record IsUnread (old new : Seen) (fault : ScriptFault) : Type 0 where
+pub record IsUnread (old new : Seen) (fault : FaultyLine) : Type 0 where
   pub read : List ℕ
   pub breaks_off : BreaksOff old new read
   pub fault_is : fault ≡ fault_behind read

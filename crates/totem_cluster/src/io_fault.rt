@@ -5,7 +5,7 @@ use thiserror::Error;
 use totem_certificate::CertFault;
 use totem_check::CheckFault;
 use totem_evs::{RunFault, WriteFault};
-use totem_script::ScriptFault;
+use totem_script::FaultyLine;
 use totem_threads::{BookTrouble, ThreadsFault};
 use totem_verdicts::VerdictFault;
 
@@ -21,9 +21,9 @@ pub enum IoFault {
     /// The certificate does not certify the run. Never `CheckFault::Broken` or `CheckFault::Memory`.
     #[error("the certificate was refused: {0}")]
     Refused(CheckFault),
-    /// The script makes no run, or its source failed. Never `ScriptFaultKind::Memory`.
+    /// The script makes no run, or its source failed. Never `ScriptFault::Memory`.
     #[error("the script was refused: {0}")]
-    Script(ScriptFault),
+    Script(FaultyLine),
     /// A book of a run in threads was full, or its log too long. Always `BookTrouble::Call(BookFault::Long)`.
     #[error("the run was given up: {0}")]
     Book(BookTrouble),

@@ -8,7 +8,7 @@ use crate::io_fault::IoFault;
 use std::alloc::{AllocError, Global};
 use totem_evs::{Run, write_run};
 use totem_names::{Sink, Source};
-use totem_script::{ScriptFault, ScriptFaultKind, simulate};
+use totem_script::{FaultyLine, ScriptFault, follow};
 use totem_verdicts::Outcome;
 
 /// The number of bytes that are read at most: one more than a script may have.
@@ -51,13 +51,13 @@ fn read_script<R: Source>(alloc: Global, input: &mut R) -> Result<Reading, Alloc
 }
 
 /// Returns the fault of a script that can't be read further than these bytes.
-fn unread(bytes: &[u8]) -> ScriptFault
+fn unread(bytes: &[u8]) -> FaultyLine
     requires { length bytes.now ≤ 65537 }
     ensures { result ≡ unread bytes.now }
 {
     let lines = bytes.iter().filter(|b| **b == b'\n').count();
-    ScriptFault {
-        kind: ScriptFaultKind::Read,
+    FaultyLine {
+        kind: ScriptFault::Read,
         line: lines as u32 + 1,
     }
 }
@@ -67,12 +67,12 @@ fn fault_behind(alloc: Global, bytes: &[u8]) -> IoFault
     requires { length bytes.now ≤ 65537 }
     ensures { TellsBehind result bytes.now }
 {
-    let Err(fault) = simulate(alloc, bytes) else {
+    let Err(fault) = follow(alloc, bytes) else {
         return IoFault::Script(unread(bytes));
     };
     match fault.kind {
-        ScriptFaultKind::Memory => IoFault::Memory,
-        ScriptFaultKind::Truncated => IoFault::Script(unread(bytes)),
+        ScriptFault::Memory => IoFault::Memory,
+        ScriptFault::Truncated => IoFault::Script(unread(bytes)),
         _ => IoFault::Script(fault),
     }
 }
@@ -81,10 +81,10 @@ fn fault_behind(alloc: Global, bytes: &[u8]) -> IoFault
 fn run_of(alloc: Global, script: &[u8]) -> Result<Run, IoFault>
     ensures { MakesRun result script.now }
 {
-    match simulate(alloc, script) {
+    match follow(alloc, script) {
         Ok(run) => Ok(run),
         Err(fault) => match fault.kind {
-            ScriptFaultKind::Memory => Err(IoFault::Memory),
+            ScriptFault::Memory => Err(IoFault::Memory),
             _ => Err(IoFault::Script(fault)),
         },
     }

@@ -9,7 +9,7 @@ use std::thread::Threads;
 use totem_cluster::{IoFault, Outcome, Workers, audit_io, check_io, program, sim_io};
 use totem_evs::RunFault;
 use totem_names::{FromRead, Fused, ToWrite};
-use totem_script::{ScriptFault, ScriptFaultKind};
+use totem_script::{FaultyLine, ScriptFault};
 
 const GOOD: &str =
     "totem-run 1;log 1;conf r4.1 1 2;send r4.1 a 4.1#1;dlv r4.1 4.1#1;open;log 2;conf r4.1 1 2;dlv r4.1 4.1#1;open;end;";
@@ -70,8 +70,8 @@ fn an_earlier_line_comes_before_a_failed_read(rt: HostRuntime) -> Result<(), Fai
     assert!(rt;
         matches!(
             fault,
-            Err(IoFault::Script(ScriptFault {
-                kind: ScriptFaultKind::Read,
+            Err(IoFault::Script(FaultyLine {
+                kind: ScriptFault::Read,
                 line: 2
             }))
         )
@@ -81,8 +81,8 @@ fn an_earlier_line_comes_before_a_failed_read(rt: HostRuntime) -> Result<(), Fai
     assert!(rt;
         matches!(
             fault,
-            Err(IoFault::Script(ScriptFault {
-                kind: ScriptFaultKind::Word,
+            Err(IoFault::Script(FaultyLine {
+                kind: ScriptFault::Word,
                 line: 2
             }))
         )
@@ -100,8 +100,8 @@ fn a_script_without_an_end_is_refused(rt: HostRuntime) -> Result<(), Fail> {
     assert!(rt;
         matches!(
             fault,
-            Err(IoFault::Script(ScriptFault {
-                kind: ScriptFaultKind::TooMany,
+            Err(IoFault::Script(FaultyLine {
+                kind: ScriptFault::TooMany,
                 line: 1
             }))
         )

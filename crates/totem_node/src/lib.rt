@@ -8,4 +8,4 @@ pub use totem_core::{
     Input, NodeCore, NodeFault, Recovering, RingStep, State, StepOut, first_lives_stay,
 };
 pub use totem_ring::{Act, To};
-pub use totem_script::{ScriptFault, simulate};
+pub use totem_script::{FaultyLine, ScriptFault, follow, simulate};

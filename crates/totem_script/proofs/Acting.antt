@@ -18,7 +18,7 @@ use Rattle.totem_core.specs.Nodes.{Node, new_node}
 use Rattle.totem_core.specs.Outcomes.{IsRefused}
 use Rattle.totem_core.specs.Replay.{first_change}
 use Rattle.totem_core.specs.Table.{step}
-use Rattle.totem_script.specs.declared.script_fault.ScriptFaultKind.TheVariants.{TooMany}
+use Rattle.totem_script.specs.declared.script_fault.ScriptFault.TheVariants.{TooMany}
 use Rattle.totem_script.specs.Actors.{Actor, new_actor, after_step, actor_step, is_failure, ends_in_failure, log_with}
 
 pub starts : (p : ℕ) (ring : RingName) (members : List ℕ) (n : Node) (earlier : List LogRecord) (entries : List Entry) → n ≡ new_node p ring members

@@ -13,7 +13,7 @@ use Rattle.totem_core.specs.Nodes.{Node, Stepped, new_node}
 use Rattle.totem_core.specs.Outcomes.{Outcome}
 use Rattle.totem_core.specs.Replay.{first_change}
 use Rattle.totem_core.specs.Table.{step}
-use Rattle.totem_script.specs.declared.script_fault.ScriptFaultKind.TheVariants.{TooMany}
+use Rattle.totem_script.specs.declared.script_fault.ScriptFault.TheVariants.{TooMany}
 use Rattle.totem_script.specs.Judged.{Judged, Fails}
 
 pub record Actor : Type 0 where

@@ -14,7 +14,7 @@ use Rattle.totem_core.specs.declared.input.Input.{Input}
 use Rattle.totem_core.specs.declared.input.Input.TheVariants as input
 use Rattle.totem_script.specs.declared.command.Command.{Command}
 use Rattle.totem_script.specs.declared.command.Command.TheVariants as command
-use Rattle.totem_script.specs.declared.script_fault.ScriptFaultKind.TheVariants.{Order, Members, Place}
+use Rattle.totem_script.specs.declared.script_fault.ScriptFault.TheVariants.{Order, Members, Place}
 use Rattle.totem_script.specs.declared.script_version.ScriptVersion.{ScriptVersion}
 use Rattle.totem_script.specs.Judged.{Judged, ◌>>=◌}
 use Rattle.totem_script.specs.Actors.{Actor}

@@ -9,7 +9,7 @@ use crate::actor::ActorState;
 use crate::groups::Groups;
 use crate::process_list::ProcessList;
 use crate::scene::SceneState;
-use crate::script_fault::ScriptFaultKind;
+use crate::script_fault::ScriptFault;
 use std::alloc::{AllocError, Global};
 use totem_names::ProcId;
 
@@ -40,13 +40,13 @@ fn each_once(procs: &[ProcId], actors: &[ActorState]) -> bool
 
 impl SceneState {
     /// Begins a cut: from now on no packet passes between these groups.
-    pub(super) fn part(&mut self, alloc: Global, groups: Groups) -> Result<(), ScriptFaultKind>
+    pub(super) fn part(&mut self, alloc: Global, groups: Groups) -> Result<(), ScriptFault>
         ensures { Becomes result self.new (parted self.old groups) }
     {
         let procs = all_of(alloc, groups.as_slice())?;
         let actors = self.actors.as_slice();
         if procs.len() != actors.len() || !each_once(&procs, actors) {
-            return Err(ScriptFaultKind::Members);
+            return Err(ScriptFault::Members);
         }
         self.cut = Some(groups);
         Ok(())

@@ -1,7 +1,7 @@
 use Rattle.std.proofs.Common.{rules}
 use Rattle.totem_script.proofs.Judging.{without_head, few_behind, play_fails, play_ends}
 use Rattle.totem_script.proofs.FirstLives.{played_first}
-use Rattle.totem_script.proofs.playing.simulate.Goals as goal
+use Rattle.totem_script.proofs.playing.follow.Goals as goal
 
 pub returns-in-Err : goal.returns-in-Err
 returns-in-Err c = without_head c.args.script.now c.new-lines.result c.new-lines.ensures c.in-Err.kind c.in-Err.ensures.head
