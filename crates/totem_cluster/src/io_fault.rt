@@ -1,6 +1,7 @@
-ghost use Rattle.std.specs.Prelude.{◌≡◌};
+ghost use Rattle.std.specs.Prelude.{◌≡◌, IfOk};
 ghost use Rattle.totem_cluster.specs.IoFaults.{io_number, io_name, verdict_io_fault, write_io_fault, threads_io_fault};
 
+use std::alloc::{AllocError, Global};
 use thiserror::Error;
 use totem_certificate::CertFault;
 use totem_check::CheckFault;
@@ -64,6 +65,20 @@ impl IoFault {
             IoFault::Memory => "Memory",
             IoFault::Write => "Write",
         }
+    }
+
+    pub fn try_clone(&self, alloc: Global) -> Result<IoFault, AllocError>
+        ensures { IfOk result (λ f. f ≡ self.now) }
+    {
+        Ok(match self {
+            IoFault::Run(fault) => IoFault::Run(*fault),
+            IoFault::Cert(fault) => IoFault::Cert(*fault),
+            IoFault::Refused(fault) => IoFault::Refused(fault.try_clone(alloc)?),
+            IoFault::Script(fault) => IoFault::Script(*fault),
+            IoFault::Book(trouble) => IoFault::Book(*trouble),
+            IoFault::Memory => IoFault::Memory,
+            IoFault::Write => IoFault::Write,
+        })
     }
 }
 
