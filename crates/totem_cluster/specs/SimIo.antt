@@ -1,5 +1,5 @@
 -- What simulating a script from a stream returns, reads and writes (docs/PROTOCOL.md, "Scripts").
-use Rattle.std.specs.Prelude.{◌≡◌, ◌⊎◌, ℕ, ◌+◌, ◌%◌, ◌^◌, ◌==◌, ◌≤◌, List, length, take, count_by, Bool, true, false, IfSome, Result, Ok, Err}
+use Rattle.std.specs.Prelude.{◌≡◌, ◌≢◌, ◌⊎◌, ℕ, ◌+◌, ◌%◌, ◌^◌, ◌==◌, ◌≤◌, List, length, take, count_by, Bool, true, false, IfSome, Result, Ok, Err}
 use Rattle.std.specs.declared.alloc.AllocError.{AllocError}
 use Rattle.std.specs.Io.KnownBytes.{Consumes}
 use Rattle.totem_names.specs.Sources.{Seen}
@@ -63,25 +63,11 @@ fault_of_rest now (Err earlier) = unless_earlier now earlier earlier.kind
 abbrev pub fault_behind : List ℕ → FaultyLine
 fault_behind read = fault_of_rest (unread read) (simulate read)
 
--- a call that reports this fault, unless memory was refused
-abbrev pub TellsBehind : IoFault → List ℕ → Type 0
-TellsBehind (faults.Script fault) read = fault ≡ fault_behind read
-TellsBehind faults.Memory read = Unit {0}
-TellsBehind fault read = ⊥
-
--- the script's run or its fault, unless memory was refused
-abbrev pub MakesRun : Result Run IoFault → List ℕ → Type 0
-MakesRun (Ok run) script = simulate script ≡ Ok run
-MakesRun (Err (faults.Script fault)) script = simulate script ≡ Err fault
-MakesRun (Err faults.Memory) script = Unit {0}
-MakesRun (Err fault) script = ⊥
+-- this is that fault, unless memory was refused
+pub record IsBehind (fault : FaultyLine) (read : List ℕ) : Type 0 where
+  pub is : fault.kind ≢ Memory → fault ≡ fault_behind read
 
 -- ---- the call
-
--- the result without the bytes of the script
-abbrev pub fault_alone : Result Outcome Unmade → Result Outcome IoFault
-fault_alone (Ok outcome) = Ok outcome
-fault_alone (Err unmade) = Err unmade.fault
 
 -- the script was read, this is its run, and the run's text and nothing else was written
 pub record IsSimulated (old new : Seen) (was is : Held) : Type 0 where
@@ -113,16 +99,36 @@ pub record IsUnwritten (old new : Seen) : Type 0 where
   pub is_read : IsRead old new read
   pub made : simulate read ≡ Ok run
 
--- the run was written; or nothing was, because the script was refused or its source failed, or memory was refused; or the sink
+-- the outcome of a script whose run was written
+abbrev pub IsMade : Seen → Seen → Held → Held → Outcome → Type 0
+IsMade old new was is outcomes.Made = IsSimulated old new was is
+IsMade old new was is outcomes.Yes = ⊥
+IsMade old new was is outcomes.No = ⊥
+
+-- nothing was written, because the script was refused in this line or its source failed there, or memory was refused; or the sink
 -- failed in this call, after a whole script
+abbrev pub IsUnmade : Seen → Seen → Held → Held → IoFault → ℕ → Type 0
+IsUnmade old new was is (faults.Script kind) line =
+    let fault : FaultyLine = record { kind = kind; line = line } in
+    (is ≡ was) × (IsNoScript old new fault ⊎ IsUnread old new fault)
+IsUnmade old new was is faults.Memory line = is ≡ was
+IsUnmade old new was is faults.Write line = (is.failures ≡ (was.failures + 1) % 2 ^ 64) × IsUnwritten old new
+IsUnmade old new was is (faults.Book trouble) line = ⊥
+IsUnmade old new was is (faults.Run fault) line = ⊥
+IsUnmade old new was is (faults.Cert fault) line = ⊥
+IsUnmade old new was is (faults.Refused fault) line = ⊥
+
+-- the run was written; or the fault and the line say why not
+abbrev pub Follows : Seen → Seen → Held → Held → Result Outcome Unmade → Type 0
+Follows old new was is (Ok outcome) = IsMade old new was is outcome
+Follows old new was is (Err unmade) = IsUnmade old new was is unmade.fault unmade.line
+
+-- why no run was written, for a result that doesn't name the line
+pub record IsUnmadeSomewhere (old new : Seen) (was is : Held) (fault : IoFault) : Type 0 where
+  pub line : ℕ
+  pub is_unmade : IsUnmade old new was is fault line
+
+-- the same for a result that doesn't name the line
 abbrev pub Simulates : Seen → Seen → Held → Held → Result Outcome IoFault → Type 0
-Simulates old new was is (Ok outcomes.Made) = IsSimulated old new was is
-Simulates old new was is (Ok outcomes.Yes) = ⊥
-Simulates old new was is (Ok outcomes.No) = ⊥
-Simulates old new was is (Err (faults.Script fault)) = (is ≡ was) × (IsNoScript old new fault ⊎ IsUnread old new fault)
-Simulates old new was is (Err (faults.Book trouble)) = ⊥
-Simulates old new was is (Err faults.Memory) = is ≡ was
-Simulates old new was is (Err faults.Write) = (is.failures ≡ (was.failures + 1) % 2 ^ 64) × IsUnwritten old new
-Simulates old new was is (Err (faults.Run fault)) = ⊥
-Simulates old new was is (Err (faults.Cert fault)) = ⊥
-Simulates old new was is (Err (faults.Refused fault)) = ⊥
+Simulates old new was is (Ok outcome) = IsMade old new was is outcome
+Simulates old new was is (Err fault) = IsUnmadeSomewhere old new was is fault

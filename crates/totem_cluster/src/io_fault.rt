@@ -1,12 +1,12 @@
 ghost use Rattle.std.specs.Prelude.{◌≡◌, IfOk};
-ghost use Rattle.totem_cluster.specs.IoFaults.{io_number, io_name, verdict_io_fault, write_io_fault, threads_io_fault};
+ghost use Rattle.totem_cluster.specs.IoFaults.{io_number, io_name, verdict_io_fault, write_io_fault, script_io_fault, threads_io_fault};
 
 use std::alloc::{AllocError, Global};
 use thiserror::Error;
 use totem_certificate::CertFault;
 use totem_check::CheckFault;
 use totem_evs::{RunFault, WriteFault};
-use totem_script::FaultyLine;
+use totem_script::ScriptFault;
 use totem_threads::{BookTrouble, ThreadsFault};
 use totem_verdicts::VerdictFault;
 
@@ -24,7 +24,7 @@ pub enum IoFault {
     Refused(CheckFault),
     /// The script makes no run, or its source failed. Never `ScriptFault::Memory`.
     #[error("the script was refused: {0}")]
-    Script(FaultyLine),
+    Script(ScriptFault),
     /// A book of a run in threads was full, or its log too long. Always `BookTrouble::Call(BookFault::Long)`.
     #[error("the run was given up: {0}")]
     Book(BookTrouble),
@@ -103,6 +103,17 @@ impl From<WriteFault> for IoFault {
         match fault {
             WriteFault::Memory => IoFault::Memory,
             WriteFault::Write => IoFault::Write,
+        }
+    }
+}
+
+impl From<ScriptFault> for IoFault {
+    ghost from_gives = { λ f e. e ≡ script_io_fault f };
+
+    fn from(fault: ScriptFault) -> IoFault {
+        match fault {
+            ScriptFault::Memory => IoFault::Memory,
+            _ => IoFault::Script(fault),
         }
     }
 }

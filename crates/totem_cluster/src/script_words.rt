@@ -1,13 +1,13 @@
 //! The line at which a script is refused, and what is expected there (docs/PROTOCOL.md, "Scripts").
 use std::alloc::{AllocError, Global};
-use totem_script::{FaultyLine, ScriptFault};
+use totem_script::ScriptFault;
 
 /// The greatest number of bytes of a line that are shown.
 const SHOWN: usize = 72;
 
 /// Returns what is expected where a script has this fault.
-fn wanted(kind: ScriptFault) -> &'static str {
-    match kind {
+fn wanted(fault: ScriptFault) -> &'static str {
+    match fault {
         ScriptFault::Header => {
             "A script begins with the line `totem-script 1` or `totem-script 2`."
         }
@@ -53,14 +53,14 @@ fn push_line(text: &mut String, script: &[u8], line: u32) -> Result<(), AllocErr
 /// not be read or memory was refused.
 pub fn explain_line(
     alloc: Global,
-    fault: &FaultyLine,
+    fault: ScriptFault,
+    line: u32,
     script: &[u8],
 ) -> Result<String, AllocError> {
-    let wanted = wanted(fault.kind);
+    let wanted = wanted(fault);
     if wanted.is_empty() {
         return Ok(String::new(alloc));
     }
-    let line = fault.line;
     let mut text = format!(in alloc; "line {line}:\n  ")?;
     push_line(&mut text, script, line)?;
     text.push_str(format!(in alloc; "\n{wanted}\n")?.as_str())?;

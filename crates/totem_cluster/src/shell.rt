@@ -75,7 +75,7 @@ fn play<T: Threads + Wait + Sync, W: Sink, E: Sink, P: Progress>(
 /// Returns the explanation that is printed after the line of a script's fault.
 fn line_words(alloc: Global, unmade: &Unmade) -> Result<String, AllocError> {
     match &unmade.fault {
-        IoFault::Script(fault) => explain_line(alloc, fault, &unmade.script),
+        IoFault::Script(fault) => explain_line(alloc, *fault, unmade.line, &unmade.script),
         _ => Ok(String::new(alloc)),
     }
 }

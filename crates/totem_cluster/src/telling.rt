@@ -10,14 +10,14 @@ use crate::io_fault::IoFault;
 use totem_certificate::CertFault;
 use totem_evs::RunFault;
 use totem_names::{Failed, Sink};
-use totem_script::{FaultyLine, ScriptFault};
+use totem_script::ScriptFault;
 use totem_threads::BookTrouble;
 use totem_verdicts::{put_cert_fault, put_check_fault, put_refusal, put_run_fault, put_text};
 
-fn put_script_fault<E: Sink>(errors: &mut E, fault: &FaultyLine) -> Result<(), Failed>
+fn put_script_fault<E: Sink>(errors: &mut E, fault: &ScriptFault) -> Result<(), Failed>
     ensures { Writes (bare E.contents E.failures errors.old) (bare E.contents E.failures errors.new) result (script_line fault.now) }
 {
-    if let ScriptFault::Read = fault.kind {
+    if let ScriptFault::Read = *fault {
         return put_text(errors, "totem: read failed\n");
     }
     put_refusal(
@@ -66,10 +66,10 @@ fn put_with_words<E: Sink>(errors: &mut E, fault: &IoFault, words: &str) -> Resu
 }
 
 /// Returns the status of a script's fault.
-fn script_status(kind: ScriptFault) -> u8
-    ensures { result ≡ script_status kind }
+fn script_status(fault: ScriptFault) -> u8
+    ensures { result ≡ script_status fault }
 {
-    match kind {
+    match fault {
         ScriptFault::Read => 4,
         _ => 2,
     }
@@ -98,7 +98,7 @@ fn status_of(fault: &IoFault) -> u8
 {
     match fault {
         IoFault::Run(RunFault::Read) | IoFault::Cert(CertFault::Read) => 4,
-        IoFault::Script(fault) => script_status(fault.kind),
+        IoFault::Script(fault) => script_status(*fault),
         IoFault::Run(_) | IoFault::Cert(_) | IoFault::Refused(_) | IoFault::Book(_) => 2,
         IoFault::Memory => 3,
         IoFault::Write => 4,

@@ -145,7 +145,7 @@ fn a_fault_says_what_and_where(rt: HostRuntime) -> Result<(), Fail> {
     };
     let text = format!(in rt.alloc(); "{fault}")?;
     assert_eq!(rt;
-        (fault.number(), fault.name(), text.as_str()),
+        (fault.kind.number(), fault.kind.name(), text.as_str()),
         (
             6,
             "Place",

@@ -84,22 +84,6 @@ impl ScriptFault {
     }
 }
 
-impl FaultyLine {
-    /// Returns the number of what is wrong.
-    pub fn number(&self) -> u8
-        ensures { result ≡ fault_number self.now.kind }
-    {
-        self.kind.number()
-    }
-
-    /// Returns the name of what is wrong.
-    pub fn name(&self) -> &'static str
-        ensures { result.now ≡ fault_name self.now.kind }
-    {
-        self.kind.name()
-    }
-}
-
 impl From<AllocError> for ScriptFault {
     ghost from_gives = { λ _ e. e ≡ Memory };
 
