@@ -27,6 +27,8 @@ pub use laws::{closed_lists_are_one, closed_lists_exclude_certificates, position
 pub use order::{Order, positions};
 pub use totem_certificate::{
     CertFault, Certificate, Line, Lines, Numbers, NumbersFault, RefusedNumbers, a_fault_is_no_text,
-    cut_text_goes_on, fault_byte_is_first, fault_is_first, faults_are_its_own,
-    no_text_begins_another, put_cert, read_cert, read_is_spelled, spelled_is_read, write_cert,
+    a_fault_is_of_a_line, cut_text_goes_on, fault_byte_is_first, fault_is_first,
+    faults_are_its_own, header_is_in_the_first_line, no_text_begins_another, number_is_of_a_number,
+    order_is_of_a_line_that_does_not_rise, put_cert, read_cert, read_is_spelled, spelled_is_read,
+    too_many_is_past_a_limit, word_is_the_rest, write_cert,
 };
