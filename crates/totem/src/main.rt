@@ -10,7 +10,7 @@ use progress_line::ProgressLine;
 use std::io::IsTerminal;
 use std::process::ExitCode;
 use totem_cluster::program_with_progress;
-use totem_ids::{Buffered, Sink, ToWrite};
+use totem_names::{Buffered, Sink, ToWrite};
 use totem_verdicts::{VerdictFault, listed, no_words, tell_fault};
 
 fn out_of_memory<E: Sink>(errors: &mut E) -> ExitCode {

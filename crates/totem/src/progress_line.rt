@@ -2,7 +2,7 @@
 use std::alloc::{AllocError, Global};
 use std::time::{Clock, Duration};
 use totem_cluster::{Logged, Progress};
-use totem_ids::Sink;
+use totem_names::Sink;
 
 /// The least time in milliseconds for which a line is shown.
 const STANDS: u64 = 100;

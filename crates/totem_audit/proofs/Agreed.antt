@@ -1,7 +1,7 @@
 -- Where all rules of the last pass are seen to be met, the answer is a yes.
 use Rattle.std.specs.Prelude.{Contains}
 use Rattle.std.proofs.Common.{List, [], ◌∷◌, inl, refl}
-use Rattle.totem_ids.specs.declared.ring.RingId.{RingId}
+use Rattle.totem_names.specs.declared.ring.RingId.{RingId}
 use Rattle.totem_evs.specs.declared.log.Log.{Log}
 use Rattle.totem_evs.specs.declared.spec.SpecNo.{SpecNo}
 use Rattle.totem_evs.specs.declared.pending.Waiting.{Waiting}

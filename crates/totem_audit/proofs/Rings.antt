@@ -1,8 +1,8 @@
 -- A run has one list of its regular configurations.
 use Rattle.std.proofs.Common.{◌≡◌, ◌⊎◌, ◌∙◌, zero, suc, inl, inr, List, [], ◌∷◌, refl, sym, subst, arith}
 use Rattle.std.specs.Prelude.{AllPairs, Contains}
-use Rattle.totem_ids.specs.Orders.{RingBelow}
-use Rattle.totem_ids.specs.declared.ring.RingId.{RingId}
+use Rattle.totem_names.specs.Orders.{RingBelow}
+use Rattle.totem_names.specs.declared.ring.RingId.{RingId}
 use Rattle.totem_evs.specs.declared.log.Log.{Log}
 use Rattle.totem_evs.specs.Answers.{AreRings}
 

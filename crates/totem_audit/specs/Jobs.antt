@@ -1,6 +1,6 @@
 -- What the workers find (docs/SPECIFICATIONS.md, "Passes").
 use Rattle.std.specs.Prelude.{◌≡◌, ◌<◌, ℕ, List, Option, None, IfSome, All, length, slice_index_or}
-use Rattle.totem_ids.specs.declared.ring.RingId.{RingId}
+use Rattle.totem_names.specs.declared.ring.RingId.{RingId}
 use Rattle.totem_evs.specs.declared.log.Log.{Log}
 use Rattle.totem_pass_d.specs.declared.findings.Findings.{Findings}
 use Rattle.totem_pass_d.specs.declared.jobs.Jobs.{Jobs}

@@ -1,7 +1,7 @@
 -- What a result of a job says (docs/SPECIFICATIONS.md, "Passes").
 use Rattle.std.specs.Prelude.{◌≡◌, ◌+◌, ℕ, List, slice_get, Some}
-use Rattle.totem_ids.specs.declared.ring.RingId.{RingId}
-use Rattle.totem_ids.specs.declared.version.Version.{Version}
+use Rattle.totem_names.specs.declared.ring.RingId.{RingId}
+use Rattle.totem_names.specs.declared.version.Version.{Version}
 use Rattle.totem_evs.specs.declared.log.Log.{Log}
 use Rattle.totem_evs.specs.Answers.{AreRings}
 use Rattle.totem_pass_d.specs.declared.findings.Findings.{Findings}

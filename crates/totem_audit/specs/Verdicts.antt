@@ -1,6 +1,6 @@
 -- The answer of a verdict (docs/SPECIFICATIONS.md, "Passes").
 use Rattle.std.specs.Prelude.{◌≡◌}
-use Rattle.totem_ids.specs.declared.version.Version.{Version}
+use Rattle.totem_names.specs.declared.version.Version.{Version}
 use Rattle.totem_evs.specs.Answers.{Answer, Yes, No}
 use Rattle.totem_audit.specs.declared.verdict.Verdict.{Verdict}
 use Rattle.totem_audit.specs.declared.verdict.Verdict.TheVariants as verdicts

@@ -8,7 +8,7 @@ use std::marker::{Brand, Model, PhantomData};
 /// The name of the jobs of a run. No value of such a type is ever made; a function that is generic over it is called at `Brand`.
 pub trait JobsName {
     ghost use Rattle.std.specs.Prelude.{List};
-    ghost use Rattle.totem_ids.specs.declared.ring.RingId.{RingId};
+    ghost use Rattle.totem_names.specs.declared.ring.RingId.{RingId};
     ghost use Rattle.totem_evs.specs.declared.log.Log.{Log};
 
     ghost logs: { List Log };

@@ -8,10 +8,10 @@ ghost use Rattle.totem_pass_ab.specs.Listed.{ListsFirst};
 ghost use Rattle.totem_audit.specs.Early.{IsEarly, ListsEarly};
 
 use std::alloc::{AllocError, Global};
+use totem_cert::{Order, positions};
 use totem_certificate::Certificate;
 use totem_evs::{Fault, Run};
 use totem_judge::{View, observe};
-use totem_order::{Order, positions};
 use totem_pass_ab::pass_a_and_b;
 use totem_table::Changes;
 

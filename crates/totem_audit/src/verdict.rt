@@ -1,5 +1,5 @@
 ghost use Rattle.std.specs.Prelude.{◌≡◌, IfOk};
-ghost use Rattle.totem_ids.specs.declared.version.Version.{Version};
+ghost use Rattle.totem_names.specs.declared.version.Version.{Version};
 ghost use Rattle.totem_audit.specs.Verdicts.{answer_of, HasVersion};
 
 use std::alloc::{AllocError, Global};

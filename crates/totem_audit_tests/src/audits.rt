@@ -3,8 +3,8 @@ use crate::values::{is_told, push_faults};
 use std::alloc::{AllocError, Global};
 use totem_audit::{Verdict, Workers, audit, early};
 use totem_evs::{Run, read_run};
-use totem_ids::FromRead;
 use totem_judge_run::{deliveries_are_once, sends_are_once};
+use totem_names::FromRead;
 use totem_pass_ab::pass_a_and_b;
 use totem_table::{Changes, Row as Numbers, Table, numbers_tell_confs, numbers_tell_messages};
 

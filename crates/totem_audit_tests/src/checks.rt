@@ -1,10 +1,10 @@
 //! Runs and certificates from their texts, and what the checker reports of them.
 use crate::values::{is_told, push_fault};
 use std::alloc::{AllocError, Global};
+use totem_cert::{Certificate, read_cert};
 use totem_check::{Accepted, CertificateFault, CheckFault, certified, check};
 use totem_evs::{Run, read_run};
-use totem_ids::FromRead;
-use totem_order::{Certificate, read_cert};
+use totem_names::FromRead;
 
 /// Adds what certification reports, and the check's fault for it.
 fn push_certified(

@@ -5,7 +5,7 @@ use crate::values::{is_told, push_faults};
 use std::alloc::{AllocError, Global};
 use totem_audit::{JobResult, collect, do_job, early};
 use totem_evs::{Fault, Run, read_run};
-use totem_ids::FromRead;
+use totem_names::FromRead;
 
 /// Returns a run with 40 configurations of one process, in each of which it sends and delivers a message, but doesn't deliver in the
 /// 2nd, the 20th and the 39th.

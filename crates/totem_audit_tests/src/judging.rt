@@ -2,11 +2,11 @@
 use crate::values::is_told;
 use std::alloc::{AllocError, Global};
 use std::process::Abort;
+use totem_cert::{Order, positions};
 use totem_evs::{Pending, Run, read_run};
-use totem_ids::{FromRead, MsgId, Proc, ProcId, RingId};
 use totem_judge::observe;
 use totem_judge_run::{in_order, walk_to_change};
-use totem_order::{Order, positions};
+use totem_names::{FromRead, MsgId, Proc, ProcId, RingId};
 
 /// Adds the answer of the judge and its rules on a run, with the certificate that the auditor makes of it.
 fn push_judged(alloc: Global, text: &mut String, run: &Run) -> Result<(), AllocError> {

@@ -2,9 +2,9 @@
 use crate::values::{push_lines, push_processes};
 use std::alloc::{AllocError, Global};
 use std::sync::Arc;
+use totem_cert::{Certificate, Line, Lines, Numbers};
 use totem_evs::{Members, Refused};
-use totem_ids::{Proc, ProcId};
-use totem_order::{Certificate, Line, Lines, Numbers};
+use totem_names::{Proc, ProcId};
 
 /// Returns the first life of this identifier.
 pub fn proc(number: u16) -> Proc {

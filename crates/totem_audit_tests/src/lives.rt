@@ -4,9 +4,9 @@ use crate::lists::{push_line, refusal};
 use crate::logs::push_log_of;
 use crate::values::is_told;
 use std::alloc::{AllocError, Global};
+use totem_cert::{Certificate, read_cert, write_cert};
 use totem_evs::{Run, read_run, write_run};
-use totem_ids::{FromRead, Proc, ProcId, ToWrite, Version};
-use totem_order::{Certificate, read_cert, write_cert};
+use totem_names::{FromRead, Proc, ProcId, ToWrite, Version};
 
 /// Returns this life of process 1.
 fn life(number: u16) -> Proc {

@@ -4,7 +4,7 @@ use crate::values::push_log;
 use std::alloc::{AllocError, Global};
 use std::sync::Arc;
 use totem_evs::{Ending, Entries, Entry, Fault, Log, Logs, Members, Part, Places, Run, SpecNo};
-use totem_ids::{ConfId, MsgId, Place, Proc, ProcId, RingId, Service};
+use totem_names::{ConfId, MsgId, Place, Proc, ProcId, RingId, Service};
 
 fn ring() -> RingId {
     RingId {

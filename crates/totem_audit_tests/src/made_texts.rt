@@ -2,9 +2,9 @@
 use crate::texts::{CERTIFICATE, RUN, read};
 use crate::values::is_told;
 use std::alloc::{AllocError, Global};
+use totem_cert::{Certificate, read_cert, write_cert};
 use totem_evs::{Run, WriteFault, read_run, write_run};
-use totem_ids::{FromRead, Fused, ToWrite};
-use totem_order::{Certificate, read_cert, write_cert};
+use totem_names::{FromRead, Fused, ToWrite};
 
 /// Returns how much of a text was written.
 fn gone_out(answer: Result<(), WriteFault>, bytes: &[u8], text: &str) -> &'static str {

@@ -1,9 +1,9 @@
 //! The numbers, names and texts of faults and specifications, and their order.
 use crate::values::is_told;
 use std::alloc::{AllocError, Global};
+use totem_cert::CertFault;
 use totem_evs::{ListFault, Pending, Refused, RunFault, SpecNo, Waiting, WriteFault};
-use totem_ids::{ConfId, MsgId, Proc, ProcId, RingId, Version};
-use totem_order::CertFault;
+use totem_names::{ConfId, MsgId, Proc, ProcId, RingId, Version};
 
 const CERT_FAULTS: [CertFault; 9] = [
     CertFault::Header,

@@ -1,10 +1,10 @@
 //! The rules of a whole run: each says yes to a good run and no to one that breaks it.
 use crate::values::is_told;
 use std::alloc::{AllocError, Global};
+use totem_cert::{Order, positions};
 use totem_evs::{Run, read_run};
-use totem_ids::FromRead;
 use totem_judge_run::{end_together, first_misplaced, is_orderly, sends_are_once, waiting};
-use totem_order::{Order, positions};
+use totem_names::FromRead;
 
 /// Adds whether a run that has a certificate is orderly, and the number of waiting processes if it is.
 fn push_waiting(alloc: Global, text: &mut String, run: &Run) -> Result<(), AllocError> {

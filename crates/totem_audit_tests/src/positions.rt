@@ -1,9 +1,9 @@
 //! Positions and closed lists of small runs, with the numbers and faults that docs/SPECIFICATIONS.md gives for them.
 use crate::values::{is_told, push_lines};
 use std::alloc::{AllocError, Global};
+use totem_cert::{Order, positions};
 use totem_evs::{Run, read_run};
-use totem_ids::FromRead;
-use totem_order::{Order, positions};
+use totem_names::FromRead;
 
 fn push_order(text: &mut String, order: &Order) -> Result<(), AllocError> {
     match order {

@@ -1,11 +1,11 @@
 //! The rules of one regular configuration: each says yes to good traffic and no to traffic that breaks it.
 use std::alloc::{AllocError, Global};
 use std::process::Abort;
-use totem_ids::{MsgId, Proc, ProcId, RingId};
 use totem_judge_traffic::{
     Following, Got, LogSet, MemberLogs, Sent, Traffic, atomicity_is_met, causality_is_met,
     installed_is_met, is_agreed, no_gap_is_left, own_delivery_is_met, push_pending, safety_is_met,
 };
+use totem_names::{MsgId, Proc, ProcId, RingId};
 
 fn message(number: u32) -> MsgId {
     let ring = RingId {

@@ -2,9 +2,9 @@
 use crate::texts::{CERTIFICATE, RUN, certificate_told, push_end, run_told};
 use crate::values::is_told;
 use std::alloc::{AllocError, Global};
+use totem_cert::{CertFault, read_cert};
 use totem_evs::{Next, Part, RunFault, RunReader, read_run};
-use totem_ids::{Buffered, FromRead, Fused, Source};
-use totem_order::{CertFault, read_cert};
+use totem_names::{Buffered, FromRead, Fused, Source};
 
 /// Reads a run from a source that fails after this many calls.
 fn fused_told(alloc: Global, calls: usize) -> Result<String, AllocError> {
@@ -97,13 +97,14 @@ fn push_part(text: &mut String, part: &Part) -> Result<(), AllocError> {
 
 /// Adds at most twenty parts, and what follows them.
 fn push_parts<S: Source>(
+    alloc: Global,
     text: &mut String,
     source: &mut S,
     reader: RunReader,
 ) -> Result<(), AllocError> {
     let mut reader = reader;
     for _ in 0..20u8 {
-        match reader.next(source) {
+        match reader.next(alloc, source) {
             Ok(Next::Part(part, later)) => {
                 push_part(text, &part)?;
                 reader = later;
@@ -120,7 +121,7 @@ fn parts_told(alloc: Global, given: &str) -> Result<String, AllocError> {
     let mut source = FromRead::new(given.as_bytes());
     let mut text = String::new(alloc);
     match RunReader::begin(alloc, &mut source) {
-        Ok(reader) => push_parts(&mut text, &mut source, reader)?,
+        Ok(reader) => push_parts(alloc, &mut text, &mut source, reader)?,
         Err(fault) => text.push_str(fault.name())?,
     }
     push_end(&mut text, &mut source)?;

@@ -3,7 +3,7 @@ use crate::values::is_told;
 use std::alloc::{AllocError, Global};
 use std::fmt::Display;
 use totem_evs::read_run;
-use totem_ids::{ConfId, FromRead, Proc, ProcId, RingId};
+use totem_names::{ConfId, FromRead, Proc, ProcId, RingId};
 use totem_stitch::Stitch;
 
 /// Returns the transitional configuration before the regular one of this ring, with 1 as its least member.

@@ -1,9 +1,9 @@
 //! Runs and certificates that are read, and texts that are refused.
 use crate::values::{is_told, push_lines, push_log};
 use std::alloc::{AllocError, Global};
+use totem_cert::{Certificate, read_cert};
 use totem_evs::{Run, RunFault, read_end, read_run};
-use totem_ids::{FromRead, Source};
-use totem_order::{Certificate, read_cert};
+use totem_names::{FromRead, Source};
 
 pub const RUN: &str = "totem-run 1\n\
     log 1\nconf r4.1 1 2\nsend r4.1 a 4.1#1\ndlv r4.1 4.1#1\nopen\n\

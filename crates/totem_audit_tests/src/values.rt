@@ -1,9 +1,9 @@
 //! Values as text, and the comparison of a text with the expected one.
 use std::alloc::AllocError;
 use std::process::Abort;
+use totem_cert::Line;
 use totem_evs::{Ending, Fault, Log};
-use totem_ids::{Proc, WrittenProc};
-use totem_order::Line;
+use totem_names::{Proc, WrittenProc};
 
 /// Stops the test if the text is not the expected one.
 pub fn is_told(rt: &impl Abort, told: &str, wanted: &str, about: &str) {

@@ -7,7 +7,7 @@ use crate::values::is_told;
 use std::alloc::{AllocError, Global};
 use totem_audit::{Stitch, early, walk};
 use totem_evs::{Run, read_run};
-use totem_ids::{FromRead, Proc, ProcId, RingId};
+use totem_names::{FromRead, Proc, ProcId, RingId};
 use totem_walk::{causality_is_of_pairs, entries_of};
 
 /// The logs of a run: these lines, or those of a run in which 1 sends this many messages and 1 and 2 deliver them.

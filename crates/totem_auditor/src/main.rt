@@ -6,7 +6,7 @@
 #![tactic(auto)]
 
 use std::process::ExitCode;
-use totem_ids::{Buffered, Sink, ToWrite};
+use totem_names::{Buffered, Sink, ToWrite};
 use totem_verdicts::{VerdictFault, auditor, listed, no_words, tell_fault};
 
 fn out_of_memory<E: Sink>(errors: &mut E) -> ExitCode {

@@ -2,11 +2,11 @@
 use Rattle.std.proofs.Common.{◌≡◌, ℕ, List, [], ◌∷◌, ◌++◌, Ok, Err, refl, sym, ap, subst, ◌∙◌, append-nil, Option, None, Some, IfSome}
 use Rattle.std.proofs.lemmas.List.{reverse-append, map-append}
 use Rattle.totem_evs.specs.declared.entry.Entry.{Entry}
-use Rattle.totem_node.specs.declared.input.Input.{Input}
-use Rattle.totem_node.specs.Nodes.{Node, Stepped}
-use Rattle.totem_node.specs.Outcomes.{Outcome}
-use Rattle.totem_node.specs.Table.{step}
-use Rattle.totem_node.specs.Replay.{Answer, Life, lived, one_input}
+use Rattle.totem_core.specs.declared.input.Input.{Input}
+use Rattle.totem_core.specs.Nodes.{Node, Stepped}
+use Rattle.totem_core.specs.Outcomes.{Outcome}
+use Rattle.totem_core.specs.Table.{step}
+use Rattle.totem_core.specs.Replay.{Answer, Life, lived, one_input}
 use Rattle.totem_books.specs.Replies.{entries_of}
 use Rattle.totem_books.specs.Calls.{Called, Receipt}
 use Rattle.totem_books.specs.Replay.{Start, replay, lived_back, answer_to, node_behind, IsReplay}

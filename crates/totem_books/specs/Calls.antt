@@ -1,8 +1,8 @@
 -- Calls and their receipts in contracts (docs/PROTOCOL.md, "Books").
 use Rattle.std.specs.Prelude.{ℕ}
-use Rattle.totem_node.specs.declared.input.Input.{Input}
-use Rattle.totem_node.specs.Outcomes.{Outcome}
-use Rattle.totem_node.specs.Replay.{Answer}
+use Rattle.totem_core.specs.declared.input.Input.{Input}
+use Rattle.totem_core.specs.Outcomes.{Outcome}
+use Rattle.totem_core.specs.Replay.{Answer}
 
 -- a call: an input and its answer
 pub record Called : Type 0 where

@@ -1,12 +1,12 @@
 -- A book in contracts (docs/PROTOCOL.md, "Books").
 use Rattle.std.specs.Prelude.{◌≤◌, ◌⊎◌, ℕ, List, [], ◌∷◌, ◌++◌, length}
-use Rattle.totem_ids.specs.Names.{RingName}
+use Rattle.totem_names.specs.Names.{RingName}
 use Rattle.totem_evs.specs.declared.entry.Entry.{Entry}
-use Rattle.totem_node.specs.declared.input.Input.{Input}
-use Rattle.totem_node.specs.Nodes.{Node}
-use Rattle.totem_node.specs.Outcomes.{Outcome}
-use Rattle.totem_node.specs.Table.{step}
-use Rattle.totem_node.specs.Replay.{Answer}
+use Rattle.totem_core.specs.declared.input.Input.{Input}
+use Rattle.totem_core.specs.Nodes.{Node}
+use Rattle.totem_core.specs.Outcomes.{Outcome}
+use Rattle.totem_core.specs.Table.{step}
+use Rattle.totem_core.specs.Replay.{Answer}
 use Rattle.totem_books.specs.Calls.{Called, Receipt}
 use Rattle.totem_books.specs.Replay.{Start, replay, answer_to}
 

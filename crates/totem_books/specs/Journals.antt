@@ -1,9 +1,9 @@
 -- Receipts in the journal of a shared book (docs/PROTOCOL.md, "Books").
 use Rattle.std.specs.Prelude.{◌≡◌, ◌<◌, ◌-◌, ℕ, List, [], ◌∷◌, ◌++◌, length, map, take, Some, slice_get, slice_index_or, All}
 use Rattle.totem_books.specs.Calls.{Called, Receipt}
-use Rattle.totem_node.specs.declared.input.Input.{Input}
-use Rattle.totem_node.specs.Outcomes.{Outcome}
-use Rattle.totem_node.specs.Replay.{Answer}
+use Rattle.totem_core.specs.declared.input.Input.{Input}
+use Rattle.totem_core.specs.Outcomes.{Outcome}
+use Rattle.totem_core.specs.Replay.{Answer}
 use Rattle.totem_books.specs.Seats.{SeatRecord}
 use Rattle.totem_books.specs.Receipts.{FitRising, ShareNoPlace}
 use Rattle.totem_books.specs.Replay.{Start}

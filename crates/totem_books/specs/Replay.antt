@@ -1,10 +1,10 @@
 -- The effect of a book's calls on a node: one step for each call (docs/PROTOCOL.md, "Books").
 use Rattle.std.specs.Prelude.{◌≡◌, ℕ, List, [], ◌∷◌, map, reverse, Ok, Err}
-use Rattle.totem_ids.specs.Names.{RingName}
+use Rattle.totem_names.specs.Names.{RingName}
 use Rattle.totem_evs.specs.declared.entry.Entry.{Entry}
-use Rattle.totem_node.specs.Nodes.{Node, Stepped}
-use Rattle.totem_node.specs.Outcomes.{Outcome}
-use Rattle.totem_node.specs.Replay.{Answer, Life, born, one_input}
+use Rattle.totem_core.specs.Nodes.{Node, Stepped}
+use Rattle.totem_core.specs.Outcomes.{Outcome}
+use Rattle.totem_core.specs.Replay.{Answer, Life, born, one_input}
 use Rattle.totem_books.specs.Calls.{Called}
 
 -- a node's start: its process, its first ring and the ring's members

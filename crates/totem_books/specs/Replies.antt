@@ -1,9 +1,9 @@
 -- What a reply says (docs/PROTOCOL.md, "Books").
 use Rattle.std.specs.Prelude.{List, [], Ok, Err}
 use Rattle.totem_evs.specs.declared.entry.Entry.{Entry}
-use Rattle.totem_node.specs.declared.outcome.StepOut.{StepOut}
-use Rattle.totem_node.specs.Outcomes.{Outcome}
-use Rattle.totem_node.specs.Replay.{Answer}
+use Rattle.totem_core.specs.declared.outcome.StepOut.{StepOut}
+use Rattle.totem_core.specs.Outcomes.{Outcome}
+use Rattle.totem_core.specs.Replay.{Answer}
 use Rattle.totem_books.specs.declared.reply.Reply.{Reply}
 use Rattle.totem_books.specs.declared.reply.Reply.TheVariants.{Done, Refused}
 

@@ -1,11 +1,11 @@
 -- An input that a node took, and what a book stores of it (docs/PROTOCOL.md, "Books").
 use Rattle.std.specs.Prelude.{◌≡◌, ℕ, List, [], ◌∷◌, ◌++◌}
 use Rattle.totem_evs.specs.declared.entry.Entry.{Entry}
-use Rattle.totem_node.specs.declared.input.Input.{Input}
-use Rattle.totem_node.specs.Nodes.{Node}
-use Rattle.totem_node.specs.Outcomes.{Outcome}
-use Rattle.totem_node.specs.Replay.{Answer}
-use Rattle.totem_node.specs.Table.{step}
+use Rattle.totem_core.specs.declared.input.Input.{Input}
+use Rattle.totem_core.specs.Nodes.{Node}
+use Rattle.totem_core.specs.Outcomes.{Outcome}
+use Rattle.totem_core.specs.Replay.{Answer}
+use Rattle.totem_core.specs.Table.{step}
 use Rattle.totem_books.specs.Replies.{entries_of}
 use Rattle.totem_books.specs.Calls.{Called, Receipt}
 use Rattle.totem_books.specs.Replay.{answer_to, node_behind}

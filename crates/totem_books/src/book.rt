@@ -13,9 +13,9 @@ use crate::reply::Reply;
 use std::alloc::{AllocError, Global};
 use std::marker::Model;
 use std::sync::Arc;
+use totem_core::{Input, NodeCore};
 use totem_evs::{Entry, Members};
-use totem_ids::{Proc, RingId};
-use totem_node::{Input, NodeCore};
+use totem_names::{Proc, RingId};
 
 /// The number of calls, or of entries, at which a book is full.
 const MOST: usize = 1_000_000;

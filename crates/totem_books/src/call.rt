@@ -5,7 +5,7 @@ use crate::comparing::Same;
 use crate::reply::Reply;
 use std::alloc::{AllocError, Global};
 use std::marker::Model;
-use totem_node::Input;
+use totem_core::Input;
 
 /// An input and the node's answer to it.
 #[derive(Debug, Drop)]

@@ -6,7 +6,7 @@ ghost use Rattle.totem_evs.specs.Members.{IsMembers};
 use crate::call::Call;
 use std::marker::Model;
 use totem_evs::{Entry, Members};
-use totem_ids::{Proc, RingId};
+use totem_names::{Proc, RingId};
 
 /// A book that takes no more calls. Its log and the stored replies are the replay of the stored inputs.
 #[derive(Debug, Drop)]

@@ -8,8 +8,8 @@ use crate::call::{Call, Stub};
 use crate::reply::Reply;
 use crate::stepping::stepped;
 use std::alloc::{AllocError, Global};
+use totem_core::{Input, NodeCore};
 use totem_evs::Entry;
-use totem_node::{Input, NodeCore};
 
 /// Returns the receipt of the call at this place.
 fn receipt_of(alloc: Global, place: u64, input: &Input, reply: &Reply) -> Result<Stub, AllocError>

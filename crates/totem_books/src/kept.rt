@@ -13,8 +13,8 @@ use crate::reply::Reply;
 use std::alloc::Global;
 use std::sync::ledger;
 use std::sync::ledger::Share;
+use totem_core::Input;
 use totem_journal::{Journal, Pen};
-use totem_node::Input;
 
 /// The book of this name, the total of the ledger, which is the number of the book's calls, and the journal, which
 /// has the receipt of each call.

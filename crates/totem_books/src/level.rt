@@ -1,13 +1,13 @@
 //! A node with a copy that takes each input first.
 ghost use Rattle.std.specs.Prelude.{◌≡◌, IfOk, IfSome};
-ghost use Rattle.totem_node.specs.Table.{step};
+ghost use Rattle.totem_core.specs.Table.{step};
 ghost use Rattle.totem_books.specs.Replay.{node_behind};
 
 use crate::stepping::stepped;
 use std::alloc::{AllocError, Global};
 use std::marker::Model;
 use std::mem;
-use totem_node::{Input, NodeCore};
+use totem_core::{Input, NodeCore};
 
 /// A node with a copy that takes each input first. The copy then takes the node's place, and the node catches up by
 /// taking the same input. So an input takes two steps, and the node is copied only the first time, and again after
@@ -20,7 +20,7 @@ pub struct Level {
 
 impl Model for Level {
     ghost use Rattle.std.specs.Prelude.{◌≡◌, IfSome};
-    ghost use Rattle.totem_node.specs.Nodes.{Node};
+    ghost use Rattle.totem_core.specs.Nodes.{Node};
 
     ghost Value = { Node };
 

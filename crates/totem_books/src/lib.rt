@@ -5,7 +5,7 @@
 //!   `receipt`, specs/History); at a fault nothing changes.
 //! - `SharedBook::call` answers as the node does after a list of calls that begins with all that this seat had seen (`IsAnswered`,
 //!   specs/Journals). While nobody has the lock, node and log are the replay of the calls.
-//! - `SharedBook::close` returns the book with exactly the calls whose receipts the seats have (`Agree`, `Covers`, specs/Receipts),
+//! - `close` returns the book with exactly the calls whose receipts the seats have (`Agree`, `Covers`, specs/Receipts),
 //!   each after those that its seat had seen.
 //! - The log of a `ClosedBook` is the replay of its calls (`IsRecorded`, specs/Replay).
 //!
@@ -16,9 +16,9 @@ mod blank;
 mod book;
 mod book_fault;
 mod call;
-mod close;
 mod close_fault;
 mod closed;
+mod closing;
 mod comparing;
 mod giving;
 mod kept;
@@ -37,9 +37,9 @@ pub use blank::Blank;
 pub use book::Book;
 pub use book_fault::BookFault;
 pub use call::{Call, Stub};
-pub use close::CloseRefused;
 pub use close_fault::CloseFault;
 pub use closed::ClosedBook;
+pub use closing::{CloseRefused, close};
 pub use name::BookName;
 pub use reply::Reply;
 pub use seat::Seat;

@@ -6,7 +6,7 @@ use std::sync::ledger::Ledger;
 /// function that is generic over it is called at `Brand`.
 pub trait BookName: Ledger {
     ghost use Rattle.std.specs.Prelude.{ℕ, List};
-    ghost use Rattle.totem_ids.specs.Names.{RingName};
+    ghost use Rattle.totem_names.specs.Names.{RingName};
 
     ghost journal: { ℕ };
 

@@ -3,9 +3,9 @@ ghost use Rattle.std.specs.Prelude.{◌≡◌, ◌↔◌, IsTrue, IfOk};
 
 use crate::comparing::{Same, same_items};
 use std::alloc::{AllocError, Global};
+use totem_core::{NodeFault, StepOut};
 use totem_evs::Entry;
-use totem_ids::{are_same, copied};
-use totem_node::{NodeFault, StepOut};
+use totem_names::{are_same, copied};
 
 /// A node's answer to an input: the result of its step, or why the step was refused.
 #[derive(Debug, Drop)]

@@ -16,8 +16,8 @@ use std::alloc::{AllocError, Global};
 use std::marker::PhantomData;
 use std::sync::ledger::Ledger;
 use std::sync::{Mutex, Wait};
-use totem_ids::{Proc, RingId};
-use totem_node::Input;
+use totem_core::Input;
+use totem_names::{Proc, RingId};
 
 /// The number of a book's seats: one for each part of its ledger.
 #[derive(Drop)]

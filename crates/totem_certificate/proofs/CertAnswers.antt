@@ -2,13 +2,13 @@
 use Rattle.std.proofs.Common.{◌≡◌, ℕ, List, [], ◌++◌, Ok, Err, refl, sym, ◌∙◌, subst}
 use Rattle.std.proofs.lemmas.List.{append-nil}
 use Rattle.std.specs.Io.KnownBytes.{Consumes}
-use Rattle.totem_ids.specs.declared.version.Version.{Version}
-use Rattle.totem_ids.specs.declared.fault.ReadError.{ReadError}
-use Rattle.totem_ids.specs.declared.fault.ReadError.TheVariants as errors
-use Rattle.totem_ids.specs.declared.fault.TextFault.TheVariants as text
-use Rattle.totem_ids.specs.Sources.{Seen, Parsed, Comes, Reads, ◌>>=◌}
-use Rattle.totem_ids.specs.Numbers.{word_at}
-use Rattle.totem_ids.proofs.Readers.{begins, called, failed, breaks_at}
+use Rattle.totem_names.specs.declared.version.Version.{Version}
+use Rattle.totem_names.specs.declared.fault.ReadError.{ReadError}
+use Rattle.totem_names.specs.declared.fault.ReadError.TheVariants as errors
+use Rattle.totem_names.specs.declared.fault.TextFault.TheVariants as text
+use Rattle.totem_names.specs.Sources.{Seen, Parsed, Comes, Reads, ◌>>=◌}
+use Rattle.totem_names.specs.Numbers.{word_at}
+use Rattle.totem_names.proofs.Readers.{begins, called, failed, breaks_at}
 use Rattle.totem_evs.specs.Certificates.{Numbering}
 use Rattle.totem_certificate.specs.CertRecord.{CertRecord}
 use Rattle.totem_certificate.specs.CertText.{cert_text}

@@ -4,12 +4,12 @@ use Rattle.std.proofs.Common.{◌≡◌, ℕ, zero, suc, ◌<◌, inl, inr, List
 use Rattle.std.proofs.lemmas.Bool.{eqb-true}
 use Rattle.std.proofs.lemmas.Bool.Decides.{nat_tests}
 use Rattle.std.proofs.lemmas.List.{append-nil}
-use Rattle.totem_ids.specs.declared.version.Version.{Version}
-use Rattle.totem_ids.specs.declared.fault.TextFault.{TextFault}
-use Rattle.totem_ids.specs.declared.fault.TextFault.TheVariants as faults
-use Rattle.totem_ids.specs.Sources.{Parsed, Follows, FirstBreak, is_short, ◌>>=◌}
-use Rattle.totem_ids.specs.Numbers.{number_at}
-use Rattle.totem_ids.proofs.Spelled.{number_is}
+use Rattle.totem_names.specs.declared.version.Version.{Version}
+use Rattle.totem_names.specs.declared.fault.TextFault.{TextFault}
+use Rattle.totem_names.specs.declared.fault.TextFault.TheVariants as faults
+use Rattle.totem_names.specs.Sources.{Parsed, Follows, FirstBreak, is_short, ◌>>=◌}
+use Rattle.totem_names.specs.Numbers.{number_at}
+use Rattle.totem_names.proofs.Spelled.{number_is}
 use Rattle.totem_evs.specs.Certificates.{Numbering}
 use Rattle.totem_evs.specs.Heads.{records_at, head_at, by_head, header_at}
 use Rattle.totem_evs.proofs.GoesOn.{Cut, Splits, ok_cut, fault_cut, test_cut, bind_cut, last_cut, number_cut}

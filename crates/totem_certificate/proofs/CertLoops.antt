@@ -1,11 +1,11 @@
 -- Readers of lists: what was read before, and what is still read.
 use Rattle.std.specs.Prelude.{◌==◌}
 use Rattle.std.proofs.Common.{◌≡◌, ℕ, suc, List, [], ◌∷◌, ◌++◌, Bool, true, false, cond, Option, Some, None, Ok, Err, refl, ap}
-use Rattle.totem_ids.specs.declared.fault.TextFault.TheVariants as faults
-use Rattle.totem_ids.specs.declared.version.Version.{Version}
-use Rattle.totem_ids.specs.Sources.{Seen, Parsed, Comes, ◌>>=◌}
-use Rattle.totem_ids.specs.Numbers.{number_at}
-use Rattle.totem_ids.proofs.Readers.{gives, same_left}
+use Rattle.totem_names.specs.declared.fault.TextFault.TheVariants as faults
+use Rattle.totem_names.specs.declared.version.Version.{Version}
+use Rattle.totem_names.specs.Sources.{Seen, Parsed, Comes, ◌>>=◌}
+use Rattle.totem_names.specs.Numbers.{number_at}
+use Rattle.totem_names.proofs.Readers.{gives, same_left}
 use Rattle.totem_evs.specs.Certificates.{Numbering}
 use Rattle.totem_evs.specs.Heads.{head_at, by_head}
 use Rattle.totem_evs.proofs.RunLoops.{one_more, none_before, with_records, records_step, records_none}

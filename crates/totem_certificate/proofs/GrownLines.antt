@@ -3,7 +3,7 @@ use Rattle.std.specs.Prelude.{All, AllPairs}
 use Rattle.std.proofs.Common.{ℕ, ◌<◌, ◌≤◌, List, [], ◌∷◌, ◌++◌, length, arith}
 use Rattle.std.proofs.lemmas.List.Quantifiers.{all_pairs_push}
 use Rattle.std.proofs.lemmas.List.Elements.{All-push}
-use Rattle.totem_ids.specs.declared.version.Version.{Version}
+use Rattle.totem_names.specs.declared.version.Version.{Version}
 use Rattle.totem_evs.specs.Certificates.{Numbering}
 use Rattle.totem_certificate.specs.Keeping.{IsNumber, IsNumbers, IsLineIn, IsBelowLine, IsCertificateIn}
 

@@ -2,7 +2,7 @@
 use Rattle.std.specs.List.{AllByRecursion}
 use Rattle.std.proofs.Common.{ℕ, ◌<◌, ◌≤◌, List, ◌∷◌, length, arith}
 use Rattle.std.proofs.lemmas.List.Elements.{All-from_recursion, recursion_from_All}
-use Rattle.totem_ids.specs.declared.version.Version.{Version}
+use Rattle.totem_names.specs.declared.version.Version.{Version}
 use Rattle.totem_evs.specs.Certificates.{Numbering}
 use Rattle.totem_evs.proofs.FromLeft.{rank_above}
 use Rattle.totem_evs.proofs.RisingRecords.{RecordsRise, RecordsFrom, rise_each, rise_pairs, rise_from_none, RiseLoosely, LooselyFrom, rise_loosely, loosely_pairs, loosely_each}

@@ -1,10 +1,10 @@
 -- The result of a certificate's grammar doesn't change with what follows.
 use Rattle.std.proofs.Common.{◌≡◌, ℕ, zero, suc, List, [], false, Err, refl}
-use Rattle.totem_ids.specs.declared.fault.TextFault.{TextFault}
-use Rattle.totem_ids.specs.declared.fault.TextFault.TheVariants as faults
-use Rattle.totem_ids.specs.Sources.{Steady, FirstBreak, is_short}
-use Rattle.totem_ids.specs.Numbers.{word_at}
-use Rattle.totem_ids.proofs.Steady.{gives_steady, fault_steady, bind_steady, cond_steady, number_steady, first_break}
+use Rattle.totem_names.specs.declared.fault.TextFault.{TextFault}
+use Rattle.totem_names.specs.declared.fault.TextFault.TheVariants as faults
+use Rattle.totem_names.specs.Sources.{Steady, FirstBreak, is_short}
+use Rattle.totem_names.specs.Numbers.{word_at}
+use Rattle.totem_names.proofs.Steady.{gives_steady, fault_steady, bind_steady, cond_steady, number_steady, first_break}
 use Rattle.totem_evs.specs.Heads.{header_at}
 use Rattle.totem_evs.proofs.SteadyRun.{records_steady, header_steady}
 use Rattle.totem_certificate.specs.CertGrammar.{cert_words, numbers_at, numbering, cert_at}

@@ -1,9 +1,9 @@
 -- Lines that a text of one version can write, and lines of any lives.
 use Rattle.std.proofs.Common.{◌≡◌, List, true, false}
 use Rattle.std.specs.Prelude.{All}
-use Rattle.totem_ids.specs.declared.version.Version.{Version}
-use Rattle.totem_ids.specs.declared.version.Version.TheVariants.{One, Two, Three}
-use Rattle.totem_ids.specs.Processes.{writes_lives}
+use Rattle.totem_names.specs.declared.version.Version.{Version}
+use Rattle.totem_names.specs.declared.version.Version.TheVariants.{One, Two, Three}
+use Rattle.totem_names.specs.Processes.{writes_lives}
 use Rattle.totem_evs.specs.Certificates.{Numbering}
 use Rattle.totem_certificate.specs.CertLives.{HasFirstLife, IsFirstVersion}
 use Rattle.totem_certificate.specs.CertRecord.{CertRecord}

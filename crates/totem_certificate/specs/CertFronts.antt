@@ -1,6 +1,6 @@
 -- Bytes with which the text of a certificate begins (docs/SPECIFICATIONS.md, "Certificate text").
 use Rattle.std.specs.Prelude.{◌≡◌, ℕ, ◌≤◌, List, [], ◌∷◌, ◌++◌, length, All, AllPairs}
-use Rattle.totem_ids.specs.declared.version.Version.{Version}
+use Rattle.totem_names.specs.declared.version.Version.{Version}
 use Rattle.totem_evs.specs.Certificates.{Numbering}
 use Rattle.totem_evs.specs.TextFronts.{but_last}
 use Rattle.totem_certificate.specs.CertRecord.{CertRecord}

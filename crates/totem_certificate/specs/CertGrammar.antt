@@ -1,10 +1,10 @@
 -- The grammar of a certificate's text, from left to right, with the fault of the first byte that breaks a rule
 -- (docs/SPECIFICATIONS.md, "Certificate text").
 use Rattle.std.specs.Prelude.{ℕ, zero, suc, List, [], ◌∷◌, codes, Ok, Err, false, ◌==◌, if◌then◌else◌}
-use Rattle.totem_ids.specs.declared.fault.TextFault.TheVariants as faults
-use Rattle.totem_ids.specs.Sources.{Parsed, ◌>>=◌}
-use Rattle.totem_ids.specs.Numbers.{number_at}
-use Rattle.totem_ids.specs.declared.version.Version.{Version}
+use Rattle.totem_names.specs.declared.fault.TextFault.TheVariants as faults
+use Rattle.totem_names.specs.Sources.{Parsed, ◌>>=◌}
+use Rattle.totem_names.specs.Numbers.{number_at}
+use Rattle.totem_names.specs.declared.version.Version.{Version}
 use Rattle.totem_evs.specs.Certificates.{Numbering}
 use Rattle.totem_evs.specs.Heads.{Words, records_at, header_at}
 use Rattle.totem_certificate.specs.CertRecord.{CertRecord}

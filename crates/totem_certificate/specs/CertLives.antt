@@ -1,13 +1,13 @@
 -- Which lines a text without lives can write (docs/SPECIFICATIONS.md, "Certificates").
 use Rattle.std.specs.Prelude.{◌≡◌, ℕ, List, All, slice_get, take, Some, false}
-use Rattle.totem_ids.specs.declared.version.Version.{Version}
-use Rattle.totem_ids.specs.declared.version.Version.TheVariants.{One, Two, Three}
-use Rattle.totem_ids.specs.Ranks.{life_of}
-use Rattle.totem_ids.specs.Processes.{writes_lives}
-use Rattle.totem_ids.specs.declared.refused.ListFault.{ListFault}
-use Rattle.totem_ids.specs.declared.refused.ListFault.TheVariants.{Empty, TooMany, NotRising, Life, Silence}
+use Rattle.totem_names.specs.declared.version.Version.{Version}
+use Rattle.totem_names.specs.declared.version.Version.TheVariants.{One, Two, Three}
+use Rattle.totem_names.specs.Ranks.{life_of}
+use Rattle.totem_names.specs.Processes.{writes_lives}
+use Rattle.totem_names.specs.declared.refused.ListFault.{ListFault}
+use Rattle.totem_names.specs.declared.refused.ListFault.TheVariants.{Empty, TooMany, NotRising, Life, Silence}
 use Rattle.totem_evs.specs.Certificates.{Numbering}
-use Rattle.totem_ids.specs.Lists.{Refuses}
+use Rattle.totem_names.specs.Lists.{Refuses}
 use Rattle.totem_certificate.specs.Keeping.{IsBelowLine, IsCertificate}
 
 -- the process of a line has life 1

@@ -1,9 +1,9 @@
 -- Where each fault of a certificate's text is (docs/SPECIFICATIONS.md, "Certificate text").
 use Rattle.std.specs.Prelude.{◌≡◌, ℕ, ◌<◌, ◌==◌, ◌⊎◌, List, [], ◌∷◌, ◌++◌, length, codes, All, Some, true, false, Ok, Err}
 use Rattle.std.specs.List.{flat_map}
-use Rattle.totem_ids.specs.declared.fault.TextFault.{TextFault}
-use Rattle.totem_ids.specs.declared.version.Version.{Version}
-use Rattle.totem_ids.specs.Processes.{process_text, IsProcessIn}
+use Rattle.totem_names.specs.declared.fault.TextFault.{TextFault}
+use Rattle.totem_names.specs.declared.version.Version.{Version}
+use Rattle.totem_names.specs.Processes.{process_text, IsProcessIn}
 use Rattle.totem_evs.specs.Certificates.{Numbering}
 use Rattle.totem_evs.specs.Heads.{head_at}
 use Rattle.totem_evs.specs.HeadFaults.{BreaksFirstLine, BeginsBelow}

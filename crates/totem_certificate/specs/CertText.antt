@@ -3,8 +3,8 @@
 use Rattle.std.specs.Prelude.{ℕ, List, [], ◌∷◌, ◌++◌, codes, decimal}
 use Rattle.std.specs.List.{flat_map}
 use Rattle.totem_evs.specs.Certificates.{Numbering}
-use Rattle.totem_ids.specs.declared.version.Version.{Version}
-use Rattle.totem_ids.specs.Processes.{process_text}
+use Rattle.totem_names.specs.declared.version.Version.{Version}
+use Rattle.totem_names.specs.Processes.{process_text}
 use Rattle.totem_evs.specs.RunText.{line, version_digit}
 use Rattle.totem_certificate.specs.CertRecord.{CertRecord}
 

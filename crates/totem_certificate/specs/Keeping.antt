@@ -1,10 +1,10 @@
 -- The rules that a certificate keeps, and what is wrong with numbers that a line can't hold (docs/SPECIFICATIONS.md,
 -- "Certificates").
 use Rattle.std.specs.Prelude.{◌≡◌, ℕ, ◌<◌, ◌≤◌, List, [], length, take, slice_get, Some, All, AllPairs}
-use Rattle.totem_ids.specs.declared.version.Version.{Version}
-use Rattle.totem_ids.specs.declared.version.Version.TheVariants.{One, Two, Three}
-use Rattle.totem_ids.specs.Processes.{IsProcessIn}
-use Rattle.totem_ids.specs.Texts.{IsUpTo}
+use Rattle.totem_names.specs.declared.version.Version.{Version}
+use Rattle.totem_names.specs.declared.version.Version.TheVariants.{One, Two, Three}
+use Rattle.totem_names.specs.Processes.{IsProcessIn}
+use Rattle.totem_names.specs.Texts.{IsUpTo}
 use Rattle.totem_evs.specs.Certificates.{Numbering}
 use Rattle.totem_certificate.specs.CertRecord.{CertRecord}
 use Rattle.totem_certificate.specs.declared.numbers.NumbersFault.{NumbersFault}

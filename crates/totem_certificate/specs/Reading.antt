@@ -1,8 +1,8 @@
 -- What the reader of certificates returns, and what it leaves unread (docs/SPECIFICATIONS.md, "Certificate text").
 use Rattle.std.specs.Prelude.{◌≡◌, Result, Ok, Err}
 use Rattle.std.specs.Io.KnownBytes.{Consumes}
-use Rattle.totem_ids.specs.declared.fault.TextFault.TheVariants as text
-use Rattle.totem_ids.specs.Sources.{Seen, Comes, Breaks, BreaksAt, Stops}
+use Rattle.totem_names.specs.declared.fault.TextFault.TheVariants as text
+use Rattle.totem_names.specs.Sources.{Seen, Comes, Breaks, BreaksAt, Stops}
 use Rattle.totem_certificate.specs.CertRecord.{CertRecord}
 use Rattle.totem_certificate.specs.declared.certificate.Certificate.{Certificate}
 use Rattle.totem_certificate.specs.declared.cert_fault.CertFault.{CertFault}

@@ -3,7 +3,7 @@ ghost use Rattle.std.specs.Prelude.{◌≡◌};
 ghost use Rattle.totem_certificate.specs.CertFaults.{fault_number, fault_name, cert_fault};
 
 use thiserror::Error;
-use totem_ids::{ReadError, TextFault};
+use totem_names::{ReadError, TextFault};
 
 /// Why a certificate could not be read (docs/SPECIFICATIONS.md, "Certificate text").
 #[derive(Clone, Copy, Debug, PartialEq, Eq, Error)]

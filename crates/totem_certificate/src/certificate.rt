@@ -1,5 +1,5 @@
 ghost use Rattle.std.specs.Prelude.{◌≡◌, ◌↔◌, IsTrue, IfOk, MatchResult};
-ghost use Rattle.totem_ids.specs.Lists.{Refuses};
+ghost use Rattle.totem_names.specs.Lists.{Refuses};
 ghost use Rattle.totem_certificate.specs.CertLives.{RefusesCertificate, IsFirstVersion};
 ghost use Rattle.totem_certificate.specs.Keeping.{IsBelowLine, IsCertificate, IsCertificateIn, IsOfText};
 
@@ -9,7 +9,7 @@ use crate::lives::{first_unwritten, first_version};
 use std::alloc::{AllocError, Global};
 use std::marker::Model;
 use totem_evs::{ListFault, Refused};
-use totem_ids::Version;
+use totem_names::Version;
 
 /// Numbers for the events of a run, with a line for each log, and the version of its text, 1 or 2. Version 1 writes no
 /// lives, so in it each process has life 1. A certificate does not know which runs it certifies.

@@ -10,7 +10,7 @@
 //! - Spelling and grammar fit, and a fault is that of the first byte after which no text goes on: the laws `read_is_spelled`,
 //!   `spelled_is_read`, `no_text_begins_another`, `fault_byte_is_first`, `faults_are_its_own`.
 //!
-//! Whether a certificate certifies a run is not known here: totem_evs defines it, totem_judge_certificate decides it, totem_order
+//! Whether a certificate certifies a run is not known here: totem_evs defines it, totem_judge_certificate decides it, totem_cert
 //! finds one.
 #![tactic(auto)]
 
@@ -34,7 +34,9 @@ pub use numbers::{Numbers, NumbersFault, RefusedNumbers};
 pub use open_line::OpenLine;
 pub use reading::read_cert;
 pub use text_laws::{
-    a_fault_is_no_text, cut_text_goes_on, fault_byte_is_first, fault_is_first, faults_are_its_own,
-    no_text_begins_another, read_is_spelled, spelled_is_read,
+    a_fault_is_no_text, a_fault_is_of_a_line, cut_text_goes_on, fault_byte_is_first,
+    fault_is_first, faults_are_its_own, header_is_in_the_first_line, no_text_begins_another,
+    number_is_of_a_number, order_is_of_a_line_that_does_not_rise, read_is_spelled, spelled_is_read,
+    too_many_is_past_a_limit, word_is_the_rest,
 };
 pub use writing::{put_cert, write_cert};

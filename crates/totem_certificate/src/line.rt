@@ -4,7 +4,7 @@ ghost use Rattle.totem_certificate.specs.Keeping.{IsLine};
 use crate::numbers::Numbers;
 use std::alloc::{AllocError, Global};
 use std::marker::Model;
-use totem_ids::{Keyed, Listed, Proc, Version, life_fits};
+use totem_names::{Keyed, Listed, Proc, Version, life_fits};
 
 /// A line of a certificate: a process, and a number for each entry of its log.
 #[derive(Debug, Drop)]

@@ -1,11 +1,11 @@
 ghost use Rattle.std.specs.Prelude.{◌≡◌, ◌↔◌, IsTrue, IfOk, MatchResult};
-ghost use Rattle.totem_ids.specs.Lists.{Refuses};
+ghost use Rattle.totem_names.specs.Lists.{Refuses};
 ghost use Rattle.totem_certificate.specs.Keeping.{IsBelowLine, IsCertificate};
 
 use crate::line::Line;
 use std::alloc::{AllocError, Global};
 use std::marker::Model;
-use totem_ids::{Refused, are_same, copied, rising};
+use totem_names::{Refused, are_same, copied, rising};
 
 /// How many lines a certificate may have at most.
 const MOST: usize = 32;

@@ -4,7 +4,7 @@ ghost use Rattle.totem_certificate.specs.CertLives.{HasFirstLife, IsFirstVersion
 ghost use Rattle.totem_certificate.specs.Keeping.{IsCertificate, IsCertificateIn};
 
 use crate::line::Line;
-use totem_ids::Version;
+use totem_names::Version;
 
 fn has_first_life(line: &Line) -> bool
     ensures { IsTrue result ↔ HasFirstLife line.now }

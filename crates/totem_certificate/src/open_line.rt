@@ -5,7 +5,7 @@ use crate::line::Line;
 use crate::numbers::Numbers;
 use std::alloc::{AllocError, Global};
 use std::marker::Model;
-use totem_ids::Proc;
+use totem_names::Proc;
 
 /// A line of a certificate that is not complete yet: the numbers of a log's entries so far.
 #[derive(Drop)]

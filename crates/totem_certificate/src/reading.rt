@@ -1,6 +1,6 @@
 //! The reader of certificates (docs/SPECIFICATIONS.md, "Certificate text"). What its text shares with that of a run is read by
 //! totem_evs `heads`.
-ghost use Rattle.totem_ids.specs.Sources.{Reads, seen};
+ghost use Rattle.totem_names.specs.Sources.{Reads, seen};
 ghost use Rattle.totem_certificate.specs.CertGrammar.{numbers_at, lines_at, cert_at};
 ghost use Rattle.totem_certificate.specs.Reading.{ReadsCert};
 
@@ -12,7 +12,7 @@ use crate::lines::Lines;
 use crate::numbers::Numbers;
 use std::alloc::Global;
 use totem_evs::{read_head, read_header};
-use totem_ids::{ReadError, Source, TextFault, Version, number};
+use totem_names::{ReadError, Source, TextFault, Version, number};
 
 // Reads numbers up to the end of the line.
 fn read_numbers<S: Source>(alloc: Global, source: &mut S) -> Result<Numbers, ReadError>

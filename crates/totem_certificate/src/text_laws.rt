@@ -1,8 +1,8 @@
 //! Laws of the text of certificates, each the contract of a function that does nothing.
 ghost use Rattle.std.specs.Prelude.{◌≡◌, ◌≢◌, ◌↔◌, ℕ, List, ◌++◌, Ok, Err, false};
-ghost use Rattle.totem_ids.specs.declared.fault.TextFault.{TextFault};
-ghost use Rattle.totem_ids.specs.declared.fault.TextFault.TheVariants.{Header, Word, Number, Order, Truncated, TooMany};
-ghost use Rattle.totem_ids.specs.Sources.{FirstBreak, is_short};
+ghost use Rattle.totem_names.specs.declared.fault.TextFault.{TextFault};
+ghost use Rattle.totem_names.specs.declared.fault.TextFault.TheVariants.{Header, Word, Number, Order, Truncated, TooMany};
+ghost use Rattle.totem_names.specs.Sources.{FirstBreak, is_short};
 ghost use Rattle.totem_evs.specs.TextFaults.{BreaksNumber};
 ghost use Rattle.totem_certificate.specs.CertRecord.{CertRecord};
 ghost use Rattle.totem_certificate.specs.CertGrammar.{cert_at};

@@ -1,8 +1,8 @@
 //! Writes the text of a certificate.
 ghost use Rattle.std.specs.Prelude.{◌≤◌, [], length};
 ghost use Rattle.std.specs.List.{flat_map};
-ghost use Rattle.totem_ids.specs.Processes.{process_text};
-ghost use Rattle.totem_ids.specs.Writing.{Writes, held};
+ghost use Rattle.totem_names.specs.Processes.{process_text};
+ghost use Rattle.totem_names.specs.Writing.{Writes, held};
 ghost use Rattle.totem_evs.specs.WriteRun.{WritesText};
 ghost use Rattle.totem_certificate.specs.CertText.{numbers_text, line_text, cert_text};
 
@@ -11,7 +11,7 @@ use crate::form::CertText;
 use crate::line::Line;
 use std::alloc::Global;
 use totem_evs::{WriteFault, put_header};
-use totem_ids::{Failed, Pieces, Sink, Version, write_number};
+use totem_names::{Failed, Pieces, Sink, Version, write_number};
 
 /// How many numbers are put at once.
 const FEW: usize = 64;
@@ -48,7 +48,7 @@ fn put_numbers<S: Sink>(pieces: &mut Pieces, sink: &mut S, numbers: &[u32]) -> R
     Ok(())
 }
 
-#[tactic(auto, using(totem_ids::proofs::Writers::wrote_then, totem_ids::proofs::Writers::wrote_failed))]
+#[tactic(auto, using(totem_names::proofs::Writers::wrote_then, totem_names::proofs::Writers::wrote_failed))]
 fn put_line<S: Sink>(
     pieces: &mut Pieces,
     sink: &mut S,
@@ -80,7 +80,7 @@ fn put_lines<S: Sink>(
 }
 
 /// Gathers the text of a certificate.
-#[tactic(auto, using(totem_ids::proofs::Writers::wrote_then, totem_ids::proofs::Writers::wrote_failed))]
+#[tactic(auto, using(totem_names::proofs::Writers::wrote_then, totem_names::proofs::Writers::wrote_failed))]
 pub fn put_cert<S: Sink>(
     pieces: &mut Pieces,
     sink: &mut S,

@@ -3,7 +3,7 @@
 //! What a yes depends on: `certified` of totem_judge_certificate, which compares the certificate with the logs (1.1 and 6.1); `observe` of
 //! totem_judge, which gathers the traffic of each configuration along the certificate and compares it with the logs (1.3); and the
 //! rules of totem_judge_run and totem_judge_traffic, for the other specifications. All of them use the definitions of runs and
-//! certificates in totem_ids, totem_evs and totem_certificate. totem_verdicts reads the two texts and prints the answer.
+//! certificates in totem_names, totem_evs and totem_certificate. totem_verdicts reads the two texts and prints the answer.
 //!
 //! If a rule says no, the passes (totem_pass_ab and totem_pass_d, with totem_table) search for what is broken. If they found nothing, the
 //! answer would be yes all the same, and would depend on them, too; but no such run is known.

@@ -2,26 +2,21 @@
 use Rattle.std.proofs.Common.{◌≡◌, codes, refl}
 use Rattle.totem_evs.specs.RunText.{line}
 use Rattle.totem_script.specs.declared.script_fault.ScriptFault.{ScriptFault}
-use Rattle.totem_script.specs.declared.script_fault.ScriptFaultKind.{ScriptFaultKind}
-use Rattle.totem_script.specs.declared.script_fault.ScriptFaultKind.TheVariants as script_faults
+use Rattle.totem_script.specs.declared.script_fault.ScriptFault.TheVariants as script_faults
 use Rattle.totem_script.specs.ScriptFaults.{fault_number as script_fault_number, fault_name as script_fault_name}
 use Rattle.totem_verdicts.specs.Endings.{refusal_text}
-use Rattle.totem_cluster.specs.Endings.{script_line, script_line_of}
+use Rattle.totem_cluster.specs.Endings.{script_line}
 
-pub script_not_read : (fault : ScriptFault) → (fault.kind ≡ script_faults.Read → ⊥)
-    → line (refusal_text (codes "totem: script refused: ") (script_fault_number fault.kind) (script_fault_name fault.kind)) ≡ script_line fault
-script_not_read fault no_read = of_kind fault.kind no_read
-  where
-    of_kind : (kind : ScriptFaultKind) → (kind ≡ script_faults.Read → ⊥)
-        → line (refusal_text (codes "totem: script refused: ") (script_fault_number kind) (script_fault_name kind)) ≡ script_line_of kind
-    of_kind script_faults.Header no_read = refl
-    of_kind script_faults.Word no_read = refl
-    of_kind script_faults.Number no_read = refl
-    of_kind script_faults.Order no_read = refl
-    of_kind script_faults.Members no_read = refl
-    of_kind script_faults.Place no_read = refl
-    of_kind script_faults.End no_read = refl
-    of_kind script_faults.Truncated no_read = refl
-    of_kind script_faults.TooMany no_read = refl
-    of_kind script_faults.Read no_read = absurd (no_read refl)
-    of_kind script_faults.Memory no_read = refl
+pub script_not_read : (fault : ScriptFault) → (fault ≡ script_faults.Read → ⊥)
+    → line (refusal_text (codes "totem: script refused: ") (script_fault_number fault) (script_fault_name fault)) ≡ script_line fault
+script_not_read script_faults.Header no_read = refl
+script_not_read script_faults.Word no_read = refl
+script_not_read script_faults.Number no_read = refl
+script_not_read script_faults.Order no_read = refl
+script_not_read script_faults.Members no_read = refl
+script_not_read script_faults.Place no_read = refl
+script_not_read script_faults.End no_read = refl
+script_not_read script_faults.Truncated no_read = refl
+script_not_read script_faults.TooMany no_read = refl
+script_not_read script_faults.Read no_read = absurd (no_read refl)
+script_not_read script_faults.Memory no_read = refl

@@ -1,18 +1,20 @@
 -- Reading a script: byte after byte, and no further than is looked at.
-use Rattle.std.proofs.Common.{◌≡◌, ℕ, zero, suc, ◌==◌, ◌≤◌, List, [], ◌∷◌, ◌++◌, length, take, cond, Bool, true, false, Option, None, Some, Ok, Err, IfSome, inl, refl, sym, ap, ◌∙◌, arith}
+use Rattle.std.proofs.Common.{◌≡◌, ◌≢◌, ◌⊎◌, ℕ, zero, suc, ◌==◌, ◌≤◌, List, [], ◌∷◌, ◌++◌, length, take, cond, Bool, true, false, Option, None, Some, Ok, Err, IfSome, inl, inr, refl, sym, ap, ◌∙◌, arith}
 use Rattle.std.specs.Io.KnownBytes.{Consumes, Keeps, IsAtEnd}
 use Rattle.std.proofs.lemmas.List.{take_all, append-nil}
 use Rattle.std.proofs.Math.Seq.{take-append_seam}
-use Rattle.totem_ids.specs.Sources.{Seen}
-use Rattle.totem_ids.specs.Writing.{Held}
+use Rattle.totem_names.specs.Sources.{Seen}
+use Rattle.totem_names.specs.Writing.{Held}
 use Rattle.totem_evs.specs.declared.run.Run.{Run}
 use Rattle.totem_script.specs.Lines.{longer_line, lines_of}
 use Rattle.totem_script.specs.Casts.{logs_in}
 use Rattle.totem_script.specs.Versions.{run_of}
-use Rattle.totem_script.specs.Simulation.{Told, and_then, all_played, simulate}
-use Rattle.totem_cluster.specs.SimIo.{most_read, IsRead, IsReading, MakesRun, Simulates}
-use Rattle.totem_cluster.specs.declared.io_fault.IoFault.{IoFault}
-use Rattle.totem_cluster.specs.declared.io_fault.IoFault.TheVariants as faults
+use Rattle.totem_script.specs.declared.script_fault.FaultyLine.{FaultyLine}
+use Rattle.totem_script.specs.declared.script_fault.ScriptFault.{ScriptFault}
+use Rattle.totem_script.specs.declared.script_fault.ScriptFault.TheVariants as script_faults
+use Rattle.totem_script.specs.Simulation.{Told, FailsAt, and_then, all_played, simulate}
+use Rattle.totem_cluster.specs.IoFaults.{script_io_fault}
+use Rattle.totem_cluster.specs.SimIo.{most_read, IsRead, BreaksOff, IsReading, IsBehind, IsNoScript, IsUnread, IsUnmade}
 
 -- ---- no further than is looked at
 
@@ -83,13 +85,36 @@ pub read_whole : (a b : Seen) (read : List ℕ) (failed : Bool) → IsReading fa
 read_whole a b read false is unfailed = is
 read_whole a b read true is unfailed = absurd cc
 
+-- the source failed
+pub read_short : (a b : Seen) (read : List ℕ) (failed : Bool) → IsReading failed a b read → failed ≡ true → BreaksOff a b read
+read_short a b read true is failed = is
+read_short a b read false is failed = absurd cc
+
+in_line : (a c : Seen) (was : Held) (kind : ScriptFault) (line : ℕ)
+    (why : kind ≢ script_faults.Memory → IsNoScript a c (record { kind = kind; line = line }) ⊎ IsUnread a c (record { kind = kind; line = line }))
+    → IsUnmade a c was was (script_io_fault kind) line
+in_line a c was script_faults.Header line why = (refl, why (λ e. cc))
+in_line a c was script_faults.Word line why = (refl, why (λ e. cc))
+in_line a c was script_faults.Number line why = (refl, why (λ e. cc))
+in_line a c was script_faults.Order line why = (refl, why (λ e. cc))
+in_line a c was script_faults.Members line why = (refl, why (λ e. cc))
+in_line a c was script_faults.Place line why = (refl, why (λ e. cc))
+in_line a c was script_faults.End line why = (refl, why (λ e. cc))
+in_line a c was script_faults.Truncated line why = (refl, why (λ e. cc))
+in_line a c was script_faults.TooMany line why = (refl, why (λ e. cc))
+in_line a c was script_faults.Read line why = (refl, why (λ e. cc))
+in_line a c was script_faults.Memory line why = refl
+
 -- the script makes no run
-pub no_run : (a c : Seen) (was : Held) (read : List ℕ) (fault : IoFault) → IsRead a c read → MakesRun (Err fault) read → Simulates a c was was (Err fault)
-no_run a c was read (faults.Script fault) whole made =
-    (refl, inl (record { read = read; is_read = whole; made = made; of_all = of_all a.remaining read (Err fault) whole.whole made }))
-no_run a c was read faults.Memory whole made = refl
-no_run a c was read (faults.Run fault) whole made = absurd made
-no_run a c was read (faults.Cert fault) whole made = absurd made
-no_run a c was read (faults.Refused fault) whole made = absurd made
-no_run a c was read (faults.Book trouble) whole made = absurd made
-no_run a c was read faults.Write whole made = absurd made
+pub no_run : (a c : Seen) (was : Held) (read : List ℕ) (fault : FaultyLine) → IsRead a c read → FailsAt fault (simulate read)
+    → IsUnmade a c was was (script_io_fault fault.kind) fault.line
+no_run a c was read fault whole fails =
+    in_line a c was fault.kind fault.line (λ other.
+    let made = fails.is other in
+    inl (record { read = read; is_read = whole; made = made; of_all = of_all a.remaining read (Err fault) whole.whole made }))
+
+-- its source failed before its end
+pub not_read : (a c : Seen) (was : Held) (read : List ℕ) (fault : FaultyLine) → BreaksOff a c read → IsBehind fault read
+    → IsUnmade a c was was (script_io_fault fault.kind) fault.line
+not_read a c was read fault breaks behind =
+    in_line a c was fault.kind fault.line (λ other. inr (record { read = read; breaks_off = breaks; fault_is = behind.is other }))

@@ -1,12 +1,11 @@
 -- How the program ends: its status, and what it prints (docs/SPECIFICATIONS.md, "The program").
 use Rattle.std.specs.Prelude.{◌≡◌, ℕ, List, ◌++◌, codes, Ok, Err}
 use Rattle.clap.specs.declared.error.kind.ErrorKind.{ErrorKind}
-use Rattle.totem_ids.specs.Sources.{Seen}
-use Rattle.totem_ids.specs.Writing.{Held}
+use Rattle.totem_names.specs.Sources.{Seen}
+use Rattle.totem_names.specs.Writing.{Held}
 use Rattle.totem_evs.specs.RunText.{line}
 use Rattle.totem_script.specs.declared.script_fault.ScriptFault.{ScriptFault}
-use Rattle.totem_script.specs.declared.script_fault.ScriptFaultKind.{ScriptFaultKind}
-use Rattle.totem_script.specs.declared.script_fault.ScriptFaultKind.TheVariants as script_faults
+use Rattle.totem_script.specs.declared.script_fault.ScriptFault.TheVariants as script_faults
 use Rattle.totem_script.specs.ScriptFaults.{fault_number as script_fault_number, fault_name as script_fault_name}
 use Rattle.totem_threads.specs.Faults.{trouble_number, trouble_name}
 use Rattle.totem_verdicts.specs.declared.outcome.Outcome.{Outcome}
@@ -20,12 +19,9 @@ use Rattle.totem_cluster.specs.WeaveIo.{WeavesRun, weave_status}
 
 -- ---- faults
 
-abbrev pub script_line_of : ScriptFaultKind → List ℕ
-script_line_of script_faults.Read = line (codes "totem: read failed")
-script_line_of kind = line (refusal_text (codes "totem: script refused: ") (script_fault_number kind) (script_fault_name kind))
-
 abbrev pub script_line : ScriptFault → List ℕ
-script_line fault = script_line_of fault.kind
+script_line script_faults.Read = line (codes "totem: read failed")
+script_line fault = line (refusal_text (codes "totem: script refused: ") (script_fault_number fault) (script_fault_name fault))
 
 -- the line that reports a fault
 abbrev pub fault_line : IoFault → List ℕ
@@ -37,16 +33,16 @@ fault_line (faults.Book trouble) = line (refusal_text (codes "totem: book refuse
 fault_line faults.Memory = memory_line
 fault_line faults.Write = write_line
 
-abbrev pub script_status : ScriptFaultKind → ℕ
+abbrev pub script_status : ScriptFault → ℕ
 script_status script_faults.Read = 4
-script_status kind = 2
+script_status fault = 2
 
 -- the status of a fault
 abbrev pub fault_status : IoFault → ℕ
 fault_status (faults.Run fault) = run_status fault
 fault_status (faults.Cert fault) = cert_status fault
 fault_status (faults.Refused fault) = 2
-fault_status (faults.Script fault) = script_status fault.kind
+fault_status (faults.Script fault) = script_status fault
 fault_status (faults.Book trouble) = 2
 fault_status faults.Memory = 3
 fault_status faults.Write = 4

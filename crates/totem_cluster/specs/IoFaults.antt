@@ -2,6 +2,8 @@
 use Rattle.std.specs.Prelude.{◌≡◌, ℕ, List, Result, Ok, Err, codes}
 use Rattle.totem_evs.specs.declared.writing.WriteFault.{WriteFault}
 use Rattle.totem_evs.specs.declared.writing.WriteFault.TheVariants as write_faults
+use Rattle.totem_script.specs.declared.script_fault.ScriptFault.{ScriptFault}
+use Rattle.totem_script.specs.declared.script_fault.ScriptFault.TheVariants as script_faults
 use Rattle.totem_threads.specs.declared.fault.ThreadsFault.{ThreadsFault}
 use Rattle.totem_threads.specs.declared.fault.ThreadsFault.TheVariants as threads_faults
 use Rattle.totem_verdicts.specs.declared.outcome.Outcome.{Outcome}
@@ -41,6 +43,11 @@ verdict_io_fault verdict_faults.Write = faults.Write
 abbrev pub write_io_fault : WriteFault → IoFault
 write_io_fault write_faults.Memory = faults.Memory
 write_io_fault write_faults.Write = faults.Write
+
+-- a fault of a script among all faults
+abbrev pub script_io_fault : ScriptFault → IoFault
+script_io_fault script_faults.Memory = faults.Memory
+script_io_fault fault = faults.Script fault
 
 -- a fault of a run in threads among all faults
 abbrev pub threads_io_fault : ThreadsFault → IoFault

@@ -1,7 +1,7 @@
 -- What a run in threads writes (docs/PROTOCOL.md, "A run in threads").
 use Rattle.std.specs.Prelude.{◌≡◌, ℕ, ◌+◌, ◌%◌, ◌^◌, List, All, Result, Ok, Err}
-use Rattle.totem_ids.specs.declared.version.Version.TheVariants as versions
-use Rattle.totem_ids.specs.Writing.{Held, Wrote}
+use Rattle.totem_names.specs.declared.version.Version.TheVariants as versions
+use Rattle.totem_names.specs.Writing.{Held, Wrote}
 use Rattle.totem_evs.specs.RunRecord.{RunRecord}
 use Rattle.totem_evs.specs.Runs.{IsRunOf as IsRunRecord}
 use Rattle.totem_evs.specs.Lives.{HasFirstLives}

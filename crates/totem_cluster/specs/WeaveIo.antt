@@ -1,11 +1,11 @@
 -- What is written of a woven ring (docs/PROTOCOL.md, "The woven ring").
 use Rattle.std.specs.Prelude.{◌≡◌, ℕ, ◌+◌, ◌%◌, ◌^◌, List, ◌++◌, length, slice_get, Some, codes, decimal, Result, Ok, Err}
 use Rattle.std.specs.List.{flat_map}
-use Rattle.totem_ids.specs.Names.{PlaceName}
-use Rattle.totem_ids.specs.Processes.{place_text}
-use Rattle.totem_ids.specs.Ranks.{id_of}
-use Rattle.totem_ids.specs.Texts.{message_text}
-use Rattle.totem_ids.specs.Writing.{Held, Wrote}
+use Rattle.totem_names.specs.Names.{PlaceName}
+use Rattle.totem_names.specs.Processes.{place_text}
+use Rattle.totem_names.specs.Ranks.{id_of}
+use Rattle.totem_names.specs.Texts.{message_text}
+use Rattle.totem_names.specs.Writing.{Held, Wrote}
 use Rattle.totem_packets.specs.declared.message.Message.{Message}
 use Rattle.totem_evs.specs.LogRecord.{LogRecord}
 use Rattle.totem_evs.specs.RunText.{line}

@@ -1,6 +1,7 @@
-ghost use Rattle.std.specs.Prelude.{◌≡◌};
-ghost use Rattle.totem_cluster.specs.IoFaults.{io_number, io_name, verdict_io_fault, write_io_fault, threads_io_fault};
+ghost use Rattle.std.specs.Prelude.{◌≡◌, IfOk};
+ghost use Rattle.totem_cluster.specs.IoFaults.{io_number, io_name, verdict_io_fault, write_io_fault, script_io_fault, threads_io_fault};
 
+use std::alloc::{AllocError, Global};
 use thiserror::Error;
 use totem_certificate::CertFault;
 use totem_check::CheckFault;
@@ -21,7 +22,7 @@ pub enum IoFault {
     /// The certificate does not certify the run. Never `CheckFault::Broken` or `CheckFault::Memory`.
     #[error("the certificate was refused: {0}")]
     Refused(CheckFault),
-    /// The script makes no run, or its source failed. Never `ScriptFaultKind::Memory`.
+    /// The script makes no run, or its source failed. Never `ScriptFault::Memory`.
     #[error("the script was refused: {0}")]
     Script(ScriptFault),
     /// A book of a run in threads was full, or its log too long. Always `BookTrouble::Call(BookFault::Long)`.
@@ -65,6 +66,20 @@ impl IoFault {
             IoFault::Write => "Write",
         }
     }
+
+    pub fn try_clone(&self, alloc: Global) -> Result<IoFault, AllocError>
+        ensures { IfOk result (λ f. f ≡ self.now) }
+    {
+        Ok(match self {
+            IoFault::Run(fault) => IoFault::Run(*fault),
+            IoFault::Cert(fault) => IoFault::Cert(*fault),
+            IoFault::Refused(fault) => IoFault::Refused(fault.try_clone(alloc)?),
+            IoFault::Script(fault) => IoFault::Script(*fault),
+            IoFault::Book(trouble) => IoFault::Book(*trouble),
+            IoFault::Memory => IoFault::Memory,
+            IoFault::Write => IoFault::Write,
+        })
+    }
 }
 
 impl From<VerdictFault> for IoFault {
@@ -88,6 +103,17 @@ impl From<WriteFault> for IoFault {
         match fault {
             WriteFault::Memory => IoFault::Memory,
             WriteFault::Write => IoFault::Write,
+        }
+    }
+}
+
+impl From<ScriptFault> for IoFault {
+    ghost from_gives = { λ f e. e ≡ script_io_fault f };
+
+    fn from(fault: ScriptFault) -> IoFault {
+        match fault {
+            ScriptFault::Memory => IoFault::Memory,
+            _ => IoFault::Script(fault),
         }
     }
 }

@@ -1,7 +1,7 @@
 //! Verdicts, with the faults of the whole program.
 ghost use Rattle.std.specs.Prelude.{[]};
-ghost use Rattle.totem_ids.specs.Sources.{seen};
-ghost use Rattle.totem_ids.specs.Writing.{held};
+ghost use Rattle.totem_names.specs.Sources.{seen};
+ghost use Rattle.totem_names.specs.Writing.{held};
 ghost use Rattle.totem_verdicts.specs.AuditIo.{Audits};
 ghost use Rattle.totem_verdicts.specs.CheckIo.{ChecksText};
 ghost use Rattle.totem_cluster.specs.IoFaults.{Gives};
@@ -11,7 +11,7 @@ use std::alloc::Global;
 use std::sync::Wait;
 use std::thread::Threads;
 use totem_audit::Workers;
-use totem_ids::{Sink, Source};
+use totem_names::{Sink, Source};
 use totem_verdicts::Outcome;
 
 /// Does the same as `totem_verdicts::audit_io`, but returns its fault as an `IoFault`.

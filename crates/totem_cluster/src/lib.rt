@@ -34,5 +34,5 @@ pub use totem_audit::Workers;
 pub use totem_net::{Logged, Progress};
 pub use totem_threads::{BookTrouble, RunPlan};
 pub use totem_verdicts::Outcome;
-pub use totem_weave::{WeaveFault, Woven, weave};
+pub use totem_weave::{RingMove, WeaveFault, Woven, weave};
 pub use weaving::{Weave, weave_io};

@@ -1,7 +1,7 @@
 //! Runs of nodes in threads.
 ghost use Rattle.std.specs.Prelude.{◌≡◌, [], All, IfOk, IfErr};
-ghost use Rattle.totem_ids.specs.Writing.{held};
-ghost use Rattle.totem_ids.specs.declared.version.Version.TheVariants.{One};
+ghost use Rattle.totem_names.specs.Writing.{held};
+ghost use Rattle.totem_names.specs.declared.version.Version.TheVariants.{One};
 ghost use Rattle.totem_evs.specs.Lives.{HasFirstLives};
 ghost use Rattle.totem_threads.specs.Starts.{IsInRange};
 ghost use Rattle.totem_threads.specs.Books.{IsRunOf};
@@ -13,7 +13,7 @@ use std::sync::Wait;
 use std::thread::Threads;
 use totem_books::ClosedBook;
 use totem_evs::{Run, write_run};
-use totem_ids::Sink;
+use totem_names::Sink;
 use totem_net::{Progress, Quiet, Start, Unwatched};
 use totem_threads::{RunPlan, run_nodes};
 use totem_verdicts::Outcome;

@@ -1,38 +1,35 @@
 //! The line at which a script is refused, and what is expected there (docs/PROTOCOL.md, "Scripts").
 use std::alloc::{AllocError, Global};
-use totem_script::{ScriptFault, ScriptFaultKind};
+use totem_script::ScriptFault;
 
 /// The greatest number of bytes of a line that are shown.
 const SHOWN: usize = 72;
 
 /// Returns what is expected where a script has this fault.
-fn wanted(kind: ScriptFaultKind) -> &'static str {
-    match kind {
-        ScriptFaultKind::Header => {
+fn wanted(fault: ScriptFault) -> &'static str {
+    match fault {
+        ScriptFault::Header => {
             "A script begins with the line `totem-script 1` or `totem-script 2`."
         }
-        ScriptFaultKind::Word => {
+        ScriptFault::Word => {
             "Lines look like these: `ring 4.1 1 2 3`, `submit 1 a hello` (a for agreed, s for safe), `run 7`, `drop 2`, `repeat 2`, `cut 1 2 / 3`, `join`, `timer 1`, `crash 1`, from version 2 on `return 1`, or `end`, with one space between its words."
         }
-        ScriptFaultKind::Number => {
+        ScriptFault::Number => {
             "Numbers have no leading zeros. Processes are 1 to 65535, counts and places 1 to 100000."
         }
-        ScriptFaultKind::Order => {
-            "One or more `ring` lines come first, before all other commands."
-        }
-        ScriptFaultKind::Members => {
+        ScriptFault::Order => { "One or more `ring` lines come first, before all other commands." }
+        ScriptFault::Members => {
             "The members of a ring are in ascending order and in no other ring, and the least is its representative. Other commands name processes of the script, and a cut names each of them once."
         }
-        ScriptFaultKind::Place => {
+        ScriptFault::Place => {
             "This number is greater than the number of packets on their way. Or, for `return`: the process has not crashed, or has no life or ring number left."
         }
-        ScriptFaultKind::End => "Nothing follows the line `end`.",
-        ScriptFaultKind::Truncated =>
-            "Each line ends with a line break, and the last one is `end`.",
-        ScriptFaultKind::TooMany => {
+        ScriptFault::End => "Nothing follows the line `end`.",
+        ScriptFault::Truncated => "Each line ends with a line break, and the last one is `end`.",
+        ScriptFault::TooMany => {
             "A script has at most 32 processes (each life counts as one) and at most 65,536 bytes, and each log has at most 1,000,000 entries."
         }
-        ScriptFaultKind::Read | ScriptFaultKind::Memory => "",
+        ScriptFault::Read | ScriptFault::Memory => "",
     }
 }
 
@@ -56,14 +53,14 @@ fn push_line(text: &mut String, script: &[u8], line: u32) -> Result<(), AllocErr
 /// not be read or memory was refused.
 pub fn explain_line(
     alloc: Global,
-    fault: &ScriptFault,
+    fault: ScriptFault,
+    line: u32,
     script: &[u8],
 ) -> Result<String, AllocError> {
-    let wanted = wanted(fault.kind);
+    let wanted = wanted(fault);
     if wanted.is_empty() {
         return Ok(String::new(alloc));
     }
-    let line = fault.line;
     let mut text = format!(in alloc; "line {line}:\n  ")?;
     push_line(&mut text, script, line)?;
     text.push_str(format!(in alloc; "\n{wanted}\n")?.as_str())?;

@@ -1,7 +1,7 @@
 //! The program (docs/SPECIFICATIONS.md, "The program").
 ghost use Rattle.std.specs.Prelude.{◌≡◌, []};
-ghost use Rattle.totem_ids.specs.Sources.{seen};
-ghost use Rattle.totem_ids.specs.Writing.{held};
+ghost use Rattle.totem_names.specs.Sources.{seen};
+ghost use Rattle.totem_names.specs.Writing.{held};
 ghost use Rattle.totem_threads.specs.Starts.{IsInRange};
 ghost use Rattle.totem_verdicts.specs.Endings.{bare};
 ghost use Rattle.totem_cluster.specs.Endings.{Ends, Points, Plays};
@@ -16,7 +16,7 @@ use crate::weaving::weave_io;
 use std::alloc::{AllocError, Global};
 use std::sync::Wait;
 use std::thread::Threads;
-use totem_ids::{Sink, Source};
+use totem_names::{Sink, Source};
 use totem_net::{Progress, Unwatched};
 use totem_threads::RunPlan;
 use totem_verdicts::{RunWords, Words, answer, judge_io, read_words, tell};
@@ -75,7 +75,7 @@ fn play<T: Threads + Wait + Sync, W: Sink, E: Sink, P: Progress>(
 /// Returns the explanation that is printed after the line of a script's fault.
 fn line_words(alloc: Global, unmade: &Unmade) -> Result<String, AllocError> {
     match &unmade.fault {
-        IoFault::Script(fault) => explain_line(alloc, fault, &unmade.script),
+        IoFault::Script(fault) => explain_line(alloc, *fault, unmade.line, &unmade.script),
         _ => Ok(String::new(alloc)),
     }
 }

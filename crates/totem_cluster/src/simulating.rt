@@ -1,14 +1,15 @@
 //! From a script to the text of the run that it makes.
 ghost use Rattle.std.specs.Prelude.{◌≡◌, ◌≤◌, ◌+◌, ◌==◌, [], length, count_by};
-ghost use Rattle.totem_ids.specs.Sources.{seen};
-ghost use Rattle.totem_ids.specs.Writing.{held};
-ghost use Rattle.totem_cluster.specs.SimIo.{ReadsScript, Simulates, MakesRun, TellsBehind, fault_alone, unread};
+ghost use Rattle.totem_names.specs.Sources.{seen};
+ghost use Rattle.totem_names.specs.Writing.{held};
+ghost use Rattle.totem_cluster.specs.IoFaults.{script_io_fault};
+ghost use Rattle.totem_cluster.specs.SimIo.{ReadsScript, Follows, Simulates, IsBehind, unread};
 
 use crate::io_fault::IoFault;
 use std::alloc::{AllocError, Global};
-use totem_evs::{Run, write_run};
-use totem_ids::{Sink, Source};
-use totem_script::{ScriptFault, ScriptFaultKind, simulate};
+use totem_evs::write_run;
+use totem_names::{Sink, Source};
+use totem_script::{FaultyLine, ScriptFault, follow};
 use totem_verdicts::Outcome;
 
 /// The number of bytes that are read at most: one more than a script may have.
@@ -51,42 +52,28 @@ fn read_script<R: Source>(alloc: Global, input: &mut R) -> Result<Reading, Alloc
 }
 
 /// Returns the fault of a script that can't be read further than these bytes.
-fn unread(bytes: &[u8]) -> ScriptFault
+fn unread(bytes: &[u8]) -> FaultyLine
     requires { length bytes.now ≤ 65537 }
     ensures { result ≡ unread bytes.now }
 {
     let lines = bytes.iter().filter(|b| **b == b'\n').count();
-    ScriptFault {
-        kind: ScriptFaultKind::Read,
+    FaultyLine {
+        kind: ScriptFault::Read,
         line: lines as u32 + 1,
     }
 }
 
 /// Returns the fault of a script whose source failed after these bytes: that of an earlier line, or that it can't be read.
-fn fault_behind(alloc: Global, bytes: &[u8]) -> IoFault
+fn fault_behind(alloc: Global, bytes: &[u8]) -> FaultyLine
     requires { length bytes.now ≤ 65537 }
-    ensures { TellsBehind result bytes.now }
+    ensures { IsBehind result bytes.now }
 {
-    let Err(fault) = simulate(alloc, bytes) else {
-        return IoFault::Script(unread(bytes));
+    let Err(faulty) = follow(alloc, bytes) else {
+        return unread(bytes);
     };
-    match fault.kind {
-        ScriptFaultKind::Memory => IoFault::Memory,
-        ScriptFaultKind::Truncated => IoFault::Script(unread(bytes)),
-        _ => IoFault::Script(fault),
-    }
-}
-
-/// Returns the run that a script makes.
-fn run_of(alloc: Global, script: &[u8]) -> Result<Run, IoFault>
-    ensures { MakesRun result script.now }
-{
-    match simulate(alloc, script) {
-        Ok(run) => Ok(run),
-        Err(fault) => match fault.kind {
-            ScriptFaultKind::Memory => Err(IoFault::Memory),
-            _ => Err(IoFault::Script(fault)),
-        },
+    match faulty.kind {
+        ScriptFault::Truncated => unread(bytes),
+        _ => faulty,
     }
 }
 
@@ -94,8 +81,22 @@ fn run_of(alloc: Global, script: &[u8]) -> Result<Run, IoFault>
 #[derive(Debug, Drop)]
 pub struct Unmade {
     pub fault: IoFault,
+    /// The number of the line, if the fault is that of a script.
+    pub line: u32,
     /// Empty if memory was refused while they were read.
     pub script: Vec<u8>,
+}
+
+/// Returns that a script makes no run because of this line.
+fn refused(faulty: FaultyLine, script: Vec<u8>) -> Unmade
+    ensures fault { result.fault ≡ script_io_fault faulty.kind }
+    ensures line { result.line ≡ faulty.line }
+{
+    Unmade {
+        fault: IoFault::from(faulty.kind),
+        line: faulty.line,
+        script,
+    }
 }
 
 /// Reads a script, and writes the text of the run that it makes. Reads at most one byte more than a script may have, so a script that
@@ -105,40 +106,34 @@ pub fn follow_io<R: Source, W: Sink>(
     input: &mut R,
     output: &mut W,
 ) -> Result<Outcome, Unmade>
-    ensures { Simulates (seen R.remaining R.failures input.old) (seen R.remaining R.failures input.new)
-        (held W.contents W.failures [] output.old) (held W.contents W.failures [] output.new) (fault_alone result) }
+    ensures { Follows (seen R.remaining R.failures input.old) (seen R.remaining R.failures input.new)
+        (held W.contents W.failures [] output.old) (held W.contents W.failures [] output.new) result }
 {
     let Ok(script) = read_script(alloc, input) else {
         return Err(Unmade {
             fault: IoFault::Memory,
+            line: 0,
             script: Vec::new(alloc),
         });
     };
     if script.failed {
-        return Err(Unmade {
-            fault: fault_behind(alloc, &script.bytes),
-            script: script.bytes,
-        });
+        return Err(refused(fault_behind(alloc, &script.bytes), script.bytes));
     }
-    let run = match run_of(alloc, &script.bytes) {
+    let run = match follow(alloc, &script.bytes) {
         Ok(run) => run,
-        Err(fault) => {
-            return Err(Unmade {
-                fault,
-                script: script.bytes,
-            });
-        }
+        Err(faulty) => return Err(refused(faulty, script.bytes)),
     };
     match write_run(alloc, &run, output) {
         Ok(()) => Ok(Outcome::Made),
         Err(fault) => Err(Unmade {
             fault: IoFault::from(fault),
+            line: 0,
             script: script.bytes,
         }),
     }
 }
 
-/// Does the same as `follow_io`, and drops the bytes of a script that makes no run.
+/// Does the same as `follow_io`, and drops the bytes and the line of a script that makes no run.
 pub fn sim_io<R: Source, W: Sink>(
     alloc: Global,
     input: &mut R,

@@ -1,7 +1,7 @@
 //! What the program prints on standard error about scripts, runs in threads and all faults. Printing doesn't allocate, and ignores a
 //! failure of that stream.
 ghost use Rattle.std.specs.Prelude.{◌≡◌, ◌++◌};
-ghost use Rattle.totem_ids.specs.Writing.{Writes};
+ghost use Rattle.totem_names.specs.Writing.{Writes};
 ghost use Rattle.totem_verdicts.specs.Endings.{Tells, bare};
 ghost use Rattle.totem_cluster.specs.declared.io_fault.IoFault.TheVariants.{Book};
 ghost use Rattle.totem_cluster.specs.Endings.{script_line, fault_line, script_status, fault_status};
@@ -9,15 +9,15 @@ ghost use Rattle.totem_cluster.specs.Endings.{script_line, fault_line, script_st
 use crate::io_fault::IoFault;
 use totem_certificate::CertFault;
 use totem_evs::RunFault;
-use totem_ids::{Failed, Sink};
-use totem_script::{ScriptFault, ScriptFaultKind};
+use totem_names::{Failed, Sink};
+use totem_script::ScriptFault;
 use totem_threads::BookTrouble;
 use totem_verdicts::{put_cert_fault, put_check_fault, put_refusal, put_run_fault, put_text};
 
 fn put_script_fault<E: Sink>(errors: &mut E, fault: &ScriptFault) -> Result<(), Failed>
     ensures { Writes (bare E.contents E.failures errors.old) (bare E.contents E.failures errors.new) result (script_line fault.now) }
 {
-    if let ScriptFaultKind::Read = fault.kind {
+    if let ScriptFault::Read = *fault {
         return put_text(errors, "totem: read failed\n");
     }
     put_refusal(
@@ -56,7 +56,7 @@ fn put_fault<E: Sink>(errors: &mut E, fault: &IoFault) -> Result<(), Failed>
 }
 
 /// Writes the line of a fault and an explanation after it.
-#[tactic(auto, using(totem_ids::proofs::Writers::wrote_then, totem_ids::proofs::Writers::wrote_failed))]
+#[tactic(auto, using(totem_names::proofs::Writers::wrote_then, totem_names::proofs::Writers::wrote_failed))]
 fn put_with_words<E: Sink>(errors: &mut E, fault: &IoFault, words: &str) -> Result<(), Failed>
     ensures { Writes (bare E.contents E.failures errors.old) (bare E.contents E.failures errors.new) result
         (fault_line fault.now ++ words.now) }
@@ -66,11 +66,11 @@ fn put_with_words<E: Sink>(errors: &mut E, fault: &IoFault, words: &str) -> Resu
 }
 
 /// Returns the status of a script's fault.
-fn script_status(kind: ScriptFaultKind) -> u8
-    ensures { result ≡ script_status kind }
+fn script_status(fault: ScriptFault) -> u8
+    ensures { result ≡ script_status fault }
 {
-    match kind {
-        ScriptFaultKind::Read => 4,
+    match fault {
+        ScriptFault::Read => 4,
         _ => 2,
     }
 }
@@ -98,7 +98,7 @@ fn status_of(fault: &IoFault) -> u8
 {
     match fault {
         IoFault::Run(RunFault::Read) | IoFault::Cert(CertFault::Read) => 4,
-        IoFault::Script(fault) => script_status(fault.kind),
+        IoFault::Script(fault) => script_status(*fault),
         IoFault::Run(_) | IoFault::Cert(_) | IoFault::Refused(_) | IoFault::Book(_) => 2,
         IoFault::Memory => 3,
         IoFault::Write => 4,

@@ -1,7 +1,7 @@
 //! Runs of nodes in threads whose ring is woven.
 ghost use Rattle.std.specs.Prelude.{◌≡◌, [], ◌++◌, decimal};
 ghost use Rattle.std.specs.List.{flat_map};
-ghost use Rattle.totem_ids.specs.Writing.{Writes, held};
+ghost use Rattle.totem_names.specs.Writing.{Writes, held};
 ghost use Rattle.totem_evs.specs.RunText.{line};
 ghost use Rattle.totem_evs.specs.WriteRun.{WritesText};
 ghost use Rattle.totem_threads.specs.Starts.{IsInRange};
@@ -14,7 +14,7 @@ use std::sync::Wait;
 use std::thread::Threads;
 use totem_books::ClosedBook;
 use totem_evs::WriteFault;
-use totem_ids::{Failed, MsgId, Pieces, Place, Proc, ProcId, Sink};
+use totem_names::{Failed, MsgId, Pieces, Place, Proc, ProcId, Sink};
 use totem_net::{Progress, Quiet};
 use totem_packets::Message;
 use totem_threads::RunPlan;
@@ -72,7 +72,7 @@ fn put_names<S: Sink>(pieces: &mut Pieces, sink: &mut S, messages: &[Message]) -
     Ok(())
 }
 
-#[tactic(auto, using(totem_ids::proofs::Writers::wrote_then, totem_ids::proofs::Writers::wrote_failed))]
+#[tactic(auto, using(totem_names::proofs::Writers::wrote_then, totem_names::proofs::Writers::wrote_failed))]
 fn put_handed<S: Sink>(
     pieces: &mut Pieces,
     sink: &mut S,
@@ -102,7 +102,7 @@ fn put_each_handed<S: Sink>(
 }
 
 /// Puts the number of steps that were woven.
-#[tactic(auto, using(totem_ids::proofs::Writers::wrote_then, totem_ids::proofs::Writers::wrote_failed))]
+#[tactic(auto, using(totem_names::proofs::Writers::wrote_then, totem_names::proofs::Writers::wrote_failed))]
 fn put_steps<S: Sink>(pieces: &mut Pieces, sink: &mut S, count: usize) -> Result<(), Failed>
     ensures { Writes (held S.contents S.failures pieces.old sink.old)
         (held S.contents S.failures pieces.new sink.new) result (steps_text count) }
@@ -112,7 +112,7 @@ fn put_steps<S: Sink>(pieces: &mut Pieces, sink: &mut S, count: usize) -> Result
     pieces.put(sink, b"\n")
 }
 
-#[tactic(auto, using(totem_ids::proofs::Writers::wrote_then, totem_ids::proofs::Writers::wrote_failed))]
+#[tactic(auto, using(totem_names::proofs::Writers::wrote_then, totem_names::proofs::Writers::wrote_failed))]
 fn put_woven<S: Sink>(pieces: &mut Pieces, sink: &mut S, woven: &Woven) -> Result<(), Failed>
     ensures { Writes (held S.contents S.failures pieces.old sink.old)
         (held S.contents S.failures pieces.new sink.new) result (woven_text woven.now) }
@@ -123,7 +123,7 @@ fn put_woven<S: Sink>(pieces: &mut Pieces, sink: &mut S, woven: &Woven) -> Resul
     pieces.put(sink, b"end\n")
 }
 
-#[tactic(auto, using(totem_ids::proofs::Writers::wrote_then, totem_ids::proofs::Writers::wrote_failed))]
+#[tactic(auto, using(totem_names::proofs::Writers::wrote_then, totem_names::proofs::Writers::wrote_failed))]
 fn put_orphan<S: Sink>(pieces: &mut Pieces, sink: &mut S, place: Place) -> Result<(), Failed>
     ensures { Writes (held S.contents S.failures pieces.old sink.old)
         (held S.contents S.failures pieces.new sink.new) result (orphan_text place) }

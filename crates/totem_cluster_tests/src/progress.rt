@@ -5,7 +5,7 @@ use std::sync::Wait;
 use std::test::Fail;
 use std::thread::Threads;
 use totem_cluster::{Logged, Progress, program_with_progress};
-use totem_ids::{Buffered, ToWrite};
+use totem_names::{Buffered, ToWrite};
 
 /// Counts the reports, and keeps the last one.
 #[derive(Clone, Copy)]

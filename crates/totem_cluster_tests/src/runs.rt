@@ -8,9 +8,9 @@ use std::thread::Threads;
 use std::time::{Clock, Duration};
 use totem_books::{Call, ClosedBook, Reply};
 use totem_cluster::{RunPlan, run_threads};
-use totem_ids::ProcId;
+use totem_core::Input;
+use totem_names::ProcId;
 use totem_net::{Plan, Quiet, Start};
-use totem_node::Input;
 use totem_packets::Packet;
 use totem_ring::To;
 

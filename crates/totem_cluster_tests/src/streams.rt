@@ -6,10 +6,12 @@ use std::process::Abort;
 use std::sync::Wait;
 use std::test::Fail;
 use std::thread::Threads;
-use totem_cluster::{IoFault, Outcome, Workers, audit_io, check_io, program, sim_io};
+use totem_cluster::{
+    IoFault, Outcome, Unmade, Workers, audit_io, check_io, follow_io, program, sim_io,
+};
 use totem_evs::RunFault;
-use totem_ids::{FromRead, Fused, ToWrite};
-use totem_script::{ScriptFault, ScriptFaultKind};
+use totem_names::{FromRead, Fused, ToWrite};
+use totem_script::ScriptFault;
 
 const GOOD: &str =
     "totem-run 1;log 1;conf r4.1 1 2;send r4.1 a 4.1#1;dlv r4.1 4.1#1;open;log 2;conf r4.1 1 2;dlv r4.1 4.1#1;open;end;";
@@ -66,25 +68,27 @@ fn an_earlier_line_comes_before_a_failed_read(rt: HostRuntime) -> Result<(), Fai
     let alloc = rt.alloc();
     let mut input = Fused::new(FromRead::new(b"totem-script 1\nrings".as_slice()), 20);
     let mut output = ToWrite::new(Vec::new(alloc));
-    let fault = sim_io(alloc, &mut input, &mut output);
+    let unmade = follow_io(alloc, &mut input, &mut output);
     assert!(rt;
         matches!(
-            fault,
-            Err(IoFault::Script(ScriptFault {
-                kind: ScriptFaultKind::Read,
-                line: 2
-            }))
+            unmade,
+            Err(Unmade {
+                fault: IoFault::Script(ScriptFault::Read),
+                line: 2,
+                ..
+            })
         )
     );
     let mut input = Fused::new(FromRead::new(b"totem-script 1\nrings\n".as_slice()), 21);
-    let fault = sim_io(alloc, &mut input, &mut output);
+    let unmade = follow_io(alloc, &mut input, &mut output);
     assert!(rt;
         matches!(
-            fault,
-            Err(IoFault::Script(ScriptFault {
-                kind: ScriptFaultKind::Word,
-                line: 2
-            }))
+            unmade,
+            Err(Unmade {
+                fault: IoFault::Script(ScriptFault::Word),
+                line: 2,
+                ..
+            })
         )
     );
     Ok(())
@@ -97,15 +101,7 @@ fn a_script_without_an_end_is_refused(rt: HostRuntime) -> Result<(), Fail> {
     let mut input = FromRead::new(io::repeat(b'x'));
     let mut output = ToWrite::new(Vec::new(alloc));
     let fault = sim_io(alloc, &mut input, &mut output);
-    assert!(rt;
-        matches!(
-            fault,
-            Err(IoFault::Script(ScriptFault {
-                kind: ScriptFaultKind::TooMany,
-                line: 1
-            }))
-        )
-    );
+    assert!(rt; matches!(fault, Err(IoFault::Script(ScriptFault::TooMany))));
     assert_eq!(rt; output.into_inner().len(), 0);
     Ok(())
 }

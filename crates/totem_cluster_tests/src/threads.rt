@@ -5,9 +5,9 @@ use std::test::Fail;
 use std::thread::Threads;
 use totem_books::{BookFault, Call, CloseFault, ClosedBook, Reply};
 use totem_cluster::{BookTrouble, IoFault, RunPlan, run_threads, tell_fault};
-use totem_ids::ToWrite;
+use totem_core::Input;
+use totem_names::ToWrite;
 use totem_net::{Plan, Quiet};
-use totem_node::Input;
 
 /// The refusal of a book is printed with its number and name, and has status 2.
 #[test]

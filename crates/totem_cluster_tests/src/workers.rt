@@ -9,7 +9,7 @@ use std::thread::Threads;
 use std::time::{Clock, Duration};
 use totem_audit::{Gate, OpenGate, Verdict, Workers, audit, audit_with};
 use totem_evs::{Run, read_run};
-use totem_ids::FromRead;
+use totem_names::FromRead;
 
 /// The number of times that a gate checks, one millisecond apart, before it gives up.
 const LOOKS: u32 = 10_000;

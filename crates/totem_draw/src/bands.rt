@@ -4,7 +4,7 @@ use crate::shapes::{Point, push_band, push_label, push_words};
 use std::alloc::{AllocError, Global};
 use totem_evs::Ending;
 use totem_explain::Lane;
-use totem_ids::{ConfId, Version};
+use totem_names::{ConfId, Version};
 
 /// A stretch of a lane in one configuration.
 #[derive(Clone, Copy)]

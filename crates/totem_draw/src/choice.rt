@@ -2,7 +2,7 @@
 use std::alloc::{AllocError, Global};
 use totem_evs::{Entry, Log, Run};
 use totem_explain::{Lane, entry_at};
-use totem_ids::{MsgId, Place};
+use totem_names::{MsgId, Place};
 
 /// A run with at most this many entries is drawn whole.
 const WHOLE: usize = 120;

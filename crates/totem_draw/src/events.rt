@@ -5,7 +5,7 @@ use crate::shapes::{Point, push_bar, push_cross, push_dot, push_label, push_mark
 use crate::subject::Subject;
 use std::alloc::{AllocError, Global};
 use totem_explain::{Lane, Spot, What, place_name};
-use totem_ids::{MsgId, Place};
+use totem_names::{MsgId, Place};
 
 /// Adds the message's name below its event.
 fn push_name(

@@ -4,7 +4,7 @@ use crate::shapes::{Point, push_dashed, push_line};
 use std::alloc::AllocError;
 use totem_evs::Pending;
 use totem_explain::Lane;
-use totem_ids::MsgId;
+use totem_names::MsgId;
 
 /// Returns the point at which a message is sent, if the send is drawn.
 fn send_of(frame: &Frame, lanes: &[Lane], message: MsgId) -> Option<Point> {

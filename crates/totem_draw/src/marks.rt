@@ -2,7 +2,7 @@
 use std::alloc::{AllocError, Global};
 use totem_evs::Run;
 use totem_explain::{entry_at, event_of, place_name};
-use totem_ids::Place;
+use totem_names::Place;
 
 /// How many places are described.
 const TOLD: usize = 12;

@@ -11,7 +11,7 @@ use crate::words::wrapped;
 use std::alloc::{AllocError, Global};
 use totem_evs::{Fault, Pending, Run};
 use totem_explain::{Lane, lay_out, rule_of};
-use totem_ids::Place;
+use totem_names::Place;
 
 /// The text below a picture that says how to read it.
 const LEGEND: &str =

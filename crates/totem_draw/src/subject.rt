@@ -1,6 +1,6 @@
 //! The subject of a picture.
 use totem_evs::{Pending, Run};
-use totem_ids::Place;
+use totem_names::Place;
 
 /// What a picture shows of a run.
 #[derive(Clone, Copy)]

@@ -1,8 +1,8 @@
 -- The small runs with quiet logs.
 use Rattle.std.proofs.Common.{◌≡◌, ℕ, ◌⊎◌, inl, inr, List, slice_get, Some, [], ◌∷◌, refl, lit<, arith}
 use Rattle.std.specs.Prelude.{Contains}
-use Rattle.totem_ids.specs.declared.conf.ConfId.{ConfId}
-use Rattle.totem_ids.specs.declared.message.Service.TheVariants.{Agreed}
+use Rattle.totem_names.specs.declared.conf.ConfId.{ConfId}
+use Rattle.totem_names.specs.declared.message.Service.TheVariants.{Agreed}
 use Rattle.totem_evs.specs.declared.entry.Entry.{Entry}
 use Rattle.totem_evs.specs.declared.entry.Entry.TheVariants.{Conf, Send, Deliver, Fail}
 use Rattle.totem_evs.specs.Events.{ChangesWith, log_of}

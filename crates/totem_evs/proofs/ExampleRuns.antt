@@ -1,7 +1,7 @@
 -- The small runs keep the rules of a run.
-use Rattle.totem_ids.specs.declared.version.Version.TheVariants.{Three}
-use Rattle.totem_ids.specs.Processes.{IsProcessIn}
-use Rattle.totem_ids.proofs.RankParts.{id_of_rank, life_of_rank}
+use Rattle.totem_names.specs.declared.version.Version.TheVariants.{Three}
+use Rattle.totem_names.specs.Processes.{IsProcessIn}
+use Rattle.totem_names.proofs.RankParts.{id_of_rank, life_of_rank}
 use Rattle.std.specs.Prelude.{nat_lt, nat_le, ◌&&◌}
 use Rattle.std.proofs.Common.{zero, suc, Bool, true, false, slice_get, Some, ◌≡◌, ℕ, ◌+◌, ◌<◌, ◌≤◌, List, [], ◌∷◌, length, get_or, refl, lit<, arith}
 use Rattle.std.proofs.lemmas.Bool.{ltb-true, leb-true}
@@ -12,13 +12,13 @@ use Rattle.totem_evs.specs.declared.log.Log.{Log}
 use Rattle.totem_evs.specs.declared.ending.Ending.{Ending}
 use Rattle.totem_evs.specs.declared.ending.Ending.TheVariants.{Standing, Failed, Quiet}
 use Rattle.totem_evs.specs.Endings.{IsEndingIn}
-use Rattle.totem_ids.specs.declared.conf.ConfId.{ConfId}
-use Rattle.totem_ids.specs.declared.conf.ConfId.TheVariants.{Regular, Transitional}
-use Rattle.totem_ids.specs.Names.{RingName, MessageName}
-use Rattle.totem_ids.specs.Texts.{IsUpTo, IsRing, IsConf, IsMessage}
+use Rattle.totem_names.specs.declared.conf.ConfId.{ConfId}
+use Rattle.totem_names.specs.declared.conf.ConfId.TheVariants.{Regular, Transitional}
+use Rattle.totem_names.specs.Names.{RingName, MessageName}
+use Rattle.totem_names.specs.Texts.{IsUpTo, IsRing, IsConf, IsMessage}
 use Rattle.totem_evs.specs.Members.{IsMembers, IsBelow}
 use Rattle.totem_evs.specs.Runs.{IsEntry, IsFailure, IsLog, IsBelowLog, IsRun}
-use Rattle.totem_ids.specs.declared.message.Service.TheVariants.{Agreed}
+use Rattle.totem_names.specs.declared.message.Service.TheVariants.{Agreed}
 use Rattle.totem_evs.specs.Examples.{regular, first, alone, pair, all_three, lone_3, standing, failed, quiet, first_life}
 use Rattle.totem_evs.specs.Examples as runs
 use Rattle.totem_evs.specs.ExampleClaims.{examples}

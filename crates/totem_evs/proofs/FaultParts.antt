@@ -1,10 +1,10 @@
 -- A fault of a run's text is that of its first line or of one of its parts.
-use Rattle.totem_ids.specs.declared.version.Version.{Version}
+use Rattle.totem_names.specs.declared.version.Version.{Version}
 use Rattle.std.specs.Prelude.{◌==◌, nat_lt, ◌↔◌}
 use Rattle.std.proofs.Common.{◌≡◌, ◌≢◌, ℕ, zero, suc, ◌<◌, ◌≤◌, List, [], ◌∷◌, ◌++◌, length, length-append, Bool, Option, Some, None, Ok, Err, refl, sym, ap, ◌∙◌, arith}
-use Rattle.totem_ids.specs.declared.fault.TextFault.{TextFault}
-use Rattle.totem_ids.specs.declared.fault.TextFault.TheVariants as faults
-use Rattle.totem_ids.specs.Sources.{Parsed, ◌>>=◌}
+use Rattle.totem_names.specs.declared.fault.TextFault.{TextFault}
+use Rattle.totem_names.specs.declared.fault.TextFault.TheVariants as faults
+use Rattle.totem_names.specs.Sources.{Parsed, ◌>>=◌}
 use Rattle.totem_evs.specs.declared.entry.Entry.TheVariants.{Conf, Send, Deliver, Fail}
 use Rattle.totem_evs.specs.declared.ending.Ending.TheVariants.{Standing, Failed, Quiet}
 use Rattle.totem_evs.specs.declared.lines.Line.{Line}

@@ -1,16 +1,16 @@
 -- A run from its parts: the result of each call of the reader of parts.
-use Rattle.totem_ids.specs.declared.life.WrittenProc.{WrittenProc}
+use Rattle.totem_names.specs.declared.life.WrittenProc.{WrittenProc}
 use Rattle.totem_evs.specs.RunRecord.{RunRecord}
 use Rattle.totem_evs.specs.Runs.{IsRunOf}
 use Rattle.std.specs.Io.KnownBytes.{Consumes, Keeps}
 use Rattle.std.proofs.KnownBytes.{Consumes-trans}
 use Rattle.std.proofs.lemmas.List.{append-nil}
 use Rattle.std.proofs.Common.{◌≡◌, [], subst, ℕ, List, ◌++◌, Some, None, Ok, Err, refl, sym, ap, ◌∙◌, append_assoc}
-use Rattle.totem_ids.specs.declared.fault.TextFault.TheVariants as text
-use Rattle.totem_ids.specs.declared.fault.ReadError.TheVariants as errors
-use Rattle.totem_ids.specs.Sources.{Seen, Parsed, Comes, ◌>>=◌}
-use Rattle.totem_ids.proofs.AtHand.{kept_none}
-use Rattle.totem_ids.proofs.Readers.{called, failed, same_left, begins, breaks_at, wants_rest}
+use Rattle.totem_names.specs.declared.fault.TextFault.TheVariants as text
+use Rattle.totem_names.specs.declared.fault.ReadError.TheVariants as errors
+use Rattle.totem_names.specs.Sources.{Seen, Parsed, Comes, ◌>>=◌}
+use Rattle.totem_names.proofs.AtHand.{kept_none}
+use Rattle.totem_names.proofs.Readers.{called, failed, same_left, begins, breaks_at, wants_rest}
 use Rattle.totem_evs.specs.declared.part.Part.{Part}
 use Rattle.totem_evs.specs.declared.run_fault.RunFault.{RunFault}
 use Rattle.totem_evs.specs.declared.run_fault.RunFault.TheVariants as faults

@@ -1,9 +1,9 @@
 -- A run from its parts: the logs so far, and what is still read.
 use Rattle.totem_evs.specs.RunRecord.{RunRecord}
-use Rattle.totem_ids.specs.declared.version.Version.{Version}
+use Rattle.totem_names.specs.declared.version.Version.{Version}
 use Rattle.std.specs.Prelude.{nat_lt, ◌==◌}
 use Rattle.std.proofs.Common.{◌≡◌, ◌+◌, ◌-◌, ◌≤◌, ℕ, List, [], ◌∷◌, ◌++◌, true, Option, Some, None, Ok, Err, refl, ap, ◌∙◌, arith, rules}
-use Rattle.totem_ids.specs.Sources.{Parsed, ◌>>=◌}
+use Rattle.totem_names.specs.Sources.{Parsed, ◌>>=◌}
 use Rattle.totem_evs.specs.declared.log.Log.{Log}
 use Rattle.totem_evs.specs.declared.lines.Line.{Line}
 use Rattle.totem_evs.specs.declared.lines.Line.TheVariants as lines

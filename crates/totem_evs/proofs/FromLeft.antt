@@ -1,9 +1,9 @@
 -- Ascending lists, from left to right.
 use Rattle.std.proofs.Common.{ℕ, ◌<◌, ◌≤◌, List, length, arith}
 use Rattle.std.proofs.lemmas.List.Elements.{All-from_recursion, recursion_from_All}
-use Rattle.totem_ids.specs.declared.version.Version.{Version}
-use Rattle.totem_ids.specs.Processes.{IsProcessIn}
-use Rattle.totem_ids.specs.Ranks.{id_of}
+use Rattle.totem_names.specs.declared.version.Version.{Version}
+use Rattle.totem_names.specs.Processes.{IsProcessIn}
+use Rattle.totem_names.specs.Ranks.{id_of}
 use Rattle.totem_evs.specs.declared.log.Log.{Log}
 use Rattle.totem_evs.specs.Members.{IsMembersIn}
 use Rattle.totem_evs.specs.Runs.{IsLogIn, IsRunIn}

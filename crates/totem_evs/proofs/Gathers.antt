@@ -1,7 +1,7 @@
 -- What is known of the logs so far, part after part.
-use Rattle.totem_ids.specs.declared.version.Version.{Version}
-use Rattle.totem_ids.specs.declared.version.Version.TheVariants.{Three}
-use Rattle.totem_ids.specs.Processes.{IsProcessIn}
+use Rattle.totem_names.specs.declared.version.Version.{Version}
+use Rattle.totem_names.specs.declared.version.Version.TheVariants.{Three}
+use Rattle.totem_names.specs.Processes.{IsProcessIn}
 use Rattle.std.specs.Prelude.{nat_lt, ◌==◌, All, AllPairs, Contains, IsTrue, ◌↔◌}
 use Rattle.std.specs.List.{flat_map}
 use Rattle.std.proofs.Common.{◌≡◌, ◌⊎◌, ◌+◌, ◌-◌, ◌*◌, ◌<◌, ◌≤◌, ℕ, List, [], ◌∷◌, ◌++◌, length, Bool, true, false, Option, Some, None, inl, inr, refl, sym, ap, subst, ◌∙◌, append_assoc, arith}

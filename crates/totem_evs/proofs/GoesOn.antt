@@ -4,17 +4,17 @@ use Rattle.std.proofs.Common.{◌≡◌, ◌≢◌, ℕ, ◌+◌, ◌-◌, ◌*�
 use Rattle.std.proofs.lemmas.Bool.{cases_lt, eqb-true}
 use Rattle.std.proofs.lemmas.Fmt.{decimal_digit}
 use Rattle.std.proofs.lemmas.List.{append-nil}
-use Rattle.totem_ids.specs.declared.fault.TextFault.{TextFault}
-use Rattle.totem_ids.specs.declared.fault.TextFault.TheVariants.{Word, Number, Truncated}
-use Rattle.totem_ids.specs.declared.conf.ConfId.{ConfId}
-use Rattle.totem_ids.specs.declared.conf.ConfId.TheVariants.{Regular, Transitional}
-use Rattle.totem_ids.specs.Names.{RingName, MessageName}
-use Rattle.totem_ids.specs.Sources.{Parsed, is_short, ◌>>=◌}
-use Rattle.totem_ids.specs.Numbers.{is_digit, byte_at, word_at, digits_at, number_at, number_to}
-use Rattle.totem_ids.specs.Parsers.{ring_at, message_at, regular_at, transitional_at, conf_at}
-use Rattle.totem_ids.specs.Texts.{ring_text, conf_text, message_text, IsUpTo, IsRing, IsConf, IsMessage}
-use Rattle.totem_ids.proofs.Readers.{next_digit, next_over, next_other}
-use Rattle.totem_ids.proofs.Spelled.{decimal_push, byte_is, number_to_is, ring_is}
+use Rattle.totem_names.specs.declared.fault.TextFault.{TextFault}
+use Rattle.totem_names.specs.declared.fault.TextFault.TheVariants.{Word, Number, Truncated}
+use Rattle.totem_names.specs.declared.conf.ConfId.{ConfId}
+use Rattle.totem_names.specs.declared.conf.ConfId.TheVariants.{Regular, Transitional}
+use Rattle.totem_names.specs.Names.{RingName, MessageName}
+use Rattle.totem_names.specs.Sources.{Parsed, is_short, ◌>>=◌}
+use Rattle.totem_names.specs.Numbers.{is_digit, byte_at, word_at, digits_at, number_at, number_to}
+use Rattle.totem_names.specs.Parsers.{ring_at, message_at, regular_at, transitional_at, conf_at}
+use Rattle.totem_names.specs.Texts.{ring_text, conf_text, message_text, IsUpTo, IsRing, IsConf, IsMessage}
+use Rattle.totem_names.proofs.Readers.{next_digit, next_over, next_other}
+use Rattle.totem_names.proofs.Spelled.{decimal_push, byte_is, number_to_is, ring_is}
 
 -- ---- steps
 

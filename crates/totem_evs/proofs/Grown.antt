@@ -3,9 +3,9 @@ use Rattle.std.specs.Prelude.{All, AllPairs}
 use Rattle.std.proofs.Common.{ℕ, ◌<◌, ◌≤◌, List, [], ◌∷◌, ◌++◌, length, arith}
 use Rattle.std.proofs.lemmas.List.Quantifiers.{all_pairs_push}
 use Rattle.std.proofs.lemmas.List.Elements.{All-push}
-use Rattle.totem_ids.specs.declared.version.Version.TheVariants.{Three}
-use Rattle.totem_ids.specs.Processes.{IsProcessIn}
-use Rattle.totem_ids.specs.Ranks.{id_of}
+use Rattle.totem_names.specs.declared.version.Version.TheVariants.{Three}
+use Rattle.totem_names.specs.Processes.{IsProcessIn}
+use Rattle.totem_names.specs.Ranks.{id_of}
 use Rattle.totem_evs.specs.Members.{IsBelow, IsMembers}
 
 -- processes whose identifiers are ascending, up to that of the last one

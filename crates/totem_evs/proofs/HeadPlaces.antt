@@ -3,15 +3,15 @@ use Rattle.std.specs.Prelude.{◌==◌, ◌&&◌, nat_le, ◌↔◌}
 use Rattle.std.proofs.Common.{◌≡◌, ◌≢◌, ℕ, ◌≤◌, inl, inr, List, [], ◌∷◌, ◌++◌, Bool, true, false, cond, Option, Some, Ok, Err, refl, sym, ap, ◌∙◌, arith, rules}
 use Rattle.std.proofs.lemmas.Bool.{eqb-true}
 use Rattle.std.proofs.lemmas.Bool.Decides.{nat_tests}
-use Rattle.totem_ids.specs.declared.version.Version.{Version}
-use Rattle.totem_ids.specs.declared.version.Version.TheVariants.{One, Two, Three}
-use Rattle.totem_ids.specs.declared.fault.TextFault.{TextFault}
-use Rattle.totem_ids.specs.declared.fault.TextFault.TheVariants as faults
-use Rattle.totem_ids.specs.Sources.{Parsed, ◌>>=◌}
-use Rattle.totem_ids.specs.Numbers.{byte_at, word_at}
-use Rattle.totem_ids.specs.Processes.{process_text, process_then}
-use Rattle.totem_ids.proofs.Lives.{process_then_is, process_then_again}
-use Rattle.totem_ids.proofs.Spelled.{taken, word_is, word_again}
+use Rattle.totem_names.specs.declared.version.Version.{Version}
+use Rattle.totem_names.specs.declared.version.Version.TheVariants.{One, Two, Three}
+use Rattle.totem_names.specs.declared.fault.TextFault.{TextFault}
+use Rattle.totem_names.specs.declared.fault.TextFault.TheVariants as faults
+use Rattle.totem_names.specs.Sources.{Parsed, ◌>>=◌}
+use Rattle.totem_names.specs.Numbers.{byte_at, word_at}
+use Rattle.totem_names.specs.Processes.{process_text, process_then}
+use Rattle.totem_names.proofs.Lives.{process_then_is, process_then_again}
+use Rattle.totem_names.proofs.Spelled.{taken, word_is, word_again}
 use Rattle.totem_evs.specs.RunText.{line, version_digit}
 use Rattle.totem_evs.specs.Heads.{Words, HasVersion, proc_at, begin_at, end_at, head_at, header_end, header_at}
 use Rattle.totem_evs.specs.HeadFaults.{Differs, BreaksFirstLine, BeginsBelow}

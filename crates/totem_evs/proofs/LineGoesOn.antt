@@ -1,26 +1,26 @@
 -- Where a line of a log is too short, some line continues it.
-use Rattle.totem_ids.specs.declared.version.Version.{Version}
-use Rattle.totem_ids.specs.Ranks.{rank_of, id_of, life_of}
-use Rattle.totem_ids.specs.Processes.{writes_lives, process_text, first_life_then, life_then, process_then, IsProcessIn}
-use Rattle.totem_ids.proofs.RankParts.{id_of_rank, life_of_rank}
-use Rattle.totem_ids.proofs.Lives.{process_then_is}
+use Rattle.totem_names.specs.declared.version.Version.{Version}
+use Rattle.totem_names.specs.Ranks.{rank_of, id_of, life_of}
+use Rattle.totem_names.specs.Processes.{writes_lives, process_text, first_life_then, life_then, process_then, IsProcessIn}
+use Rattle.totem_names.proofs.RankParts.{id_of_rank, life_of_rank}
+use Rattle.totem_names.proofs.Lives.{process_then_is}
 use Rattle.std.specs.Prelude.{decimal, nat_le, ◌==◌, codes, not, ◌&&◌}
 use Rattle.std.proofs.Common.{◌≡◌, ℕ, zero, suc, inl, inr, List, [], ◌∷◌, ◌++◌, Ok, Err, Bool, true, false, cond, refl, sym, ◌∙◌, ap, append_assoc, arith}
 use Rattle.std.proofs.lemmas.Bool.{eqb-true}
 use Rattle.std.proofs.lemmas.List.{append-nil}
-use Rattle.totem_ids.specs.declared.fault.TextFault.TheVariants as faults
-use Rattle.totem_ids.specs.declared.conf.ConfId.{ConfId}
-use Rattle.totem_ids.specs.declared.conf.ConfId.TheVariants.{Regular}
-use Rattle.totem_ids.specs.declared.message.Service.{Service}
-use Rattle.totem_ids.specs.declared.message.Service.TheVariants.{Agreed, Safe}
-use Rattle.totem_ids.specs.Names.{MessageName}
-use Rattle.totem_ids.specs.Sources.{Parsed, ◌>>=◌}
-use Rattle.totem_ids.specs.Numbers.{byte_at, word_at, number_at, number_to}
-use Rattle.totem_ids.specs.Parsers.{conf_at, message_at}
-use Rattle.totem_ids.specs.Services.{service_at}
-use Rattle.totem_ids.specs.Texts.{conf_text, message_text, service_text, IsUpTo, IsConf, IsMessage}
-use Rattle.totem_ids.proofs.ServiceSpelling.{service_is}
-use Rattle.totem_ids.proofs.Spelled.{byte_is, word_is, number_to_is, conf_is}
+use Rattle.totem_names.specs.declared.fault.TextFault.TheVariants as faults
+use Rattle.totem_names.specs.declared.conf.ConfId.{ConfId}
+use Rattle.totem_names.specs.declared.conf.ConfId.TheVariants.{Regular}
+use Rattle.totem_names.specs.declared.message.Service.{Service}
+use Rattle.totem_names.specs.declared.message.Service.TheVariants.{Agreed, Safe}
+use Rattle.totem_names.specs.Names.{MessageName}
+use Rattle.totem_names.specs.Sources.{Parsed, ◌>>=◌}
+use Rattle.totem_names.specs.Numbers.{byte_at, word_at, number_at, number_to}
+use Rattle.totem_names.specs.Parsers.{conf_at, message_at}
+use Rattle.totem_names.specs.Services.{service_at}
+use Rattle.totem_names.specs.Texts.{conf_text, message_text, service_text, IsUpTo, IsConf, IsMessage}
+use Rattle.totem_names.proofs.ServiceSpelling.{service_is}
+use Rattle.totem_names.proofs.Spelled.{byte_is, word_is, number_to_is, conf_is}
 use Rattle.totem_evs.specs.declared.entry.Entry.TheVariants.{Conf, Send, Deliver, Fail}
 use Rattle.totem_evs.specs.declared.ending.Ending.TheVariants.{Standing, Failed, Quiet}
 use Rattle.totem_evs.specs.declared.lines.Line.{Line}

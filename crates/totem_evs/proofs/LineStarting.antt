@@ -6,14 +6,14 @@ use Rattle.std.proofs.Math.Seq.{take-append-add, take-length}
 use Rattle.std.proofs.lemmas.Bool.{eqb-true}
 use Rattle.std.proofs.lemmas.Bool.Decides.{Decides-eqb}
 use Rattle.std.proofs.lemmas.Slice.Eq.{starts_is}
-use Rattle.totem_ids.specs.declared.fault.TextFault.TheVariants as faults
-use Rattle.totem_ids.specs.declared.version.Version.{Version}
-use Rattle.totem_ids.specs.Names.{RingName, MessageName}
-use Rattle.totem_ids.specs.Sources.{Parsed, Settles, ◌>>=◌}
-use Rattle.totem_ids.specs.Numbers.{word_at, number_at, number_to}
-use Rattle.totem_ids.specs.Parsers.{conf_at, ring_at, message_at}
-use Rattle.totem_ids.specs.Services.{service_at}
-use Rattle.totem_ids.proofs.Readers.{wants_both, gives}
+use Rattle.totem_names.specs.declared.fault.TextFault.TheVariants as faults
+use Rattle.totem_names.specs.declared.version.Version.{Version}
+use Rattle.totem_names.specs.Names.{RingName, MessageName}
+use Rattle.totem_names.specs.Sources.{Parsed, Settles, ◌>>=◌}
+use Rattle.totem_names.specs.Numbers.{word_at, number_at, number_to}
+use Rattle.totem_names.specs.Parsers.{conf_at, ring_at, message_at}
+use Rattle.totem_names.specs.Services.{service_at}
+use Rattle.totem_names.proofs.Readers.{wants_both, gives}
 use Rattle.totem_evs.specs.declared.entry.Entry.TheVariants as entries
 use Rattle.totem_evs.specs.declared.lines.Line.{Line}
 use Rattle.totem_evs.specs.declared.lines.Line.TheVariants as lines

@@ -1,20 +1,20 @@
 -- Where a fault of a run's text is: members that are not ascending, and what a limit refuses.
-use Rattle.totem_ids.specs.declared.version.Version.{Version}
-use Rattle.totem_ids.specs.Processes.{process_text, process_then, IsProcessIn}
-use Rattle.totem_ids.specs.Ranks.{id_of}
-use Rattle.totem_ids.proofs.Lives.{process_then_is, process_then_again}
+use Rattle.totem_names.specs.declared.version.Version.{Version}
+use Rattle.totem_names.specs.Processes.{process_text, process_then, IsProcessIn}
+use Rattle.totem_names.specs.Ranks.{id_of}
+use Rattle.totem_names.proofs.Lives.{process_then_is, process_then_again}
 use Rattle.std.specs.Prelude.{◌==◌, nat_le, codes, not, ◌&&◌, ◌↔◌}
 use Rattle.std.proofs.Common.{◌≡◌, ℕ, zero, suc, ◌<◌, ◌≤◌, ◌⊎◌, inl, inr, List, [], ◌∷◌, ◌++◌, length, Bool, true, false, cond, Ok, Err, refl, sym, ap, subst, ◌∙◌, append_assoc, arith}
 use Rattle.std.proofs.lemmas.Bool.Decides.{nat_tests}
-use Rattle.totem_ids.specs.declared.conf.ConfId.{ConfId}
-use Rattle.totem_ids.specs.declared.fault.TextFault.{TextFault}
-use Rattle.totem_ids.specs.declared.fault.TextFault.TheVariants as faults
-use Rattle.totem_ids.specs.Sources.{◌>>=◌}
-use Rattle.totem_ids.specs.Numbers.{is_digit, word_at}
-use Rattle.totem_ids.specs.Parsers.{conf_at}
-use Rattle.totem_ids.specs.Texts.{conf_text, IsConf}
-use Rattle.totem_ids.proofs.Readers.{last_of}
-use Rattle.totem_ids.proofs.Spelled.{taken, word_is, word_again, conf_is, conf_again}
+use Rattle.totem_names.specs.declared.conf.ConfId.{ConfId}
+use Rattle.totem_names.specs.declared.fault.TextFault.{TextFault}
+use Rattle.totem_names.specs.declared.fault.TextFault.TheVariants as faults
+use Rattle.totem_names.specs.Sources.{◌>>=◌}
+use Rattle.totem_names.specs.Numbers.{is_digit, word_at}
+use Rattle.totem_names.specs.Parsers.{conf_at}
+use Rattle.totem_names.specs.Texts.{conf_text, IsConf}
+use Rattle.totem_names.proofs.Readers.{last_of}
+use Rattle.totem_names.proofs.Spelled.{taken, word_is, word_again, conf_is, conf_again}
 use Rattle.totem_evs.specs.declared.lines.Line.{Line}
 use Rattle.totem_evs.specs.declared.lines.Line.TheVariants as lines
 use Rattle.totem_evs.specs.declared.entry.Entry.TheVariants.{Conf}

@@ -1,13 +1,13 @@
 -- A run and its parts.
-use Rattle.totem_ids.specs.declared.version.Version.{Version}
-use Rattle.totem_ids.specs.Processes.{process_text}
+use Rattle.totem_names.specs.declared.version.Version.{Version}
+use Rattle.totem_names.specs.Processes.{process_text}
 use Rattle.std.specs.Prelude.{nat_lt, ◌==◌, codes}
 use Rattle.std.specs.List.{flat_map}
 use Rattle.std.proofs.Common.{◌≡◌, ◌≤◌, ℕ, List, [], ◌∷◌, ◌++◌, Bool, Option, Some, None, Ok, refl, sym, ap, subst, ◌∙◌, append_assoc, arith}
 use Rattle.std.proofs.lemmas.List.{append-nil}
 use Rattle.std.proofs.lemmas.Grind.{flat_map-append}
-use Rattle.totem_ids.specs.Sources.{Parsed, ◌>>=◌}
-use Rattle.totem_ids.proofs.Spelled.{after, parsed_is}
+use Rattle.totem_names.specs.Sources.{Parsed, ◌>>=◌}
+use Rattle.totem_names.proofs.Spelled.{after, parsed_is}
 use Rattle.totem_evs.specs.declared.ending.Ending.TheVariants.{Standing, Failed, Quiet}
 use Rattle.totem_evs.specs.declared.entry.Entry.{Entry}
 use Rattle.totem_evs.specs.declared.lines.Line.{Line}

@@ -1,13 +1,13 @@
 -- What the readers of runs return.
-use Rattle.totem_ids.specs.declared.life.WrittenProc.{WrittenProc}
-use Rattle.totem_ids.specs.declared.version.Version.{Version}
+use Rattle.totem_names.specs.declared.life.WrittenProc.{WrittenProc}
+use Rattle.totem_names.specs.declared.version.Version.{Version}
 use Rattle.std.proofs.Common.{◌≡◌, ℕ, List, [], Option, Some, None, Err, refl}
-use Rattle.totem_ids.specs.declared.fault.ReadError.{ReadError}
-use Rattle.totem_ids.specs.declared.fault.ReadError.TheVariants as errors
-use Rattle.totem_ids.specs.declared.fault.TextFault.TheVariants as text
-use Rattle.totem_ids.specs.Sources.{Seen, Parsed, Reads}
-use Rattle.totem_ids.specs.Numbers.{word_at}
-use Rattle.totem_ids.proofs.Readers.{breaks_at}
+use Rattle.totem_names.specs.declared.fault.ReadError.{ReadError}
+use Rattle.totem_names.specs.declared.fault.ReadError.TheVariants as errors
+use Rattle.totem_names.specs.declared.fault.TextFault.TheVariants as text
+use Rattle.totem_names.specs.Sources.{Seen, Parsed, Reads}
+use Rattle.totem_names.specs.Numbers.{word_at}
+use Rattle.totem_names.proofs.Readers.{breaks_at}
 use Rattle.totem_evs.specs.declared.stage.Stage.{Stage}
 use Rattle.totem_evs.specs.declared.stage.OpenLog.{OpenLog}
 use Rattle.totem_evs.specs.Parts.{begun_at, within_at, next_at, part_at}

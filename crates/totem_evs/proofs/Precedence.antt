@@ -1,7 +1,7 @@
 -- What precedes what, in every run.
 use Rattle.std.proofs.Common.{◌≡◌, ◌⊎◌, inl, inr, ℕ, List, ap, sym, ◌∙◌, arith}
-use Rattle.totem_ids.specs.declared.conf.ConfId.{ConfId}
-use Rattle.totem_ids.specs.declared.place.Place.{Place}
+use Rattle.totem_names.specs.declared.conf.ConfId.{ConfId}
+use Rattle.totem_names.specs.declared.place.Place.{Place}
 use Rattle.totem_evs.specs.declared.log.Log.{Log}
 use Rattle.totem_evs.specs.Steps.{ChangesAt, Twin, Leads, here, strict, twin, Precedes}
 use Rattle.totem_evs.specs.Laws.{EachLogIsOrdered, EachTwinsAgree}

@@ -4,9 +4,9 @@ use Rattle.std.specs.declared.cmp.Ordering.{Ordering}
 use Rattle.std.specs.declared.cmp.Ordering.TheVariants.{Less, Equal, Greater}
 use Rattle.std.specs.Ordering.{ordering_then, nat_cmp}
 use Rattle.std.proofs.lemmas.Map.Lookups.{CmpEqualImpliesEq, exact_unsigned}
-use Rattle.totem_ids.specs.Ranks.{rank_of, id_of, life_of}
-use Rattle.totem_ids.proofs.RankParts.{rank_of_parts}
-use Rattle.totem_ids.specs.contracts.life.ProcOrd.TheImpl as life
+use Rattle.totem_names.specs.Ranks.{rank_of, id_of, life_of}
+use Rattle.totem_names.proofs.RankParts.{rank_of_parts}
+use Rattle.totem_names.specs.contracts.life.ProcOrd.TheImpl as life
 
 both_equal : (a b : Ordering) → ordering_then a b ≡ Equal → (a ≡ Equal) × (b ≡ Equal)
 both_equal Less b e = absurd cc

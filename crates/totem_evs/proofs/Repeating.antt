@@ -1,9 +1,9 @@
 -- An entry whose line repeats, as the next part of a run.
 use Rattle.std.specs.Prelude.{Contains, ◌↔◌, ◌==◌, nat_lt}
 use Rattle.std.proofs.Common.{refl, ◌≡◌, ◌⊎◌, ℕ, List, [], false, inl, inr, Option, Some, Ok, sym, subst, arith}
-use Rattle.totem_ids.specs.Sources.{Seen, Comes}
-use Rattle.totem_ids.specs.declared.version.Version.{Version}
-use Rattle.totem_ids.proofs.Readers.{begins, called}
+use Rattle.totem_names.specs.Sources.{Seen, Comes}
+use Rattle.totem_names.specs.declared.version.Version.{Version}
+use Rattle.totem_names.proofs.Readers.{begins, called}
 use Rattle.totem_evs.specs.declared.entry.Entry.{Entry}
 use Rattle.totem_evs.specs.declared.lines.Line.TheVariants as lines
 use Rattle.totem_evs.specs.declared.part.Part.TheVariants as parts

@@ -1,15 +1,15 @@
 -- Readers of lists: what was read before, and what is still read.
 use Rattle.totem_evs.specs.RunRecord.{RunRecord}
-use Rattle.totem_ids.specs.declared.version.Version.{Version}
-use Rattle.totem_ids.specs.Ranks.{id_of}
-use Rattle.totem_ids.specs.Processes.{process_then}
+use Rattle.totem_names.specs.declared.version.Version.{Version}
+use Rattle.totem_names.specs.Ranks.{id_of}
+use Rattle.totem_names.specs.Processes.{process_then}
 use Rattle.std.specs.Prelude.{nat_le, ◌==◌}
 use Rattle.std.proofs.Common.{◌≡◌, ℕ, suc, ◌+◌, List, [], ◌∷◌, ◌++◌, Bool, true, false, cond, Option, Some, None, Result, Ok, Err, refl, ap, append_assoc, arith}
 use Rattle.std.proofs.lemmas.List.{append-nil}
-use Rattle.totem_ids.specs.declared.fault.TextFault.{TextFault}
-use Rattle.totem_ids.specs.declared.fault.TextFault.TheVariants as faults
-use Rattle.totem_ids.specs.Sources.{Seen, Parsed, Comes, ◌>>=◌}
-use Rattle.totem_ids.proofs.Readers.{gives, same_left}
+use Rattle.totem_names.specs.declared.fault.TextFault.{TextFault}
+use Rattle.totem_names.specs.declared.fault.TextFault.TheVariants as faults
+use Rattle.totem_names.specs.Sources.{Seen, Parsed, Comes, ◌>>=◌}
+use Rattle.totem_names.proofs.Readers.{gives, same_left}
 use Rattle.std.proofs.lemmas.Bool.Decides.{nat_tests}
 use Rattle.totem_evs.specs.declared.entry.Entry.{Entry}
 use Rattle.totem_evs.specs.declared.log.Log.{Log}

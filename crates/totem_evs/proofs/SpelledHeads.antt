@@ -3,14 +3,14 @@ use Rattle.std.specs.Prelude.{nat_le, ◌==◌, ◌&&◌, codes}
 use Rattle.std.proofs.Common.{◌≡◌, ℕ, ◌<◌, inl, inr, List, [], ◌∷◌, ◌++◌, Option, Some, None, Ok, Err, Bool, true, false, cond, refl, sym, ◌∙◌, ap, append_assoc, arith, rules}
 use Rattle.std.proofs.lemmas.Bool.{eqb-true}
 use Rattle.std.proofs.lemmas.Bool.Decides.{nat_tests}
-use Rattle.totem_ids.specs.declared.version.Version.{Version}
-use Rattle.totem_ids.specs.declared.version.Version.TheVariants.{One, Two, Three}
-use Rattle.totem_ids.specs.declared.fault.TextFault.TheVariants as faults
-use Rattle.totem_ids.specs.Sources.{◌>>=◌}
-use Rattle.totem_ids.specs.Numbers.{is_digit, byte_at, word_at}
-use Rattle.totem_ids.specs.Processes.{process_text, process_then, IsProcessIn}
-use Rattle.totem_ids.proofs.Lives.{process_then_is, process_then_again}
-use Rattle.totem_ids.proofs.Spelled.{after, taken, guard_then, guard_else, parsed_is, byte_is, word_is, word_again}
+use Rattle.totem_names.specs.declared.version.Version.{Version}
+use Rattle.totem_names.specs.declared.version.Version.TheVariants.{One, Two, Three}
+use Rattle.totem_names.specs.declared.fault.TextFault.TheVariants as faults
+use Rattle.totem_names.specs.Sources.{◌>>=◌}
+use Rattle.totem_names.specs.Numbers.{is_digit, byte_at, word_at}
+use Rattle.totem_names.specs.Processes.{process_text, process_then, IsProcessIn}
+use Rattle.totem_names.proofs.Lives.{process_then_is, process_then_again}
+use Rattle.totem_names.proofs.Spelled.{after, taken, guard_then, guard_else, parsed_is, byte_is, word_is, word_again}
 use Rattle.totem_evs.specs.RunText.{line, version_digit}
 use Rattle.totem_evs.specs.Heads.{Words, HasVersion, first_line, proc_at, begin_at, end_at, head_at, header_end, header_at}
 use Rattle.totem_evs.proofs.SpelledLine.{not_within}

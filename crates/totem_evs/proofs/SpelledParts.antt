@@ -1,10 +1,10 @@
 -- What is read as a part is spelled as that part, and so are all parts that are read one after the other.
-use Rattle.totem_ids.specs.declared.version.Version.{Version}
-use Rattle.totem_ids.specs.Processes.{process_text}
+use Rattle.totem_names.specs.declared.version.Version.{Version}
+use Rattle.totem_names.specs.Processes.{process_text}
 use Rattle.std.specs.Prelude.{nat_lt, ◌==◌, codes}
 use Rattle.std.specs.List.{flat_map}
 use Rattle.std.proofs.Common.{◌≡◌, ℕ, List, [], ◌∷◌, ◌++◌, Bool, Option, Some, None, Ok, refl, sym, ap, ◌∙◌, append_assoc}
-use Rattle.totem_ids.proofs.Spelled.{after, parsed_is}
+use Rattle.totem_names.proofs.Spelled.{after, parsed_is}
 use Rattle.totem_evs.specs.declared.lines.Line.{Line}
 use Rattle.totem_evs.specs.declared.lines.Line.TheVariants as lines
 use Rattle.totem_evs.specs.declared.part.Part.{Part}

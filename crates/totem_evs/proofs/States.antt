@@ -1,6 +1,6 @@
 -- The state of a reader of parts, part after part.
 use Rattle.std.specs.Prelude.{Contains, ◌↔◌, ◌==◌}
-use Rattle.totem_ids.specs.declared.version.Version.{Version}
+use Rattle.totem_names.specs.declared.version.Version.{Version}
 use Rattle.std.specs.Option.{ForSome}
 use Rattle.std.proofs.Common.{◌≡◌, ◌≢◌, ◌⊎◌, ◌+◌, ◌≤◌, ℕ, List, [], ◌∷◌, ◌++◌, false, Option, Some, None, refl, sym, arith}
 use Rattle.std.proofs.lemmas.List.{append-nil, length_push}

@@ -1,16 +1,16 @@
 -- The result of a run's grammar doesn't change with what follows.
-use Rattle.totem_ids.specs.Ranks.{id_of}
-use Rattle.totem_ids.specs.declared.version.Version.{Version}
-use Rattle.totem_ids.specs.declared.version.Version.TheVariants.{One, Two, Three}
-use Rattle.totem_ids.proofs.Lives.{process_then_steady}
+use Rattle.totem_names.specs.Ranks.{id_of}
+use Rattle.totem_names.specs.declared.version.Version.{Version}
+use Rattle.totem_names.specs.declared.version.Version.TheVariants.{One, Two, Three}
+use Rattle.totem_names.proofs.Lives.{process_then_steady}
 use Rattle.std.specs.Prelude.{◌==◌}
 use Rattle.std.proofs.Common.{◌≡◌, ℕ, zero, suc, List, [], ◌∷◌, Bool, true, false, Option, Some, None, Ok, Err, refl}
-use Rattle.totem_ids.specs.declared.fault.TextFault.{TextFault}
-use Rattle.totem_ids.specs.declared.fault.TextFault.TheVariants as faults
-use Rattle.totem_ids.specs.Sources.{Parsed, Steady, FirstBreak, is_short, ◌>>=◌}
-use Rattle.totem_ids.specs.Numbers.{word_at}
-use Rattle.totem_ids.proofs.ServiceSpelling.{service_steady}
-use Rattle.totem_ids.proofs.Steady.{gives_steady, fault_steady, bind_steady, cond_steady, byte_steady, word_steady, conf_steady, message_steady, first_break}
+use Rattle.totem_names.specs.declared.fault.TextFault.{TextFault}
+use Rattle.totem_names.specs.declared.fault.TextFault.TheVariants as faults
+use Rattle.totem_names.specs.Sources.{Parsed, Steady, FirstBreak, is_short, ◌>>=◌}
+use Rattle.totem_names.specs.Numbers.{word_at}
+use Rattle.totem_names.proofs.ServiceSpelling.{service_steady}
+use Rattle.totem_names.proofs.Steady.{gives_steady, fault_steady, bind_steady, cond_steady, byte_steady, word_steady, conf_steady, message_steady, first_break}
 use Rattle.totem_evs.specs.declared.entry.Entry.{Entry}
 use Rattle.totem_evs.specs.declared.ending.Ending.{Ending}
 use Rattle.totem_evs.specs.declared.lines.Line.{Line}

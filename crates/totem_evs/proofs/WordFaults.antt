@@ -1,9 +1,9 @@
 -- Word is the fault where no other one has its place.
 use Rattle.std.specs.Prelude.{◌↔◌}
 use Rattle.std.proofs.Common.{◌≡◌, List, ℕ, Err, false, refl, sym, ap, ◌∙◌}
-use Rattle.totem_ids.specs.declared.fault.TextFault.{TextFault}
-use Rattle.totem_ids.specs.declared.fault.TextFault.TheVariants as faults
-use Rattle.totem_ids.specs.Sources.{Parsed, is_short}
+use Rattle.totem_names.specs.declared.fault.TextFault.{TextFault}
+use Rattle.totem_names.specs.declared.fault.TextFault.TheVariants as faults
+use Rattle.totem_names.specs.Sources.{Parsed, is_short}
 use Rattle.totem_evs.specs.RunGrammar.{run_at}
 use Rattle.totem_evs.specs.TextFaults.{HasNoOther}
 use Rattle.totem_evs.proofs.OnlyFaults.{fault_only}

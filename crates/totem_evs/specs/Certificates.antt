@@ -1,8 +1,8 @@
 -- A certificate: numbers for the events of a run (docs/SPECIFICATIONS.md, "Certificates").
 use Rattle.std.specs.Prelude.{◌≡◌, ◌⊎◌, ℕ, zero, suc, ◌<◌, List, [], ◌∷◌, length, map, All, slice_get, Option, Some, None, ◌==◌, if◌then◌else◌}
-use Rattle.totem_ids.specs.declared.conf.ConfId.{ConfId}
-use Rattle.totem_ids.specs.declared.message.MsgId.{MsgId}
-use Rattle.totem_ids.specs.declared.place.Place.{Place}
+use Rattle.totem_names.specs.declared.conf.ConfId.{ConfId}
+use Rattle.totem_names.specs.declared.message.MsgId.{MsgId}
+use Rattle.totem_names.specs.declared.place.Place.{Place}
 use Rattle.totem_evs.specs.declared.log.Log.{Log}
 use Rattle.totem_evs.specs.Events.{IsEvent, IsBefore}
 use Rattle.totem_evs.specs.Steps.{SendsAt, DeliversAt, SameClass}

@@ -1,8 +1,8 @@
 -- What it means that events break specification 1 (docs/SPECIFICATIONS.md, "Faults").
 use Rattle.std.specs.Prelude.{◌≢◌, ◌≡◌, ◌⊎◌, ℕ, List, [], ◌∷◌}
-use Rattle.totem_ids.specs.declared.conf.ConfId.{ConfId}
-use Rattle.totem_ids.specs.declared.message.MsgId.{MsgId}
-use Rattle.totem_ids.specs.declared.place.Place.{Place}
+use Rattle.totem_names.specs.declared.conf.ConfId.{ConfId}
+use Rattle.totem_names.specs.declared.message.MsgId.{MsgId}
+use Rattle.totem_names.specs.declared.place.Place.{Place}
 use Rattle.totem_evs.specs.declared.entry.Entry.{Entry}
 use Rattle.totem_evs.specs.declared.log.Log.{Log}
 use Rattle.totem_evs.specs.Events.{Sends, Delivers, IsTransitional, log_of}

@@ -1,12 +1,12 @@
 -- What is in a log, and where (docs/SPECIFICATIONS.md, "Runs"). Here the entries of a log are counted from 0; a place
 -- counts them from 1.
 use Rattle.std.specs.Prelude.{◌≡◌, ℕ, zero, suc, ◌<◌, List, [], ◌∷◌, Contains, slice_get, Option, Some, None, ◌==◌, if◌then◌else◌}
-use Rattle.totem_ids.specs.declared.conf.ConfId.{ConfId}
-use Rattle.totem_ids.specs.declared.conf.ConfId.TheVariants.{Regular, Transitional}
-use Rattle.totem_ids.specs.declared.message.MsgId.{MsgId}
-use Rattle.totem_ids.specs.declared.place.Place.{Place}
-use Rattle.totem_ids.specs.declared.message.Service.{Service}
-use Rattle.totem_ids.specs.declared.message.Service.TheVariants.{Safe}
+use Rattle.totem_names.specs.declared.conf.ConfId.{ConfId}
+use Rattle.totem_names.specs.declared.conf.ConfId.TheVariants.{Regular, Transitional}
+use Rattle.totem_names.specs.declared.message.MsgId.{MsgId}
+use Rattle.totem_names.specs.declared.place.Place.{Place}
+use Rattle.totem_names.specs.declared.message.Service.{Service}
+use Rattle.totem_names.specs.declared.message.Service.TheVariants.{Safe}
 use Rattle.totem_evs.specs.declared.entry.Entry.{Entry}
 use Rattle.totem_evs.specs.declared.entry.Entry.TheVariants.{Conf, Send, Deliver, Fail}
 use Rattle.totem_evs.specs.declared.log.Log.{Log}

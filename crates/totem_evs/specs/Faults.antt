@@ -1,7 +1,7 @@
 -- What it means that events break a specification: they meet its premise, and its conclusion fails for them
 -- (docs/SPECIFICATIONS.md, "Faults").
 use Rattle.std.specs.Prelude.{List}
-use Rattle.totem_ids.specs.declared.place.Place.{Place}
+use Rattle.totem_names.specs.declared.place.Place.{Place}
 use Rattle.totem_evs.specs.declared.log.Log.{Log}
 use Rattle.totem_evs.specs.declared.spec.SpecNo.{SpecNo}
 use Rattle.totem_evs.specs.declared.spec.SpecNo.TheVariants as spec

@@ -1,9 +1,9 @@
 -- Where the faults of a first line and of the beginning of a record are (docs/SPECIFICATIONS.md, "Run text" and
 -- "Certificate text").
 use Rattle.std.specs.Prelude.{◌≡◌, ◌≢◌, ℕ, ◌≤◌, ◌⊎◌, List, [], ◌∷◌, ◌++◌, Bool, false}
-use Rattle.totem_ids.specs.Numbers.{is_digit}
-use Rattle.totem_ids.specs.declared.version.Version.{Version}
-use Rattle.totem_ids.specs.Processes.{process_text, IsProcessIn}
+use Rattle.totem_names.specs.Numbers.{is_digit}
+use Rattle.totem_names.specs.declared.version.Version.{Version}
+use Rattle.totem_names.specs.Processes.{process_text, IsProcessIn}
 use Rattle.totem_evs.specs.RunText.{line, version_digit}
 use Rattle.totem_evs.specs.Heads.{Words, HasVersion}
 

@@ -2,12 +2,12 @@
 -- ascending order of their processes, each begun by a word and its process, and a last line (docs/SPECIFICATIONS.md, "Run text" and
 -- "Certificate text").
 use Rattle.std.specs.Prelude.{◌≡◌, ℕ, zero, suc, List, [], ◌∷◌, ◌++◌, codes, Option, Some, None, Ok, Err, Bool, true, ◌&&◌, nat_le, ◌==◌, if◌then◌else◌}
-use Rattle.totem_ids.specs.declared.fault.TextFault.TheVariants as faults
-use Rattle.totem_ids.specs.Sources.{Parsed, ◌>>=◌}
-use Rattle.totem_ids.specs.Numbers.{byte_at, word_at}
-use Rattle.totem_ids.specs.declared.version.Version.{Version}
-use Rattle.totem_ids.specs.declared.version.Version.TheVariants.{One, Two, Three}
-use Rattle.totem_ids.specs.Processes.{process_then}
+use Rattle.totem_names.specs.declared.fault.TextFault.TheVariants as faults
+use Rattle.totem_names.specs.Sources.{Parsed, ◌>>=◌}
+use Rattle.totem_names.specs.Numbers.{byte_at, word_at}
+use Rattle.totem_names.specs.declared.version.Version.{Version}
+use Rattle.totem_names.specs.declared.version.Version.TheVariants.{One, Two, Three}
+use Rattle.totem_names.specs.Processes.{process_then}
 use Rattle.totem_evs.specs.RunText.{line, version_digit}
 
 -- what differs: the words of the first line before its version; whether there is a third version; and in the line that

@@ -1,6 +1,6 @@
 -- Laws of the definitions (docs/SPECIFICATIONS.md, "What is proved of the definitions").
 use Rattle.std.specs.Prelude.{List}
-use Rattle.totem_ids.specs.declared.place.Place.{Place}
+use Rattle.totem_names.specs.declared.place.Place.{Place}
 use Rattle.totem_evs.specs.declared.log.Log.{Log}
 use Rattle.totem_evs.specs.declared.spec.SpecNo.{SpecNo}
 use Rattle.totem_evs.specs.Delivery.{NoCycle, LogsAreOrdered}

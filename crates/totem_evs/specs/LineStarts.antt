@@ -1,11 +1,11 @@
 -- What the line of a send or a delivery has before the number of its message (docs/SPECIFICATIONS.md, "Run text").
 use Rattle.std.specs.Prelude.{List, [], ℕ, codes, Ok, Err, Bool, false, ◌≡◌, ◌≤◌, ◌==◌, if◌then◌else◌, length, take}
-use Rattle.totem_ids.specs.declared.fault.TextFault.TheVariants as faults
-use Rattle.totem_ids.specs.declared.version.Version.{Version}
-use Rattle.totem_ids.specs.Sources.{Parsed, Settles, ◌>>=◌}
-use Rattle.totem_ids.specs.Numbers.{byte_at, word_at}
-use Rattle.totem_ids.specs.Parsers.{conf_at, ring_at}
-use Rattle.totem_ids.specs.Services.{service_at}
+use Rattle.totem_names.specs.declared.fault.TextFault.TheVariants as faults
+use Rattle.totem_names.specs.declared.version.Version.{Version}
+use Rattle.totem_names.specs.Sources.{Parsed, Settles, ◌>>=◌}
+use Rattle.totem_names.specs.Numbers.{byte_at, word_at}
+use Rattle.totem_names.specs.Parsers.{conf_at, ring_at}
+use Rattle.totem_names.specs.Services.{service_at}
 use Rattle.totem_evs.specs.declared.entry.Entry.{Entry}
 use Rattle.totem_evs.specs.declared.entry.Entry.TheVariants as entries
 use Rattle.totem_evs.specs.declared.lines.Line.TheVariants as lines

@@ -1,15 +1,15 @@
 -- Which logs the texts of a version can write (docs/SPECIFICATIONS.md, "Runs").
 use Rattle.std.specs.Prelude.{◌≡◌, ◌≢◌, ℕ, List, All, slice_get, take, Some, false}
-use Rattle.totem_ids.specs.declared.version.Version.{Version}
-use Rattle.totem_ids.specs.declared.version.Version.TheVariants.{One, Two, Three}
-use Rattle.totem_ids.specs.Ranks.{life_of}
-use Rattle.totem_ids.specs.Processes.{writes_lives}
-use Rattle.totem_ids.specs.declared.refused.ListFault.{ListFault}
-use Rattle.totem_ids.specs.declared.refused.ListFault.TheVariants.{Empty, TooMany, NotRising, Life, Silence}
+use Rattle.totem_names.specs.declared.version.Version.{Version}
+use Rattle.totem_names.specs.declared.version.Version.TheVariants.{One, Two, Three}
+use Rattle.totem_names.specs.Ranks.{life_of}
+use Rattle.totem_names.specs.Processes.{writes_lives}
+use Rattle.totem_names.specs.declared.refused.ListFault.{ListFault}
+use Rattle.totem_names.specs.declared.refused.ListFault.TheVariants.{Empty, TooMany, NotRising, Life, Silence}
 use Rattle.totem_evs.specs.declared.ending.Ending.TheVariants.{Quiet}
 use Rattle.totem_evs.specs.Endings.{writes_quiet}
 use Rattle.totem_evs.specs.LogRecord.{LogRecord}
-use Rattle.totem_ids.specs.Lists.{Refuses}
+use Rattle.totem_names.specs.Lists.{Refuses}
 use Rattle.totem_evs.specs.Missing.{members_of}
 use Rattle.totem_evs.specs.Runs.{IsRun, IsBelowLog}
 

@@ -1,8 +1,8 @@
 -- Causal delivery, from pairs in one log (docs/SPECIFICATIONS.md, "5 Causal delivery").
 use Rattle.std.specs.Prelude.{◌⊎◌, ℕ, ◌<◌, List}
-use Rattle.totem_ids.specs.declared.ring.RingId.{RingId}
-use Rattle.totem_ids.specs.declared.conf.ConfId.TheVariants.{Regular}
-use Rattle.totem_ids.specs.declared.message.MsgId.{MsgId}
+use Rattle.totem_names.specs.declared.ring.RingId.{RingId}
+use Rattle.totem_names.specs.declared.conf.ConfId.TheVariants.{Regular}
+use Rattle.totem_names.specs.declared.message.MsgId.{MsgId}
 use Rattle.totem_evs.specs.declared.log.Log.{Log}
 use Rattle.totem_evs.specs.Events.{Sends, Delivers, log_of}
 use Rattle.totem_evs.specs.Following.{DeliversIn}

@@ -1,9 +1,9 @@
 -- Laws of the parts of a run (docs/SPECIFICATIONS.md, "Run text").
-use Rattle.totem_ids.specs.declared.version.Version.{Version}
+use Rattle.totem_names.specs.declared.version.Version.{Version}
 use Rattle.totem_evs.specs.RunRecord.{RunRecord}
 use Rattle.std.specs.Prelude.{◌≡◌, List, ℕ, [], ◌∷◌, ◌++◌, Some, None, Ok, codes}
 use Rattle.std.specs.List.{flat_map}
-use Rattle.totem_ids.specs.Processes.{process_text}
+use Rattle.totem_names.specs.Processes.{process_text}
 use Rattle.totem_evs.specs.declared.log.Log.{Log}
 use Rattle.totem_evs.specs.declared.part.Part.{Part}
 use Rattle.totem_evs.specs.declared.stage.Stage.{Stage}

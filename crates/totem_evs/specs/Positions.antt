@@ -1,7 +1,7 @@
 -- The one certificate of a run: repeatedly, the ready class that holds the least place gets the next number
 -- (docs/SPECIFICATIONS.md, "Positions").
 use Rattle.std.specs.Prelude.{◌≡◌, ℕ, ◌<◌, ◌≤◌, List, Some}
-use Rattle.totem_ids.specs.declared.place.Place.{Place}
+use Rattle.totem_names.specs.declared.place.Place.{Place}
 use Rattle.totem_evs.specs.declared.log.Log.{Log}
 use Rattle.totem_evs.specs.Certificates.{Numbering, number_at, Certified}
 use Rattle.totem_evs.specs.Classes.{WaitsFor, ClassAtMost}

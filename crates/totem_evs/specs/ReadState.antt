@@ -1,5 +1,5 @@
 -- How far a run has been read, and how the next part changes that (docs/SPECIFICATIONS.md, "Run text").
-use Rattle.totem_ids.specs.declared.version.Version.{Version}
+use Rattle.totem_names.specs.declared.version.Version.{Version}
 use Rattle.std.specs.Prelude.{◌≡◌, ℕ, ◌<◌, ◌≤◌, ◌==◌, ◌++◌, ◌↔◌, ◌⊎◌, List, [], ◌∷◌, length, Contains, Option, Some, None, Bool, true, false, nat_lt}
 use Rattle.std.specs.Option.{ForSome}
 use Rattle.totem_evs.specs.declared.ending.Ending.TheVariants.{Standing, Failed, Quiet}
@@ -7,8 +7,8 @@ use Rattle.totem_evs.specs.declared.part.Part.{Part}
 use Rattle.totem_evs.specs.declared.part.Part.TheVariants as parts
 use Rattle.totem_evs.specs.declared.stage.Stage.{Stage}
 use Rattle.totem_evs.specs.declared.stage.OpenLog.{OpenLog}
-use Rattle.totem_ids.specs.declared.version.Version.TheVariants.{Three}
-use Rattle.totem_ids.specs.Processes.{IsProcessIn}
+use Rattle.totem_names.specs.declared.version.Version.TheVariants.{Three}
+use Rattle.totem_names.specs.Processes.{IsProcessIn}
 use Rattle.totem_evs.specs.Runs.{IsEntry}
 use Rattle.totem_evs.specs.Endings.{writes_quiet}
 use Rattle.totem_evs.specs.Missing.{members_of}

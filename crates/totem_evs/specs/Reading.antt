@@ -1,11 +1,11 @@
 -- What the readers of runs return, and what they leave unread (docs/SPECIFICATIONS.md, "Run text").
-use Rattle.totem_ids.specs.declared.life.WrittenProc.{WrittenProc}
-use Rattle.totem_ids.specs.declared.version.Version.{Version}
+use Rattle.totem_names.specs.declared.life.WrittenProc.{WrittenProc}
+use Rattle.totem_names.specs.declared.version.Version.{Version}
 use Rattle.totem_evs.specs.RunRecord.{RunRecord}
 use Rattle.std.specs.Prelude.{◌≡◌, ℕ, ◌+◌, ◌%◌, ◌^◌, ◌≤◌, List, ◌∷◌, [], Contains, Option, Some, None, Result, Ok, Err}
 use Rattle.std.specs.Io.KnownBytes.{Consumes, IsAtEnd, Keeps}
-use Rattle.totem_ids.specs.declared.fault.TextFault.TheVariants as text
-use Rattle.totem_ids.specs.Sources.{Seen, Parsed, Comes, Breaks, BreaksAt, Stops}
+use Rattle.totem_names.specs.declared.fault.TextFault.TheVariants as text
+use Rattle.totem_names.specs.Sources.{Seen, Parsed, Comes, Breaks, BreaksAt, Stops}
 use Rattle.totem_evs.specs.declared.run.Run.{Run}
 use Rattle.totem_evs.specs.declared.run_fault.RunFault.{RunFault}
 use Rattle.totem_evs.specs.declared.run_fault.RunFault.TheVariants as faults

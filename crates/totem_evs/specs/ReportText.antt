@@ -1,8 +1,8 @@
 -- The lines of a report, without their ends (docs/SPECIFICATIONS.md, "Report text"). How processes are named in it is a parameter.
 use Rattle.std.specs.Prelude.{ℕ, List, ◌++◌, codes, decimal}
 use Rattle.std.specs.List.{flat_map}
-use Rattle.totem_ids.specs.declared.place.Place.{Place}
-use Rattle.totem_ids.specs.Texts.{conf_text, message_text}
+use Rattle.totem_names.specs.declared.place.Place.{Place}
+use Rattle.totem_names.specs.Texts.{conf_text, message_text}
 use Rattle.totem_evs.specs.declared.fault.Fault.{Fault}
 use Rattle.totem_evs.specs.declared.pending.Pending.{Pending}
 use Rattle.totem_evs.specs.declared.pending.Waiting.{Waiting}

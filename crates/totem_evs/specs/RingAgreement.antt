@@ -1,11 +1,11 @@
 -- What specifications 3 to 7 require of one regular configuration c and of what follows it in each log
 -- (docs/SPECIFICATIONS.md, "Passes").
 use Rattle.std.specs.Prelude.{◌⊎◌, ℕ, ◌<◌, List}
-use Rattle.totem_ids.specs.declared.ring.RingId.{RingId}
-use Rattle.totem_ids.specs.declared.conf.ConfId.{ConfId}
-use Rattle.totem_ids.specs.declared.conf.ConfId.TheVariants.{Regular}
-use Rattle.totem_ids.specs.declared.message.MsgId.{MsgId}
-use Rattle.totem_ids.specs.declared.place.Place.{Place}
+use Rattle.totem_names.specs.declared.ring.RingId.{RingId}
+use Rattle.totem_names.specs.declared.conf.ConfId.{ConfId}
+use Rattle.totem_names.specs.declared.conf.ConfId.TheVariants.{Regular}
+use Rattle.totem_names.specs.declared.message.MsgId.{MsgId}
+use Rattle.totem_names.specs.declared.place.Place.{Place}
 use Rattle.totem_evs.specs.declared.log.Log.{Log}
 use Rattle.totem_evs.specs.Events.{IsBefore, ChangesTo, Sends, Delivers, IsSafe, IsMember, log_of}
 use Rattle.totem_evs.specs.Steps.{SendsAt}

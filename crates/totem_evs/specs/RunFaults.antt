@@ -1,9 +1,9 @@
 -- The faults of a run's text, their numbers and their names (docs/SPECIFICATIONS.md, "Run text").
 use Rattle.std.specs.Prelude.{ℕ, List, codes}
-use Rattle.totem_ids.specs.declared.fault.TextFault.{TextFault}
-use Rattle.totem_ids.specs.declared.fault.TextFault.TheVariants as text
-use Rattle.totem_ids.specs.declared.fault.ReadError.{ReadError}
-use Rattle.totem_ids.specs.declared.fault.ReadError.TheVariants as errors
+use Rattle.totem_names.specs.declared.fault.TextFault.{TextFault}
+use Rattle.totem_names.specs.declared.fault.TextFault.TheVariants as text
+use Rattle.totem_names.specs.declared.fault.ReadError.{ReadError}
+use Rattle.totem_names.specs.declared.fault.ReadError.TheVariants as errors
 use Rattle.totem_evs.specs.declared.run_fault.RunFault.{RunFault}
 use Rattle.totem_evs.specs.declared.run_fault.RunFault.TheVariants as faults
 

@@ -2,14 +2,14 @@
 -- (docs/SPECIFICATIONS.md, "Run text").
 use Rattle.totem_evs.specs.RunRecord.{RunRecord}
 use Rattle.std.specs.Prelude.{ℕ, zero, suc, List, [], ◌∷◌, codes, Ok, Err, Bool, true, false, not, ◌&&◌, nat_le, ◌==◌, if◌then◌else◌}
-use Rattle.totem_ids.specs.declared.fault.TextFault.TheVariants as faults
-use Rattle.totem_ids.specs.Sources.{Parsed, ◌>>=◌}
-use Rattle.totem_ids.specs.Numbers.{byte_at, word_at}
-use Rattle.totem_ids.specs.declared.version.Version.{Version}
-use Rattle.totem_ids.specs.Processes.{process_then}
-use Rattle.totem_ids.specs.Ranks.{id_of}
-use Rattle.totem_ids.specs.Parsers.{message_at, conf_at}
-use Rattle.totem_ids.specs.Services.{service_at}
+use Rattle.totem_names.specs.declared.fault.TextFault.TheVariants as faults
+use Rattle.totem_names.specs.Sources.{Parsed, ◌>>=◌}
+use Rattle.totem_names.specs.Numbers.{byte_at, word_at}
+use Rattle.totem_names.specs.declared.version.Version.{Version}
+use Rattle.totem_names.specs.Processes.{process_then}
+use Rattle.totem_names.specs.Ranks.{id_of}
+use Rattle.totem_names.specs.Parsers.{message_at, conf_at}
+use Rattle.totem_names.specs.Services.{service_at}
 use Rattle.totem_evs.specs.declared.entry.Entry.{Entry}
 use Rattle.totem_evs.specs.declared.entry.Entry.TheVariants.{Conf, Send, Deliver, Fail}
 use Rattle.totem_evs.specs.declared.ending.Ending.{Ending}

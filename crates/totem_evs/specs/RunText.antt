@@ -1,12 +1,12 @@
 -- The one spelling of a run (docs/SPECIFICATIONS.md, "Run text"). The spelling of entries and logs takes the spelling of
 -- processes as a parameter.
-use Rattle.totem_ids.specs.declared.version.Version.{Version}
+use Rattle.totem_names.specs.declared.version.Version.{Version}
 use Rattle.totem_evs.specs.RunRecord.{RunRecord}
 use Rattle.std.specs.Prelude.{ℕ, List, [], ◌∷◌, ◌++◌, codes}
 use Rattle.std.specs.List.{flat_map}
-use Rattle.totem_ids.specs.declared.version.Version.TheVariants.{One, Two, Three}
-use Rattle.totem_ids.specs.Processes.{process_text, first_version}
-use Rattle.totem_ids.specs.Texts.{conf_text, message_text, service_text}
+use Rattle.totem_names.specs.declared.version.Version.TheVariants.{One, Two, Three}
+use Rattle.totem_names.specs.Processes.{process_text, first_version}
+use Rattle.totem_names.specs.Texts.{conf_text, message_text, service_text}
 use Rattle.totem_evs.specs.declared.entry.Entry.{Entry}
 use Rattle.totem_evs.specs.declared.entry.Entry.TheVariants.{Conf, Send, Deliver, Fail}
 use Rattle.totem_evs.specs.declared.ending.Ending.{Ending}

@@ -5,10 +5,10 @@ use Rattle.totem_evs.specs.declared.entry.Entry.{Entry}
 use Rattle.totem_evs.specs.declared.entry.Entry.TheVariants.{Conf, Send, Deliver, Fail}
 use Rattle.totem_evs.specs.declared.ending.Ending.{Ending}
 use Rattle.totem_evs.specs.declared.ending.Ending.TheVariants.{Failed}
-use Rattle.totem_ids.specs.declared.version.Version.{Version}
-use Rattle.totem_ids.specs.declared.version.Version.TheVariants.{Three}
-use Rattle.totem_ids.specs.Processes.{IsProcessIn}
-use Rattle.totem_ids.specs.Texts.{IsConf, IsMessage}
+use Rattle.totem_names.specs.declared.version.Version.{Version}
+use Rattle.totem_names.specs.declared.version.Version.TheVariants.{Three}
+use Rattle.totem_names.specs.Processes.{IsProcessIn}
+use Rattle.totem_names.specs.Texts.{IsConf, IsMessage}
 use Rattle.totem_evs.specs.Members.{IsMembersIn}
 use Rattle.totem_evs.specs.LogRecord.{LogRecord}
 use Rattle.totem_evs.specs.Endings.{IsEndingIn}

@@ -1,9 +1,9 @@
 -- Steps between events, and what precedes what (docs/SPECIFICATIONS.md, "Steps and precedence").
 use Rattle.std.specs.Prelude.{◌≡◌, ◌≢◌, ◌⊎◌, List, Some}
-use Rattle.totem_ids.specs.declared.conf.ConfId.{ConfId}
-use Rattle.totem_ids.specs.declared.message.MsgId.{MsgId}
-use Rattle.totem_ids.specs.declared.place.Place.{Place}
-use Rattle.totem_ids.specs.declared.message.Service.{Service}
+use Rattle.totem_names.specs.declared.conf.ConfId.{ConfId}
+use Rattle.totem_names.specs.declared.message.MsgId.{MsgId}
+use Rattle.totem_names.specs.declared.place.Place.{Place}
+use Rattle.totem_names.specs.declared.message.Service.{Service}
 use Rattle.totem_evs.specs.declared.entry.Entry.TheVariants.{Conf, Send, Deliver}
 use Rattle.totem_evs.specs.declared.log.Log.{Log}
 use Rattle.totem_evs.specs.Events.{entry_at, IsEvent, IsBefore}

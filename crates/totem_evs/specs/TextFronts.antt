@@ -1,9 +1,9 @@
 -- Bytes with which the text of a run begins (docs/SPECIFICATIONS.md, "Run text").
 use Rattle.totem_evs.specs.RunRecord.{RunRecord}
 use Rattle.std.specs.Prelude.{◌≡◌, ℕ, ◌<◌, ◌≤◌, List, [], ◌∷◌, ◌++◌, length, All, AllPairs}
-use Rattle.totem_ids.specs.declared.version.Version.{Version}
-use Rattle.totem_ids.specs.Processes.{IsProcessIn}
-use Rattle.totem_ids.specs.Texts.{IsConf, IsMessage}
+use Rattle.totem_names.specs.declared.version.Version.{Version}
+use Rattle.totem_names.specs.Processes.{IsProcessIn}
+use Rattle.totem_names.specs.Texts.{IsConf, IsMessage}
 use Rattle.totem_evs.specs.declared.entry.Entry.{Entry}
 use Rattle.totem_evs.specs.declared.entry.Entry.TheVariants.{Conf, Send, Deliver, Fail}
 use Rattle.totem_evs.specs.declared.log.Log.{Log}

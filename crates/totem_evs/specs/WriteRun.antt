@@ -1,6 +1,6 @@
 -- The result of writing a run, and what the sink then holds (docs/SPECIFICATIONS.md, "Run text").
 use Rattle.std.specs.Prelude.{◌≡◌, ◌+◌, ◌%◌, ◌^◌, List, ℕ, Result, Ok, Err}
-use Rattle.totem_ids.specs.Writing.{Held, Wrote}
+use Rattle.totem_names.specs.Writing.{Held, Wrote}
 use Rattle.totem_evs.specs.declared.writing.WriteFault.{WriteFault}
 use Rattle.totem_evs.specs.declared.writing.WriteFault.TheVariants as faults
 

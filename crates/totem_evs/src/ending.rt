@@ -1,7 +1,7 @@
 ghost use Rattle.std.specs.Prelude.{◌≡◌};
 ghost use Rattle.totem_evs.specs.Endings.{writes_quiet};
 
-use totem_ids::Version;
+use totem_names::Version;
 
 /// How a log ends.
 #[derive(Clone, Copy, Debug, PartialEq, Eq, PartialOrd, Ord, Hash)]

@@ -1,12 +1,12 @@
 ghost use Rattle.std.specs.Prelude.{◌≡◌, ◌≢◌, ◌↔◌, IsTrue, IfOk, MatchResult};
-ghost use Rattle.totem_ids.specs.Lists.{Refuses, Anyhow};
+ghost use Rattle.totem_names.specs.Lists.{Refuses, Anyhow};
 ghost use Rattle.totem_evs.specs.Runs.{IsEntries, EndsInFail, IsClosedBy};
 
 use crate::ending::Ending;
 use crate::entry::Entry;
 use std::alloc::{AllocError, Global};
 use std::marker::Model;
-use totem_ids::{Refused, are_same, bounded, copied};
+use totem_names::{Refused, are_same, bounded, copied};
 
 /// How many entries a log may have at most.
 const MOST: usize = 1_000_000;

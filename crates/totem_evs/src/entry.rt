@@ -5,7 +5,7 @@ ghost use Rattle.totem_evs.specs.Runs.{IsEntry, IsFailure};
 
 use crate::members::Members;
 use std::alloc::{AllocError, Global};
-use totem_ids::{ConfId, Listed, MsgId, Proc, Service, conf_fits, message_fits};
+use totem_names::{ConfId, Listed, MsgId, Proc, Service, conf_fits, message_fits};
 
 /// An entry of a log: one event of a process, as the process recorded it.
 #[derive(Debug, Drop)]

@@ -3,7 +3,7 @@ ghost use Rattle.std.specs.Prelude.{◌≡◌, ◌↔◌, IsTrue, IfOk};
 use crate::spec::SpecNo;
 use std::alloc::{AllocError, Global};
 use std::marker::Model;
-use totem_ids::{Place, are_same};
+use totem_names::{Place, are_same};
 
 /// The places of the events that show a fault, in the order that docs/SPECIFICATIONS.md, "Faults", gives them.
 #[derive(Debug, Drop)]
@@ -13,7 +13,7 @@ pub struct Places {
 
 impl Model for Places {
     ghost use Rattle.std.specs.Prelude.{List};
-    ghost use Rattle.totem_ids.specs.declared.place.Place.{Place};
+    ghost use Rattle.totem_names.specs.declared.place.Place.{Place};
 
     ghost Value = { List Place };
 

@@ -1,11 +1,11 @@
 //! Readers of the lines between records. Each leaves unread what follows.
 ghost use Rattle.std.specs.Prelude.{◌≡◌, ◌≢◌, ◌&&◌, ◌==◌, ℕ, ◌<◌, IfOk, IfErr, Bool};
-ghost use Rattle.totem_ids.specs.Sources.{Reads, seen};
+ghost use Rattle.totem_names.specs.Sources.{Reads, seen};
 ghost use Rattle.totem_evs.specs.NextLines.{MayBegin};
 ghost use Rattle.totem_evs.specs.Heads.{header_end, header_at, proc_at, begin_at, end_at, head_at};
 
 use crate::form::Form;
-use totem_ids::{Proc, ReadError, Source, TextFault, Version, next, read_process, word};
+use totem_names::{Proc, ReadError, Source, TextFault, Version, next, read_process, word};
 
 #[tactic(auto, using(crate::proofs::ReaderSteps::reader_steps), unfolding(crate::specs::Heads::header_end))]
 fn read_header_end<S: Source>(source: &mut S, version: Version) -> Result<Version, ReadError>

@@ -13,7 +13,7 @@
 //!   2.2, causal delivery between the sends and deliveries of each log gives it over chains of any length (`chains_are_fine`).
 //! - `examples` tries each definition on small runs, as laws.
 //!
-//! The nodes, which know nothing of the audit, write their logs with these types: this crate and totem_ids are all that both share.
+//! The nodes, which know nothing of the audit, write their logs with these types: this crate and totem_names are all that both share.
 #![tactic(auto)]
 
 mod display;
@@ -68,8 +68,11 @@ pub use run_fault::RunFault;
 pub use run_reader::{Next, RunReader};
 pub use spec::SpecNo;
 pub use text_laws::{
-    a_fault_is_no_text, cut_text_goes_on, fault_byte_is_first, fault_is_first,
-    no_text_begins_another, read_is_spelled, spelled_is_read,
+    a_fault_is_no_text, a_fault_is_of_a_part, cut_text_goes_on, end_is_of_a_closing_word,
+    fault_byte_is_first, fault_is_first, header_is_in_the_first_line,
+    members_is_of_a_member_that_does_not_rise, no_text_begins_another, number_is_of_a_number,
+    order_is_of_a_log_that_does_not_rise, read_is_spelled, spelled_is_read,
+    too_many_is_past_a_limit, word_is_the_rest,
 };
-pub use totem_ids::{ListFault, Refused};
+pub use totem_names::{ListFault, Refused};
 pub use writing::{WriteFault, put_header, write_run};

@@ -1,6 +1,6 @@
 //! Readers of the lines of a log. Each leaves unread what follows the line.
 ghost use Rattle.std.specs.Prelude.{IfOk, Bool, ◌==◌, nat_lt};
-ghost use Rattle.totem_ids.specs.Sources.{Reads, seen};
+ghost use Rattle.totem_names.specs.Sources.{Reads, seen};
 ghost use Rattle.totem_evs.specs.Endings.{writes_quiet};
 ghost use Rattle.totem_evs.specs.NextLines.{FollowsIn};
 ghost use Rattle.totem_evs.specs.RunGrammar.{members_at, change_at, send_at, delivery_at, open_at, quiet_at, failed_at, fail_at, ail_at, failure_at, line_at};
@@ -11,7 +11,7 @@ use crate::members::Members;
 use crate::repeats::Repeats;
 use crate::stage::OpenLog;
 use std::alloc::Global;
-use totem_ids::{
+use totem_names::{
     ReadError, Source, TextFault, Version, life_fits, next, read_conf, read_message, read_process,
     read_service, word,
 };

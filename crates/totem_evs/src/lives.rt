@@ -1,9 +1,9 @@
 //! Which logs the texts of a version can write.
 ghost use Rattle.std.specs.Prelude.{◌≡◌, ◌↔◌, IsTrue, IfSome, IfNone, All, false};
-ghost use Rattle.totem_ids.specs.Ranks.{life_of};
+ghost use Rattle.totem_names.specs.Ranks.{life_of};
 ghost use Rattle.totem_evs.specs.Missing.{members_of};
 ghost use Rattle.totem_evs.specs.Runs.{IsRun, IsRunIn};
-ghost use Rattle.totem_ids.specs.Processes.{writes_lives};
+ghost use Rattle.totem_names.specs.Processes.{writes_lives};
 ghost use Rattle.totem_evs.specs.declared.ending.Ending.TheVariants.{Quiet};
 ghost use Rattle.totem_evs.specs.Endings.{writes_quiet};
 ghost use Rattle.totem_evs.specs.Lives.{AreFirst, AreLoud, HasFirstLives, IsFirstVersion, IsUnsaid, IsUnwritten, RefusesRun};
@@ -11,7 +11,7 @@ ghost use Rattle.totem_evs.specs.Lives.{AreFirst, AreLoud, HasFirstLives, IsFirs
 use crate::ending::{Ending, may_be_quiet};
 use crate::entry::Entry;
 use crate::log::Log;
-use totem_ids::{ListFault, Proc, Version};
+use totem_names::{ListFault, Proc, Version};
 
 fn are_first(procs: &[Proc]) -> bool
     ensures { IsTrue result ↔ AreFirst procs.now }

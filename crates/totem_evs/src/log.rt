@@ -5,7 +5,7 @@ use crate::ending::Ending;
 use crate::entries::Entries;
 use std::alloc::{AllocError, Global};
 use std::marker::Model;
-use totem_ids::{Keyed, Listed, Proc, Version, life_fits};
+use totem_names::{Keyed, Listed, Proc, Version, life_fits};
 
 /// A log: what one process recorded. It is failed if and only if its last entry is a failure. Any other log is open, or quiet if
 /// nothing more was to come.

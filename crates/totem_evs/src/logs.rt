@@ -1,11 +1,11 @@
 ghost use Rattle.std.specs.Prelude.{◌≡◌, ◌↔◌, IsTrue, IfOk, MatchResult};
-ghost use Rattle.totem_ids.specs.Lists.{Refuses};
+ghost use Rattle.totem_names.specs.Lists.{Refuses};
 ghost use Rattle.totem_evs.specs.Runs.{IsRun, IsBelowLog};
 
 use crate::log::Log;
 use std::alloc::{AllocError, Global};
 use std::marker::Model;
-use totem_ids::{Refused, are_same, copied, rising};
+use totem_names::{Refused, are_same, copied, rising};
 
 /// How many logs a run may have at most.
 const MOST: usize = 32;

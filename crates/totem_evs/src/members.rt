@@ -1,12 +1,12 @@
 ghost use Rattle.std.specs.Prelude.{◌≡◌, ◌↔◌, IsTrue, Contains, IfOk, MatchResult};
 ghost use Rattle.std.specs.Arc.{arc_value};
-ghost use Rattle.totem_ids.specs.Lists.{Refuses};
+ghost use Rattle.totem_names.specs.Lists.{Refuses};
 ghost use Rattle.totem_evs.specs.Members.{IsMembers, IsBelow};
 
 use std::alloc::AllocError;
 use std::marker::Model;
 use std::sync::Arc;
-use totem_ids::{Proc, Refused, are_same, rising_fault};
+use totem_names::{Proc, Refused, are_same, rising_fault};
 
 /// How many members a configuration may have at most.
 const MOST: usize = 32;

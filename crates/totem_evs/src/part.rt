@@ -3,7 +3,7 @@ ghost use Rattle.std.specs.Prelude.{◌≡◌, ◌↔◌, IsTrue, IfOk};
 use crate::ending::Ending;
 use crate::entry::Entry;
 use std::alloc::{AllocError, Global};
-use totem_ids::{Proc, Version, life_fits};
+use totem_names::{Proc, Version, life_fits};
 
 /// A part of a run. The text of a run has its parts one after the other.
 #[derive(Debug, Drop)]

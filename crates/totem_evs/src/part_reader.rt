@@ -1,7 +1,7 @@
 //! Reads the parts of a run, one after the other.
 ghost use Rattle.std.specs.Prelude.{◌≡◌, ◌==◌, Some, IfNone, IfOk, IfSome, OnOk, nat_lt};
 ghost use Rattle.std.specs.Io.KnownBytes.{Keeps};
-ghost use Rattle.totem_ids.specs.Sources.{Reads, seen};
+ghost use Rattle.totem_names.specs.Sources.{Reads, seen};
 ghost use Rattle.totem_evs.specs.Endings.{writes_quiet};
 ghost use Rattle.totem_evs.specs.NextLines.{FollowsIn};
 ghost use Rattle.totem_evs.specs.RunGrammar.{line_at};
@@ -20,7 +20,7 @@ use crate::run_fault::RunFault;
 use crate::stage::{OpenLog, Stage};
 use std::alloc::{AllocError, Global};
 use std::marker::Model;
-use totem_ids::{Proc, ReadError, Source, Version};
+use totem_names::{Proc, ReadError, Source, Version};
 
 /// How many logs a run may have at most.
 const MOST_LOGS: u32 = 32;

@@ -1,4 +1,4 @@
-use totem_ids::{ConfId, MsgId, Proc};
+use totem_names::{ConfId, MsgId, Proc};
 
 /// A process that has not delivered a message and is open where the message was sent: it may still deliver it.
 #[derive(Clone, Copy, Debug, PartialEq, Eq, PartialOrd, Ord, Hash)]

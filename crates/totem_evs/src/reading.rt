@@ -1,6 +1,6 @@
 //! Readers of whole runs, which gather logs from parts.
 ghost use Rattle.std.specs.Prelude.{◌≡◌, OnOk};
-ghost use Rattle.totem_ids.specs.Sources.{seen};
+ghost use Rattle.totem_names.specs.Sources.{seen};
 ghost use Rattle.totem_evs.specs.Gathered.{none_gathered, gathered, MayGather};
 ghost use Rattle.totem_evs.specs.declared.part.Part.TheVariants as parts;
 ghost use Rattle.totem_evs.specs.Reading.{ReadsRun, ReadsEnd};
@@ -19,7 +19,7 @@ use crate::run_fault::RunFault;
 use std::alloc::{AllocError, Global};
 use std::marker::Model;
 use std::mem;
-use totem_ids::{Proc, Source, Version};
+use totem_names::{Proc, Source, Version};
 
 /// The logs that have ended, and the process and entries of the log that has not.
 #[derive(Drop)]

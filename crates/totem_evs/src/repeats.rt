@@ -2,8 +2,8 @@
 //! read at once, by what they begin with. Changes mostly repeat the members of the change before, and then share one list with it.
 ghost use Rattle.std.specs.Prelude.{◌≡◌, ◌<◌, ◌≤◌, [], Ok, Bool, IfNone, IfOk, IfSome, false, length, take};
 ghost use Rattle.std.specs.Io.KnownBytes.{Keeps};
-ghost use Rattle.totem_ids.specs.Sources.{Comes, Reads, Settles, seen};
-ghost use Rattle.totem_ids.specs.declared.version.Version.{Version};
+ghost use Rattle.totem_names.specs.Sources.{Comes, Reads, Settles, seen};
+ghost use Rattle.totem_names.specs.declared.version.Version.{Version};
 ghost use Rattle.totem_evs.specs.declared.lines.Line.TheVariants as lines;
 ghost use Rattle.totem_evs.specs.Members.{IsMembers};
 ghost use Rattle.totem_evs.specs.Missing.{members_of};
@@ -14,7 +14,7 @@ use crate::entry::Entry;
 use crate::members::Members;
 use std::alloc::{AllocError, Global};
 use std::sync::Arc;
-use totem_ids::{
+use totem_names::{
     ConfId, FromRead, MsgId, Proc, ReadError, RingId, Service, Source, TextFault, are_same, next,
     number_within, read_conf, read_ring, read_service, word,
 };

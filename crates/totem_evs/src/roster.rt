@@ -9,7 +9,7 @@ use crate::members::Members;
 use crate::unlogged::Unlogged;
 use std::alloc::{AllocError, Global};
 use std::marker::Model;
-use totem_ids::Proc;
+use totem_names::Proc;
 
 /// The processes whose logs have begun, and the members that have no log yet.
 #[derive(Debug, Drop)]

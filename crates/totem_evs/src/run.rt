@@ -1,5 +1,5 @@
 ghost use Rattle.std.specs.Prelude.{◌≡◌, ◌↔◌, IsTrue, IfOk, MatchResult};
-ghost use Rattle.totem_ids.specs.Lists.{Refuses};
+ghost use Rattle.totem_names.specs.Lists.{Refuses};
 ghost use Rattle.totem_evs.specs.Lives.{RefusesRun, IsFirstVersion};
 ghost use Rattle.totem_evs.specs.Runs.{IsRunIn, IsBelowLog};
 
@@ -8,7 +8,7 @@ use crate::log::Log;
 use crate::logs::Logs;
 use std::alloc::{AllocError, Global};
 use std::marker::Model;
-use totem_ids::{Refused, Version};
+use totem_names::{Refused, Version};
 
 /// A run: the logs that its processes recorded, and the version of its text, 1 to 3. Version 1 writes no lives, so in it
 /// each process has life 1; from version 3 on a log may be quiet.

@@ -5,7 +5,7 @@ ghost use Rattle.totem_evs.specs.RunFaults.{fault_number, fault_name, run_fault}
 
 use std::alloc::{AllocError, AllocFailed};
 use thiserror::Error;
-use totem_ids::{ReadError, TextFault, WrittenProc};
+use totem_names::{ReadError, TextFault, WrittenProc};
 
 /// Why a run could not be read (docs/SPECIFICATIONS.md, "Run text").
 #[derive(Clone, Copy, Debug, PartialEq, Eq, Error)]

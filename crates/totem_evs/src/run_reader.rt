@@ -1,6 +1,6 @@
 //! A run, read part by part.
 ghost use Rattle.std.specs.Prelude.{◌≢◌, IfErr};
-ghost use Rattle.totem_ids.specs.Sources.{seen};
+ghost use Rattle.totem_names.specs.Sources.{seen};
 
 use crate::form::RunText;
 use crate::heads::read_header;
@@ -10,7 +10,7 @@ use crate::run_fault::RunFault;
 use std::alloc::Global;
 use std::fmt;
 use std::marker::Model;
-use totem_ids::Source;
+use totem_names::Source;
 
 /// What `RunReader::next` returns.
 #[derive(Debug, Drop)]
@@ -25,7 +25,6 @@ pub enum Next {
 /// change.
 #[derive(Drop)]
 pub struct RunReader {
-    alloc: Global,
     parts: PartReader,
 }
 
@@ -51,19 +50,19 @@ impl RunReader {
     {
         let version = read_header::<RunText, S>(source)?;
         let parts = PartReader::new(alloc, version);
-        Ok(RunReader { alloc, parts })
+        Ok(RunReader { parts })
     }
 
     /// Reads the next part, and returns it with the reader of what follows it. A fault consumes the reader. A
     /// member without a log is found at the end of the run.
-    pub fn next<S: Source>(self, source: &mut S) -> Result<Next, RunFault>
+    pub fn next<S: Source>(self, alloc: Global, source: &mut S) -> Result<Next, RunFault>
         ensures { ReadsNext (seen S.remaining S.failures source.old)
             (seen S.remaining S.failures source.new) self result }
     {
-        let RunReader { alloc, mut parts } = self;
+        let RunReader { mut parts } = self;
         match parts.next(alloc, source)? {
             None => Ok(Next::End),
-            Some(part) => Ok(Next::Part(part, RunReader { alloc, parts })),
+            Some(part) => Ok(Next::Part(part, RunReader { parts })),
         }
     }
 }

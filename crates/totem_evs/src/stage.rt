@@ -2,7 +2,7 @@
 ghost use Rattle.std.specs.Prelude.{◌≡◌, ◌==◌, ◌≤◌, nat_lt, not};
 
 use crate::entry::Entry;
-use totem_ids::{Proc, Version};
+use totem_names::{Proc, Version};
 
 /// How many entries a log may have at most.
 const MOST_ENTRIES: u32 = 1_000_000;

@@ -1,8 +1,8 @@
 //! Laws of the text of runs, each the contract of a function that does nothing.
 ghost use Rattle.std.specs.Prelude.{◌≡◌, ◌≢◌, ◌↔◌, ℕ, List, ◌++◌, Ok, Err, false};
-ghost use Rattle.totem_ids.specs.declared.fault.TextFault.{TextFault};
-ghost use Rattle.totem_ids.specs.declared.fault.TextFault.TheVariants.{Header, Word, Number, Order, Members, End, Truncated, TooMany};
-ghost use Rattle.totem_ids.specs.Sources.{FirstBreak, is_short};
+ghost use Rattle.totem_names.specs.declared.fault.TextFault.{TextFault};
+ghost use Rattle.totem_names.specs.declared.fault.TextFault.TheVariants.{Header, Word, Number, Order, Members, End, Truncated, TooMany};
+ghost use Rattle.totem_names.specs.Sources.{FirstBreak, is_short};
 ghost use Rattle.totem_evs.specs.RunRecord.{RunRecord};
 ghost use Rattle.totem_evs.specs.RunGrammar.{run_at};
 ghost use Rattle.totem_evs.specs.RunText.{run_text};

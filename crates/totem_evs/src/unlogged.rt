@@ -4,7 +4,7 @@ ghost use Rattle.std.specs.Prelude.{◌≡◌, ◌≢◌, ℕ, ◌≤◌, ◌↔
 use std::alloc::{AllocError, Global};
 use std::collections::BTreeSet;
 use std::marker::Model;
-use totem_ids::Proc;
+use totem_names::Proc;
 
 /// The members that were named and have no log yet.
 #[derive(Debug, Drop)]

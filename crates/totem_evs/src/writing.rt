@@ -1,8 +1,8 @@
 //! Writes the text of a run.
 ghost use Rattle.std.specs.Prelude.{◌≡◌, [], ◌∷◌, ◌++◌, codes};
 ghost use Rattle.std.specs.List.{flat_map};
-ghost use Rattle.totem_ids.specs.Writing.{Writes, held};
-ghost use Rattle.totem_ids.specs.Processes.{process_text};
+ghost use Rattle.totem_names.specs.Writing.{Writes, held};
+ghost use Rattle.totem_names.specs.Processes.{process_text};
 ghost use Rattle.totem_evs.specs.RunText.{line, members_text, entry_text, ending_text, log_text, version_digit, run_text};
 ghost use Rattle.totem_evs.specs.Heads.{first_line};
 ghost use Rattle.totem_evs.specs.WriteRun.{WritesText};
@@ -15,7 +15,7 @@ use crate::members::Members;
 use crate::run::Run;
 use std::alloc::Global;
 use thiserror::Error;
-use totem_ids::{Failed, Pieces, Sink, Version};
+use totem_names::{Failed, Pieces, Sink, Version};
 
 /// Why a text could not be written.
 #[derive(Clone, Copy, Debug, PartialEq, Eq, Error)]
@@ -69,7 +69,7 @@ fn put_members<S: Sink>(
 }
 
 /// Writes an entry without the end of its line.
-#[tactic(auto, using(totem_ids::proofs::Writers::wrote_then, totem_ids::proofs::Writers::wrote_failed))]
+#[tactic(auto, using(totem_names::proofs::Writers::wrote_then, totem_names::proofs::Writers::wrote_failed))]
 fn put_entry<S: Sink>(
     pieces: &mut Pieces,
     sink: &mut S,
@@ -133,7 +133,7 @@ fn put_ending<S: Sink>(pieces: &mut Pieces, sink: &mut S, ending: Ending) -> Res
     }
 }
 
-#[tactic(auto, using(totem_ids::proofs::Writers::wrote_then, totem_ids::proofs::Writers::wrote_failed))]
+#[tactic(auto, using(totem_names::proofs::Writers::wrote_then, totem_names::proofs::Writers::wrote_failed))]
 fn put_log<S: Sink>(
     pieces: &mut Pieces,
     sink: &mut S,
@@ -177,7 +177,7 @@ fn put_version<S: Sink>(pieces: &mut Pieces, sink: &mut S, version: Version) -> 
 }
 
 /// Gathers the first line of a text.
-#[tactic(auto, using(totem_ids::proofs::Writers::wrote_then, totem_ids::proofs::Writers::wrote_failed))]
+#[tactic(auto, using(totem_names::proofs::Writers::wrote_then, totem_names::proofs::Writers::wrote_failed))]
 pub fn put_header<F: Form, S: Sink>(
     pieces: &mut Pieces,
     sink: &mut S,
@@ -190,7 +190,7 @@ pub fn put_header<F: Form, S: Sink>(
     put_version(pieces, sink, version)
 }
 
-#[tactic(auto, using(totem_ids::proofs::Writers::wrote_then, totem_ids::proofs::Writers::wrote_failed))]
+#[tactic(auto, using(totem_names::proofs::Writers::wrote_then, totem_names::proofs::Writers::wrote_failed))]
 fn put_run<S: Sink>(pieces: &mut Pieces, sink: &mut S, run: &Run) -> Result<(), Failed>
     ensures { Writes (held S.contents S.failures pieces.old sink.old)
         (held S.contents S.failures pieces.new sink.new) result (run_text run.now) }

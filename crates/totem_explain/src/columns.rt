@@ -5,7 +5,7 @@ use crate::layout::lay_out;
 use crate::lookup::{entry_of, log_of};
 use std::alloc::{AllocError, Global};
 use totem_evs::{Ending, Log, Run};
-use totem_ids::{Place, Version};
+use totem_names::{Place, Version};
 
 /// How many entries are shown before and after a place.
 const AROUND: u32 = 2;

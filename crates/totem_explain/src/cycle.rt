@@ -3,7 +3,7 @@ use crate::event::place_name;
 use crate::lookup::entry_at;
 use std::alloc::{AllocError, Global};
 use totem_evs::{Entry, Run};
-use totem_ids::Place;
+use totem_names::Place;
 
 /// Returns why the event at one place comes before the one at the next place, or is the same event.
 fn step(run: &Run, from: Place, to: Place) -> &'static str {

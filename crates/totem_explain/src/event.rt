@@ -1,12 +1,12 @@
 //! The text of a log's entry, as its line and as a sentence.
 ghost use Rattle.std.specs.Prelude.{◌≡◌, IfOk};
 ghost use Rattle.std.specs.String.{string_bytes};
-ghost use Rattle.totem_ids.specs.Processes.{process_text};
+ghost use Rattle.totem_names.specs.Processes.{process_text};
 ghost use Rattle.totem_evs.specs.RunText.{entry_text, members_text};
 
 use std::alloc::{AllocError, Global};
 use totem_evs::Entry;
-use totem_ids::{Place, Proc, Service, Version};
+use totem_names::{Place, Proc, Service, Version};
 
 /// Returns a place as texts of this version write it, as in `2@5`.
 pub fn place_name(alloc: Global, version: Version, place: Place) -> Result<String, AllocError> {

@@ -3,7 +3,7 @@ use crate::event::place_name;
 use crate::lookup::{change_behind, change_in, log_of};
 use std::alloc::{AllocError, Global};
 use totem_evs::{Ending, Log, Run};
-use totem_ids::{ConfId, Place, Proc, Version};
+use totem_names::{ConfId, Place, Proc, Version};
 
 /// What happened to a process in a configuration and in what follows it.
 #[derive(Clone, Copy, PartialEq, Eq)]

@@ -1,7 +1,7 @@
 //! What is shown of a log.
 use std::alloc::{AllocError, Global};
 use totem_evs::{Ending, Entry, Log};
-use totem_ids::{ConfId, MsgId, Place, Proc};
+use totem_names::{ConfId, MsgId, Place, Proc};
 
 /// What a spot of a lane shows.
 #[derive(Clone, Copy, Debug, PartialEq, Eq)]

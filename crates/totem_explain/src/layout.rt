@@ -2,7 +2,7 @@
 use crate::lane::{Lane, Spot};
 use std::alloc::{AllocError, Global};
 use std::collections::BTreeSet;
-use totem_ids::MsgId;
+use totem_names::MsgId;
 
 /// The messages whose sends are shown, and those whose sends have got their slots.
 #[derive(Drop)]

@@ -1,6 +1,6 @@
 //! Searches in a run. Each one reads a log from its first entry on.
 use totem_evs::{Entry, Log, Run};
-use totem_ids::{ConfId, MsgId, Place, Proc};
+use totem_names::{ConfId, MsgId, Place, Proc};
 
 /// Returns the log of a process, or `None` if it has none.
 pub fn log_of<'r>(run: &'r Run, proc: Proc) -> Option<&'r Log> {

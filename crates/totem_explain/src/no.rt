@@ -9,7 +9,7 @@ use crate::reason::reason;
 use crate::rule::rule_of;
 use std::alloc::{AllocError, Global};
 use totem_evs::{Fault, Run, SpecNo};
-use totem_ids::Place;
+use totem_names::Place;
 
 /// A fault and its explanation, which consists of whole lines.
 #[derive(Debug, Drop)]

@@ -3,7 +3,7 @@ use crate::event::place_name;
 use crate::lookup::{change_before, change_behind, change_in, entry_at, log_of, place_of};
 use std::alloc::{AllocError, Global};
 use totem_evs::{Ending, Entry, Log, Run};
-use totem_ids::{ConfId, Place, Proc, Version};
+use totem_names::{ConfId, Place, Proc, Version};
 
 /// Returns the place at which a log first fails, or `None` if it does not.
 fn failure_in(log: &Log) -> Option<Place> {

@@ -7,7 +7,7 @@ use crate::quiet_end::ended_alone;
 use crate::unsent::unsent;
 use std::alloc::{AllocError, Global};
 use totem_evs::{Entry, Fault, Run, SpecNo};
-use totem_ids::{ConfId, MsgId, Place, Proc};
+use totem_names::{ConfId, MsgId, Place, Proc};
 
 /// Returns the message that the entry at a place sends or delivers, or `None` if it does neither.
 fn message_at(run: &Run, place: Place) -> Option<MsgId> {

@@ -1,7 +1,7 @@
 //! A text that could not be read, shown at the place where it is refused, with what is expected there (docs/SPECIFICATIONS.md, "Run text").
 use std::alloc::{AllocError, Global};
 use totem_evs::RunFault;
-use totem_ids::TextPlace;
+use totem_names::TextPlace;
 
 /// How many bytes of a line are shown before the refused one.
 const BEFORE: usize = 72;

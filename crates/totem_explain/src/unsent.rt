@@ -3,7 +3,7 @@ use crate::event::place_name;
 use crate::lookup::{change_before, change_in, log_of, place_of, send_in};
 use std::alloc::{AllocError, Global};
 use totem_evs::{Ending, Log, Run};
-use totem_ids::{ConfId, MsgId, Place};
+use totem_names::{ConfId, MsgId, Place};
 
 /// Adds a line for each log that sends the message, with the place.
 fn push_sends(

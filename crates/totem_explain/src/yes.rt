@@ -3,7 +3,7 @@ use crate::counts::summary;
 use crate::fate::fate_of;
 use std::alloc::{AllocError, Global};
 use totem_evs::{Pending, Run, Waiting};
-use totem_ids::{MsgId, Version};
+use totem_names::{MsgId, Version};
 
 /// Pending deliveries of one process, of the messages of one ring.
 #[derive(Clone, Copy, PartialEq, Eq)]

@@ -1,8 +1,8 @@
 -- All changes to regular configurations are gathered, each in one place.
 use Rattle.std.proofs.Common.{◌≡◌, inl, inr, ℕ, ◌<◌, ◌≤◌, List, length, slice_get, Some, refl, sym, subst, arith}
 use Rattle.std.proofs.lemmas.Option.{slice_get_within}
-use Rattle.totem_ids.specs.declared.ring.RingId.{RingId}
-use Rattle.totem_ids.specs.declared.conf.ConfId.TheVariants.{Regular}
+use Rattle.totem_names.specs.declared.ring.RingId.{RingId}
+use Rattle.totem_names.specs.declared.conf.ConfId.TheVariants.{Regular}
 use Rattle.totem_evs.specs.declared.entry.Entry.{Entry}
 use Rattle.totem_evs.specs.declared.entry.Entry.TheVariants.{Conf}
 use Rattle.totem_evs.specs.declared.log.Log.{Log}

@@ -1,6 +1,6 @@
 -- What is pending in a run, according to the traffic of its configurations (docs/SPECIFICATIONS.md, "Pending and waiting").
 use Rattle.std.specs.Prelude.{◌≡◌, ◌⊎◌, ◌↔◌, ℕ, ◌<◌, List, slice_get, Some, Contains}
-use Rattle.totem_ids.specs.declared.ring.RingId.{RingId}
+use Rattle.totem_names.specs.declared.ring.RingId.{RingId}
 use Rattle.totem_evs.specs.declared.log.Log.{Log}
 use Rattle.totem_evs.specs.declared.pending.Pending.{Pending}
 use Rattle.totem_judge_traffic.specs.declared.traffic.Traffic.{Traffic}

@@ -1,6 +1,6 @@
 -- What follows a regular configuration in the stays of logs in it (docs/SPECIFICATIONS.md, "Following").
 use Rattle.std.specs.Prelude.{◌≡◌, ℕ, ◌<◌, List, length, slice_get, Some}
-use Rattle.totem_ids.specs.declared.conf.ConfId.{ConfId}
+use Rattle.totem_names.specs.declared.conf.ConfId.{ConfId}
 use Rattle.totem_evs.specs.declared.log.Log.{Log}
 use Rattle.totem_evs.specs.Events.{ChangesWith}
 use Rattle.totem_judge_traffic.specs.declared.traffic.Following.{Following}

@@ -6,8 +6,8 @@ use crate::gathered::Stay;
 use crate::members::member_logs;
 use std::alloc::{AllocError, Global};
 use totem_evs::{Entry, Log, Members};
-use totem_ids::ConfId;
 use totem_judge_traffic::{Following, LogSet};
+use totem_names::ConfId;
 
 /// The change by which a log moves on from a regular configuration.
 #[derive(Clone, Copy)]

@@ -8,8 +8,8 @@ use std::alloc::{AllocError, Global};
 use std::collections::BTreeMap;
 use totem_certificate::Line;
 use totem_evs::{Entry, Log};
-use totem_ids::{ConfId, MsgId, RingId, Service};
 use totem_judge_traffic::{Got, LogSet, Sent};
+use totem_names::{ConfId, MsgId, RingId, Service};
 
 /// Where a sent message is listed: in which configuration, and at which index.
 #[derive(Clone, Copy)]

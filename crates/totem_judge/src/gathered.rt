@@ -2,8 +2,8 @@
 ghost use Rattle.std.specs.Prelude.{◌<◌};
 
 use std::alloc::{AllocError, Global};
-use totem_ids::{RingId, Service};
 use totem_judge_traffic::{Got, Sent};
+use totem_names::{RingId, Service};
 
 /// A stay: the log changes to the regular configuration at `from` and to what follows that at `turn`, and its entries up to
 /// `end` are those in these two. If nothing follows, `turn` is `end`.

@@ -4,8 +4,8 @@ ghost use Rattle.std.specs.Bool.{OnTrue};
 ghost use Rattle.totem_judge.specs.Members.{HasLog, AllHaveLogs, AreLogsOfMembers, AreMemberLogs};
 
 use totem_evs::{Log, Members};
-use totem_ids::Proc;
 use totem_judge_traffic::{LogSet, MemberLogs};
+use totem_names::Proc;
 
 fn has_log(logs: &[Log], proc: Proc) -> bool
     ensures { OnTrue result (HasLog logs.now proc) }

@@ -8,8 +8,8 @@ use crate::gathered::{Gathered, Stay};
 use crate::stay::is_bounded;
 use totem_certificate::Line;
 use totem_evs::{Entry, Log};
-use totem_ids::{ConfId, MsgId, RingId, Service};
 use totem_judge_traffic::{Got, Sent};
+use totem_names::{ConfId, MsgId, RingId, Service};
 
 /// Returns the index of the next message that this log sends, or the length of the list if there is none.
 fn next_sent(list: &[Sent], from: usize, log: u32) -> usize

@@ -5,7 +5,7 @@ ghost use Rattle.totem_judge.specs.StaysIn.{IsChangeToRing, ChangesOrEnds, IsBou
 
 use crate::gathered::Stay;
 use totem_evs::Entry;
-use totem_ids::{ConfId, RingId};
+use totem_names::{ConfId, RingId};
 
 fn is_change_to(entry: &Entry, ring: &RingId) -> bool
     ensures { IsTrue result ↔ IsChangeToRing entry.now ring.now }

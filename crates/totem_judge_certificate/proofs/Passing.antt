@@ -3,8 +3,8 @@ use Rattle.std.proofs.Common.{◌≡◌, ℕ, ◌<◌, ◌≤◌, ◌⊎◌, inl
 use Rattle.std.specs.BTreeSet.{BTreeSet}
 use Rattle.std.specs.BTreeSet as sorted
 use Rattle.totem_certificate.specs.Keeping.{IsCertificate}
-use Rattle.totem_ids.specs.declared.place.Place.{Place}
-use Rattle.totem_ids.specs.declared.message.MsgId.{MsgId}
+use Rattle.totem_names.specs.declared.place.Place.{Place}
+use Rattle.totem_names.specs.declared.message.MsgId.{MsgId}
 use Rattle.totem_evs.specs.declared.entry.Entry.{Entry}
 use Rattle.totem_evs.specs.declared.entry.Entry.TheVariants.{Conf, Send, Deliver, Fail}
 use Rattle.totem_evs.specs.declared.log.Log.{Log}

@@ -1,6 +1,6 @@
 -- How two entries are related, and what that requires of their numbers (docs/SPECIFICATIONS.md, "Certificates").
 use Rattle.std.specs.Prelude.{◌≡◌, ◌≢◌, ◌⊎◌, ℕ, ◌<◌}
-use Rattle.totem_ids.specs.declared.place.Place.{Place}
+use Rattle.totem_names.specs.declared.place.Place.{Place}
 use Rattle.totem_evs.specs.declared.entry.Entry.{Entry}
 use Rattle.totem_evs.specs.Classes.{AreOfOneClass, AreSendAndDelivery}
 

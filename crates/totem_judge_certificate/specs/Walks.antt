@@ -1,7 +1,7 @@
 -- A walk over a run in the order of its numbers, class after class (docs/SPECIFICATIONS.md, "The checker").
 use Rattle.std.specs.Prelude.{◌≡◌, ◌⊎◌, ℕ, ◌+◌, ◌<◌, ◌≤◌, List, length, slice_get, Option, Some, None, true, false}
 use Rattle.std.specs.BTreeSet.{BTreeSet}
-use Rattle.totem_ids.specs.declared.place.Place.{Place}
+use Rattle.totem_names.specs.declared.place.Place.{Place}
 use Rattle.totem_evs.specs.declared.entry.Entry.{Entry}
 use Rattle.totem_evs.specs.declared.entry.Entry.TheVariants.{Conf, Send, Deliver, Fail}
 use Rattle.totem_evs.specs.declared.log.Log.{Log}

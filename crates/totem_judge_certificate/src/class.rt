@@ -3,7 +3,7 @@ ghost use Rattle.std.specs.Prelude.{◌≡◌};
 ghost use Rattle.totem_judge_certificate.specs.ClassOf.{class_of};
 
 use totem_evs::Entry;
-use totem_ids::{ConfId, MsgId};
+use totem_names::{ConfId, MsgId};
 
 /// The changes to one configuration, or the deliveries of one message. They are one event, with one number.
 #[derive(Clone, Copy, PartialEq, Eq, PartialOrd, Ord)]

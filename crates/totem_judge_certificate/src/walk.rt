@@ -1,7 +1,7 @@
 //! A walk over a run in the order of its numbers, from class to class. It ends early if the numbers do not order the run.
 ghost use Rattle.std.specs.Prelude.{◌≡◌, ◌↔◌, ◌+◌, ◌^◌, ◌<◌, Some, IsTrue, MatchBool, IfSome, IfOk, OnOk, length, slice_get};
 ghost use Rattle.std.specs.Bool.{OnTrue};
-ghost use Rattle.totem_ids.specs.declared.place.Place.{Place};
+ghost use Rattle.totem_names.specs.declared.place.Place.{Place};
 ghost use Rattle.totem_evs.specs.Certificates.{Matches};
 ghost use Rattle.totem_evs.specs.Runs.{IsRun};
 ghost use Rattle.totem_certificate.specs.Keeping.{IsCertificate};

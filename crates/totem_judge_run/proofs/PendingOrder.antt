@@ -15,14 +15,14 @@ use Rattle.std.proofs.lemmas.Map.Keys.{Less-from_sorted}
 use Rattle.std.proofs.lemmas.List.Filters.{dedup_is}
 use Rattle.std.proofs.lemmas.List.Kept.{IsStrictlySortedBy-dedup, Contains-dedup, Contains-from_dedup}
 use Rattle.std.proofs.lemmas.List.Sorted.{Contains-permutation, IsPermutation-sym}
-use Rattle.totem_ids.specs.Orders.{MessageBelow, RingBelow}
-use Rattle.totem_ids.specs.Ranks.{id_of, life_of}
-use Rattle.totem_ids.proofs.Lives.{below_is_less}
-use Rattle.totem_ids.specs.contracts.life.ProcOrd.TheImpl as life
-use Rattle.totem_ids.specs.declared.ring.RingId.{RingId}
-use Rattle.totem_ids.specs.declared.message.MsgId.{MsgId}
-use Rattle.totem_ids.specs.contracts.ring.RingIdOrd.TheImpl as ring
-use Rattle.totem_ids.specs.contracts.message.MsgIdOrd.TheImpl as message
+use Rattle.totem_names.specs.Orders.{MessageBelow, RingBelow}
+use Rattle.totem_names.specs.Ranks.{id_of, life_of}
+use Rattle.totem_names.proofs.Lives.{below_is_less}
+use Rattle.totem_names.specs.contracts.life.ProcOrd.TheImpl as life
+use Rattle.totem_names.specs.declared.ring.RingId.{RingId}
+use Rattle.totem_names.specs.declared.message.MsgId.{MsgId}
+use Rattle.totem_names.specs.contracts.ring.RingIdOrd.TheImpl as ring
+use Rattle.totem_names.specs.contracts.message.MsgIdOrd.TheImpl as message
 use Rattle.totem_evs.specs.declared.log.Log.{Log}
 use Rattle.totem_evs.specs.declared.pending.Pending.{Pending}
 use Rattle.totem_evs.specs.contracts.pending.PendingOrd.TheImpl as pending
@@ -30,7 +30,7 @@ use Rattle.totem_evs.specs.contracts.pending.PendingOrd.TheImpl.Laws.{total-law}
 use Rattle.totem_evs.specs.Unsettled.{PendingBelow, ArePending}
 use Rattle.totem_evs.proofs.ProcOrder.{exact_proc}
 use Rattle.totem_evs.proofs.LogOf.{less_or_not}
-use Rattle.totem_ids.proofs.Exact.{both_equal, exact_ring, exact_message}
+use Rattle.totem_names.proofs.Exact.{both_equal, exact_ring, exact_message}
 use Rattle.totem_judge_run.specs.Endings.{IsInOrder, HoldsPending}
 
 pub less_first : (a b : Ordering) → ordering_then a b ≡ Less → (a ≡ Less) ⊎ ((a ≡ Equal) × (b ≡ Less))

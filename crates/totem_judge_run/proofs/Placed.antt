@@ -1,7 +1,7 @@
 -- What holds of each log of a run, log after log; and that they stay in place.
 use Rattle.std.proofs.Common.{below_more, ◌≡◌, ℕ, ◌+◌, ◌<◌, ◌≤◌, inl, inr, List, [], length, slice_get, Some, refl, arith}
 use Rattle.std.proofs.lemmas.Option.{slice_get_within}
-use Rattle.totem_ids.specs.declared.place.Place.{Place}
+use Rattle.totem_names.specs.declared.place.Place.{Place}
 use Rattle.totem_evs.specs.declared.entry.Entry.{Entry}
 use Rattle.totem_evs.specs.declared.log.Log.{Log}
 use Rattle.totem_evs.specs.Changes.{StaysInPlace}

@@ -1,7 +1,7 @@
 -- The walk along a log that looks for an entry out of place.
 use Rattle.std.proofs.Common.{◌≡◌, ℕ, ◌+◌, ◌<◌, ◌≤◌, inl, inr, List, length, slice_get, Option, Some, None, Bool, true, false, MatchOption, IsTrue, ◌↔◌, refl, sym, ◌∙◌, ap, arith, below_more}
 use Rattle.std.proofs.lemmas.Option.{slice_get_within}
-use Rattle.totem_ids.specs.declared.conf.ConfId.{ConfId}
+use Rattle.totem_names.specs.declared.conf.ConfId.{ConfId}
 use Rattle.totem_evs.specs.declared.entry.Entry.{Entry}
 use Rattle.totem_evs.specs.declared.entry.Entry.TheVariants.{Conf, Send, Deliver, Fail}
 use Rattle.totem_evs.specs.Runs.{IsFailure}

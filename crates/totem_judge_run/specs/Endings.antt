@@ -1,6 +1,6 @@
 -- Where the logs of a run end, and which processes wait there (docs/SPECIFICATIONS.md, "Pending and waiting").
 use Rattle.std.specs.Prelude.{◌≡◌, ◌↔◌, ℕ, ◌<◌, List, length, slice_get, Option, None, Some, AllPairs, Contains}
-use Rattle.totem_ids.specs.declared.conf.ConfId.{ConfId}
+use Rattle.totem_names.specs.declared.conf.ConfId.{ConfId}
 use Rattle.totem_evs.specs.declared.entry.Entry.{Entry}
 use Rattle.totem_evs.specs.declared.log.Log.{Log}
 use Rattle.totem_evs.specs.declared.pending.Pending.{Pending}

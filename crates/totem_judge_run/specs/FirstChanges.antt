@@ -2,9 +2,9 @@
 use Rattle.std.specs.Prelude.{◌≡◌, ℕ, ◌<◌, List, length, slice_get, Option, None, Some, option_and_then, Contains}
 use Rattle.std.specs.declared.cmp.Ordering.{Ordering}
 use Rattle.std.specs.BTreeMap as tree
-use Rattle.totem_ids.specs.declared.ring.RingId.{RingId}
-use Rattle.totem_ids.specs.declared.conf.ConfId.{ConfId}
-use Rattle.totem_ids.specs.declared.conf.ConfId.TheVariants.{Regular, Transitional}
+use Rattle.totem_names.specs.declared.ring.RingId.{RingId}
+use Rattle.totem_names.specs.declared.conf.ConfId.{ConfId}
+use Rattle.totem_names.specs.declared.conf.ConfId.TheVariants.{Regular, Transitional}
 use Rattle.totem_evs.specs.declared.entry.Entry.{Entry}
 use Rattle.totem_evs.specs.declared.log.Log.{Log}
 use Rattle.totem_evs.specs.Events.{ChangesWith, IsChange, IsRegular, IsTransitional}
@@ -15,7 +15,7 @@ use Rattle.totem_judge_run.specs.Succession.{IsWrongSuccession}
 
 -- the order of configurations
 abbrev pub conf_order : ConfId → ConfId → Ordering
-conf_order = (Rattle.totem_ids.specs.contracts.conf.ConfIdOrd.TheImpl.cmp-value).it
+conf_order = (Rattle.totem_names.specs.contracts.conf.ConfIdOrd.TheImpl.cmp-value).it
 
 abbrev pub first_to : FirstChanges → ConfId → Option FirstChange
 first_to firsts x = option_and_then (slice_get firsts.list.items) (tree.get conf_order firsts.index x)

@@ -1,6 +1,6 @@
 -- What the walk along a log tests and keeps (docs/SPECIFICATIONS.md, "2 Changes of configuration").
 use Rattle.std.specs.Prelude.{◌≡◌, Option, Some}
-use Rattle.totem_ids.specs.declared.conf.ConfId.{ConfId}
+use Rattle.totem_names.specs.declared.conf.ConfId.{ConfId}
 use Rattle.totem_evs.specs.declared.entry.Entry.{Entry}
 use Rattle.totem_evs.specs.declared.entry.Entry.TheVariants.{Conf, Send, Deliver, Fail}
 

@@ -3,7 +3,7 @@ use Rattle.std.specs.Prelude.{◌≡◌, ℕ, ◌+◌, ◌<◌, List, ◌++◌, 
 use Rattle.std.specs.List.{filter_map, flat_map}
 use Rattle.std.specs.declared.cmp.Ordering.{Ordering}
 use Rattle.std.specs.declared.cmp.Ordering.TheVariants.{Less}
-use Rattle.totem_ids.specs.declared.message.MsgId.{MsgId}
+use Rattle.totem_names.specs.declared.message.MsgId.{MsgId}
 use Rattle.totem_evs.specs.declared.entry.Entry.{Entry}
 use Rattle.totem_evs.specs.declared.entry.Entry.TheVariants.{Conf, Send, Deliver, Fail}
 use Rattle.totem_evs.specs.declared.log.Log.{Log}
@@ -13,7 +13,7 @@ use Rattle.totem_judge_run.specs.declared.once_1_4.Once.TheVariants as once
 
 -- the order of messages
 abbrev pub message_order : MsgId → MsgId → Ordering
-message_order = (Rattle.totem_ids.specs.contracts.message.MsgIdOrd.TheImpl.cmp-value).it
+message_order = (Rattle.totem_names.specs.contracts.message.MsgIdOrd.TheImpl.cmp-value).it
 
 -- each message is below the next
 abbrev pub RisesByOrder : List MsgId → Type 0

@@ -1,8 +1,8 @@
 -- What is required of a run before its configurations are observed (docs/SPECIFICATIONS.md, "1 Basic delivery",
 -- "2 Changes of configuration").
 use Rattle.std.specs.Prelude.{◌≡◌, ℕ, List, Contains}
-use Rattle.totem_ids.specs.declared.conf.ConfId.{ConfId}
-use Rattle.totem_ids.specs.declared.message.MsgId.{MsgId}
+use Rattle.totem_names.specs.declared.conf.ConfId.{ConfId}
+use Rattle.totem_names.specs.declared.message.MsgId.{MsgId}
 use Rattle.totem_evs.specs.declared.log.Log.{Log}
 use Rattle.totem_evs.specs.Events.{ChangesWith, Delivers, Sends, IsRegular, log_of}
 use Rattle.totem_evs.specs.Delivery.{DeliversOnce}

@@ -1,7 +1,7 @@
 -- Which change may follow which (docs/SPECIFICATIONS.md, "2 Changes of configuration").
 use Rattle.std.specs.Prelude.{◌≢◌, ◌⊎◌, ℕ, List, All, Contains}
-use Rattle.totem_ids.specs.declared.conf.ConfId.{ConfId}
-use Rattle.totem_ids.specs.declared.conf.ConfId.TheVariants.{Regular, Transitional}
+use Rattle.totem_names.specs.declared.conf.ConfId.{ConfId}
+use Rattle.totem_names.specs.declared.conf.ConfId.TheVariants.{Regular, Transitional}
 
 -- the second of these changes may not be the next after the first
 abbrev pub IsWrongSuccession : ConfId → List ℕ → ConfId → List ℕ → Type 0

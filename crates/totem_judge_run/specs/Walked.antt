@@ -1,6 +1,6 @@
 -- One walk along a log (docs/SPECIFICATIONS.md, "1 Basic delivery", "2 Changes of configuration").
 use Rattle.std.specs.Prelude.{ℕ, List, Option, Some}
-use Rattle.totem_ids.specs.declared.message.MsgId.{MsgId}
+use Rattle.totem_names.specs.declared.message.MsgId.{MsgId}
 use Rattle.totem_evs.specs.declared.entry.Entry.{Entry}
 use Rattle.totem_evs.specs.declared.entry.Entry.TheVariants.{Conf, Send, Deliver, Fail}
 use Rattle.totem_evs.specs.declared.log.Log.{Log}

@@ -9,7 +9,7 @@ use crate::succession_2_4::came_from;
 use std::alloc::{AllocError, Global};
 use std::collections::BTreeMap;
 use totem_evs::{Entry, Log, Members};
-use totem_ids::{ConfId, RingId};
+use totem_names::{ConfId, RingId};
 
 /// The first change to a configuration, in the order in which changes are entered.
 #[derive(Clone, Copy)]

@@ -12,7 +12,7 @@ ghost use Rattle.totem_judge_run.specs.Ends.{IsChangeTo, NeverChangesTo, GoesOn,
 
 use std::alloc::{AllocError, Global};
 use totem_evs::{Ending, Entry, Log, Run, SpecNo};
-use totem_ids::{ConfId, Place, Proc};
+use totem_names::{ConfId, Place, Proc};
 
 /// Where a log ends: whether it has no failure, and the index of its last change.
 #[derive(Clone, Copy)]

@@ -6,7 +6,7 @@ ghost use Rattle.totem_evs.specs.ChangeFaults.{IsMisplaced};
 ghost use Rattle.totem_judge_run.specs.Misplaced.{Fits, standing_after};
 
 use totem_evs::Entry;
-use totem_ids::ConfId;
+use totem_names::ConfId;
 
 fn is_in(standing: &Option<ConfId>, conf: &ConfId) -> bool
     ensures { IsTrue result ↔ (standing.now ≡ Some conf.now) }

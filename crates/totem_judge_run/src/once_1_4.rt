@@ -9,7 +9,7 @@ ghost use Rattle.totem_judge_run.specs.Once.{AddsSend, AddsSends, IsNoSendBetwee
 
 use std::alloc::{AllocError, Global};
 use totem_evs::{Entry, Log};
-use totem_ids::{ConfId, MsgId};
+use totem_names::{ConfId, MsgId};
 
 /// What happens to a message at most once.
 #[derive(Clone, Copy)]

@@ -10,7 +10,7 @@ use crate::misplaced_2_2::{fits, go_past};
 use crate::once_1_4::{add_send, are_distinct};
 use std::alloc::{AllocError, Global};
 use totem_evs::{Entry, Log, Run};
-use totem_ids::MsgId;
+use totem_names::MsgId;
 
 /// Returns the index of the last change, once the entry at `at` has been passed.
 fn last_after(before: Option<usize>, at: usize, entry: &Entry) -> Option<usize>

@@ -9,7 +9,7 @@ ghost use Rattle.totem_judge_run.specs.Endings.{HasFailed, IsEnd};
 
 use crate::ends_2_1;
 use totem_evs::Entry;
-use totem_ids::ConfId;
+use totem_names::ConfId;
 
 /// Returns whether the log has a failure, which can only be at its end.
 pub fn has_failed(log: &[Entry]) -> bool

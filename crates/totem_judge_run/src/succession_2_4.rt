@@ -3,12 +3,12 @@
 //! configuration"). This is the rule for one change. `changes_2_3` applies it to each change, on the walk of `orderly` along each log, and
 //! also tests that all logs come to a configuration from one ring. What breaks it is searched by totem_pass_ab `succession_2_4`.
 ghost use Rattle.std.specs.Prelude.{◌≡◌, ◌↔◌, ◌<◌, All, Contains, IfSome, IsTrue, length};
-ghost use Rattle.totem_ids.specs.declared.conf.ConfId.TheVariants.{Regular};
+ghost use Rattle.totem_names.specs.declared.conf.ConfId.TheVariants.{Regular};
 ghost use Rattle.totem_judge_run.specs.FirstChanges.{ComesFrom};
 ghost use Rattle.totem_judge_run.specs.Succession.{IsWrongSuccession};
 
 use totem_evs::{Entry, Members};
-use totem_ids::{ConfId, RingId};
+use totem_names::{ConfId, RingId};
 
 fn contains_all(members: &Members, others: &Members) -> bool
     ensures { IsTrue result ↔ All (Contains members.now) others.now }

@@ -10,7 +10,7 @@ use crate::ends_2_1::index_of;
 use crate::standing::{ends_in, standing_change};
 use std::alloc::{AllocError, Global};
 use totem_evs::{Entry, Pending, Run, Waiting};
-use totem_ids::{ConfId, Proc};
+use totem_names::{ConfId, Proc};
 
 /// Returns the index of the last change of each log that has no failure, and `None` for the others.
 fn last_changes(alloc: Global, run: &Run) -> Result<Vec<Option<usize>>, AllocError>

@@ -1,8 +1,8 @@
 -- 3 over the traffic of a configuration.
 use Rattle.std.proofs.Common.{inl, inr, ℕ, List}
 use Rattle.std.specs.Prelude.{All}
-use Rattle.totem_ids.specs.declared.ring.RingId.{RingId}
-use Rattle.totem_ids.specs.declared.message.MsgId.{MsgId}
+use Rattle.totem_names.specs.declared.ring.RingId.{RingId}
+use Rattle.totem_names.specs.declared.message.MsgId.{MsgId}
 use Rattle.totem_evs.specs.declared.log.Log.{Log}
 use Rattle.totem_evs.specs.declared.spec.SpecNo.TheVariants as spec
 use Rattle.totem_evs.specs.Following.{DeliversOrEnds}

@@ -1,6 +1,6 @@
 -- What the rules require of the traffic of a configuration, and what that shows for the run.
 use Rattle.std.specs.Prelude.{◌≡◌, ◌⊎◌, ℕ, ◌<◌, true, IsTrue, List, slice_get, Some, All}
-use Rattle.totem_ids.specs.declared.ring.RingId.{RingId}
+use Rattle.totem_names.specs.declared.ring.RingId.{RingId}
 use Rattle.totem_evs.specs.declared.log.Log.{Log}
 use Rattle.totem_evs.specs.declared.spec.SpecNo.{SpecNo}
 use Rattle.totem_evs.specs.declared.spec.SpecNo.TheVariants as spec

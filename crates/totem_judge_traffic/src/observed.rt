@@ -1,6 +1,6 @@
 //! What is observed of a run: the traffic of each of its regular configurations.
 use crate::traffic::Traffic;
-use totem_ids::RingId;
+use totem_names::RingId;
 
 /// The traffic of the regular configuration of a ring.
 #[derive(Drop)]

@@ -5,7 +5,7 @@ ghost use Rattle.totem_judge_traffic.specs.Pending.{AddsMissing, AddsPending};
 use crate::traffic::{Sent, Traffic};
 use std::alloc::AllocError;
 use totem_evs::Pending;
-use totem_ids::Proc;
+use totem_names::Proc;
 
 /// Appends what is pending. If there is no room for it, room for it and what may come after it is taken.
 fn push_one(out: &mut Vec<Pending>, pending: Pending, left: usize) -> Result<(), AllocError>

@@ -2,7 +2,7 @@
 ghost use Rattle.std.specs.Prelude.{◌≡◌, ◌⊎◌, ◌↔◌, ◌<◌, ℕ};
 
 use crate::log_set::LogSet;
-use totem_ids::MsgId;
+use totem_names::MsgId;
 
 /// A message that was sent in the configuration.
 #[derive(Clone, Copy)]

@@ -1,9 +1,9 @@
 -- If each entry names the configuration that it is in, a process that never changed to a configuration did nothing in it.
 use Rattle.std.proofs.Common.{ℕ, inl, inr, List, [], ◌∷◌, refl}
-use Rattle.totem_ids.specs.declared.ring.RingId.{RingId}
-use Rattle.totem_ids.specs.declared.conf.ConfId.{ConfId}
-use Rattle.totem_ids.specs.declared.conf.ConfId.TheVariants.{Regular}
-use Rattle.totem_ids.specs.declared.message.MsgId.{MsgId}
+use Rattle.totem_names.specs.declared.ring.RingId.{RingId}
+use Rattle.totem_names.specs.declared.conf.ConfId.{ConfId}
+use Rattle.totem_names.specs.declared.conf.ConfId.TheVariants.{Regular}
+use Rattle.totem_names.specs.declared.message.MsgId.{MsgId}
 use Rattle.totem_evs.specs.declared.entry.Entry.TheVariants.{Deliver, Fail}
 use Rattle.totem_evs.specs.declared.log.Log.{Log}
 use Rattle.totem_evs.specs.Events.{log_of, ChangesTo}

@@ -4,7 +4,7 @@ use Rattle.std.specs.Prelude.{◌==◌}
 use Rattle.totem_evs.specs.declared.log.Log.{Log}
 use Rattle.totem_evs.specs.Certificates.{Numbering, numbers_of, Matches}
 use Rattle.totem_evs.proofs.LogOf.{Rising, Rising-tail, in_order}
-use Rattle.totem_order.proofs.One.{one}
+use Rattle.totem_cert.proofs.One.{one}
 use Rattle.totem_laws.specs.OneAnswer.{CertificatesAreOne}
 
 -- two lists with the same element at each index are equal

@@ -1,6 +1,6 @@
 -- Laws of the specifications, one by one (docs/SPECIFICATIONS.md, "What is proved of the definitions").
 use Rattle.std.specs.Prelude.{◌↔◌, List, All}
-use Rattle.totem_ids.specs.declared.place.Place.{Place}
+use Rattle.totem_names.specs.declared.place.Place.{Place}
 use Rattle.totem_evs.specs.declared.log.Log.{Log}
 use Rattle.totem_evs.specs.declared.fault.Fault.{Fault}
 use Rattle.totem_evs.specs.declared.spec.SpecNo.{SpecNo}

@@ -1,6 +1,6 @@
 -- The commit token: how it is made, filled by each member, and taken by each (docs/PROTOCOL.md, "The commit token").
 use Rattle.std.specs.Prelude.{ℕ, ◌+◌, ◌^◌, ◌==◌, ◌&&◌, not, List, [], ◌∷◌, length, map, Bool, true, false, if◌then◌else◌, nat_lt, nat_le, Option, None, Some, Result, Ok, Err, is_some}
-use Rattle.totem_ids.specs.Names.{RingName}
+use Rattle.totem_names.specs.Names.{RingName}
 use Rattle.totem_packets.specs.declared.commit.CommitToken.{CommitToken}
 use Rattle.totem_packets.specs.declared.commit.Round.{Round}
 use Rattle.totem_packets.specs.declared.commit.Round.TheVariants.{First, Second}

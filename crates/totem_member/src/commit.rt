@@ -9,7 +9,7 @@ use crate::fault::MemberFault;
 use crate::shown::{Shown, commit_act};
 use crate::views::{Act, CommitOut, CommitView};
 use std::alloc::{AllocError, Global};
-use totem_ids::{ProcId, RingId};
+use totem_names::{ProcId, RingId};
 use totem_packets::{CommitMember, CommitMembers, CommitToken, Processes, Report, Round};
 
 /// How far the number of a new ring is above the greatest ring number that its maker knows.

@@ -10,7 +10,7 @@ use crate::join_sets::{Noted, Sets};
 use crate::views::GatherOut;
 use std::alloc::{AllocError, Global};
 use std::marker::Model;
-use totem_ids::ProcId;
+use totem_names::ProcId;
 use totem_packets::{Join, Number, Processes, SetFault};
 
 /// How many processes may gather at most.

@@ -23,4 +23,5 @@ pub use fault::MemberFault;
 pub use gather::Gather;
 pub use join_sets::{Noted, Sets};
 pub use shown::{Shown, commit_act};
+pub use totem_packets::Report;
 pub use views::{Act, CommitOut, CommitView, GatherOut, Phase};

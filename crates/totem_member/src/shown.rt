@@ -7,7 +7,7 @@ ghost use Rattle.totem_member.specs.Shown.{view_of, own_report, act_of};
 
 use crate::fault::MemberFault;
 use crate::views::{Act, CommitView, Phase};
-use totem_ids::{ProcId, RingId};
+use totem_names::{ProcId, RingId};
 use totem_packets::{
     CommitMember, CommitMembers, CommitToken, Life, Number, Processes, Report, Round,
 };

@@ -1,6 +1,6 @@
 -- Which node has its turn at which tick (docs/PROTOCOL.md, "The network").
 use Rattle.std.specs.Prelude.{ℕ, ◌+◌, ◌-◌, ◌/◌, ◌%◌, ◌==◌, Option, Some, None, nat_lt, if◌then◌else◌}
-use Rattle.totem_ids.specs.declared.message.Service.TheVariants.{Agreed, Safe}
+use Rattle.totem_names.specs.declared.message.Service.TheVariants.{Agreed, Safe}
 use Rattle.totem_net.specs.declared.turn.Turn.{Turn}
 
 -- how many of a run's ticks have passed

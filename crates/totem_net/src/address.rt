@@ -2,7 +2,7 @@
 ghost use Rattle.std.specs.Prelude.{◌≡◌};
 ghost use Rattle.totem_net.specs.Addresses.{is_for};
 
-use totem_ids::ProcId;
+use totem_names::ProcId;
 
 /// The receivers of a packet.
 #[derive(Clone, Copy, Debug, PartialEq, Eq)]

@@ -1,6 +1,6 @@
 //! What the network forwards.
 use bytes::Bytes;
-use totem_ids::ProcId;
+use totem_names::ProcId;
 
 /// An encoded packet, and the node that receives it.
 #[derive(Debug, Drop)]

@@ -7,7 +7,7 @@ use bytes::Bytes;
 use crossbeam_channel::{Receiver, Sender};
 use std::alloc::AllocError;
 use std::sync::Wait;
-use totem_ids::ProcId;
+use totem_names::ProcId;
 
 /// The end through which a thread of a node sends the node's packets.
 #[derive(Drop)]

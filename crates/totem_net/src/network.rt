@@ -13,7 +13,7 @@ use crate::ways::Ways;
 use bytes::Bytes;
 use crossbeam_channel::bounded;
 use std::alloc::{AllocError, Global};
-use totem_ids::ProcId;
+use totem_names::ProcId;
 
 /// The capacity of the switch's inbound channel. Its memory is reserved at the start, so that a thread never lacks memory when it
 /// reports something to the switch. If the channel is full, the thread waits. The switch itself never waits to send.

@@ -9,7 +9,7 @@ use bytes::Bytes;
 use crossbeam_channel::{Sender, unbounded};
 use std::alloc::{AllocError, Global};
 use std::sync::Wait;
-use totem_ids::{ProcId, Service};
+use totem_names::{ProcId, Service};
 
 /// The channels to a node's threads, and the channel messages that the node was given and still has to handle.
 #[derive(Drop)]

@@ -1,5 +1,5 @@
 //! Notification that the nodes of a run start.
-use totem_ids::ProcId;
+use totem_names::ProcId;
 
 /// Notified when a node starts, by the node's receiving thread before it receives anything.
 pub trait Start: Sync {

@@ -12,7 +12,7 @@ use bytes::Bytes;
 use crossbeam_channel::{Receiver, Sender};
 use std::alloc::{AllocError, Global};
 use std::sync::Wait;
-use totem_ids::ProcId;
+use totem_names::ProcId;
 
 /// The state of the switch's thread (docs/PROTOCOL.md, "The network"). If it is dropped without being run, each thread of
 /// the network sees its channel end.

@@ -4,7 +4,7 @@ ghost use Rattle.totem_net.specs.Turns.{ticked, next_turn, nth_turn, turn_at};
 
 use crate::turn::Turn;
 use std::marker::Model;
-use totem_ids::{ProcId, Service};
+use totem_names::{ProcId, Service};
 
 /// How many ticks there are to each turn.
 const TICKS_OF_A_TURN: u32 = 8;

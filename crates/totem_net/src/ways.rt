@@ -11,7 +11,7 @@ use bytes::Bytes;
 use std::alloc::{AllocError, Global};
 use std::collections::VecDeque;
 use std::marker::Model;
-use totem_ids::ProcId;
+use totem_names::ProcId;
 
 /// The ways to the nodes, which are numbered from 1, and the fates to come.
 #[derive(Debug, Drop)]

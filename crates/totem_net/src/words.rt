@@ -2,7 +2,7 @@
 use crate::address::Address;
 use crate::progress::Logged;
 use bytes::Bytes;
-use totem_ids::{ProcId, Service};
+use totem_names::{ProcId, Service};
 
 /// The channel messages that the switch receives, all through one channel.
 #[derive(Debug, Drop)]

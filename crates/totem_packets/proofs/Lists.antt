@@ -4,7 +4,7 @@ use Rattle.std.specs.Int.{Width, w8, w16, w32}
 use Rattle.std.proofs.lemmas.Bool.{ltb-true, leb-true}
 use Rattle.std.proofs.Common.{◌≡◌, ℕ, zero, suc, ◌<◌, ◌≤◌, cond, List, [], ◌∷◌, length, Ok, Err, refl, ap, arith}
 use Rattle.std.specs.Prelude.{All}
-use Rattle.totem_ids.specs.Texts.{IsProcess}
+use Rattle.totem_names.specs.Texts.{IsProcess}
 use Rattle.totem_packets.specs.declared.fault.PacketFault.TheVariants.{Range}
 use Rattle.totem_packets.specs.Parsing.{Parsed, ◌>>=◌}
 use Rattle.totem_packets.specs.Fields.{number_at, above_at, up_to_at, rising_at}

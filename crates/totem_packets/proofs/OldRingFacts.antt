@@ -7,8 +7,8 @@ use Rattle.std.proofs.lemmas.List.{length-map, take_more}
 use Rattle.std.proofs.lemmas.List.Sums.{fold-append}
 use Rattle.std.proofs.lemmas.List.Elements.{All-cons, All-head, All-tail, All-filter, All-map, All-take, filter-append, filter_agree, filter_map-append}
 use Rattle.std.proofs.lemmas.List.Kept.{AllPairs-filter}
-use Rattle.totem_ids.specs.Names.{RingName}
-use Rattle.totem_ids.specs.Texts.{IsProcess}
+use Rattle.totem_names.specs.Names.{RingName}
+use Rattle.totem_names.specs.Texts.{IsProcess}
 use Rattle.totem_packets.specs.declared.commit_member.Report.{Report}
 use Rattle.totem_packets.specs.declared.commit_member.CommitMember.{CommitMember}
 use Rattle.totem_packets.specs.CommitMembers.{IsBelowMember, IsCommitMember, IsCommitMembers, IsReport}

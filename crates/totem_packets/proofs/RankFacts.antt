@@ -2,9 +2,9 @@
 use Rattle.std.proofs.Common.{◌≡◌, ◌∷◌, [], ◌<◌, List, Option, Some, None, map, refl, arith}
 use Rattle.std.specs.Prelude.{All, IfSome}
 use Rattle.std.proofs.lemmas.List.Elements.{All-filter, All-head, All-tail}
-use Rattle.totem_ids.specs.Names.{RingName}
-use Rattle.totem_ids.specs.Ranks.{id_of}
-use Rattle.totem_ids.proofs.RankParts.{id_of_rank}
+use Rattle.totem_names.specs.Names.{RingName}
+use Rattle.totem_names.specs.Ranks.{id_of}
+use Rattle.totem_names.proofs.RankParts.{id_of_rank}
 use Rattle.totem_packets.specs.declared.commit_member.Report.{Report}
 use Rattle.totem_packets.specs.declared.commit_member.CommitMember.{CommitMember}
 use Rattle.totem_packets.specs.CommitMembers.{IsCommitMember, IsCommitMembers, IsReport}

@@ -4,8 +4,8 @@ use Rattle.std.specs.Int.{Width, w8, w16, w32, w64, byte_len}
 use Rattle.std.proofs.Common.{◌≡◌, ℕ, zero, suc, ◌≤◌, List, [], ◌++◌, length, take, drop, Bool, true, false, cond, Ok, Err, refl, arith}
 use Rattle.std.proofs.lemmas.Bool.{ltb-false, le-ltb}
 use Rattle.std.proofs.lemmas.List.{take-append-le, drop-append-le, length-append}
-use Rattle.totem_ids.specs.declared.message.Service.{Service}
-use Rattle.totem_ids.specs.declared.message.Service.TheVariants.{Agreed, Safe}
+use Rattle.totem_names.specs.declared.message.Service.{Service}
+use Rattle.totem_names.specs.declared.message.Service.TheVariants.{Agreed, Safe}
 use Rattle.totem_packets.specs.declared.commit.Round.TheVariants.{First, Second}
 use Rattle.totem_packets.specs.declared.fault.PacketFault.TheVariants.{Short, Range}
 use Rattle.totem_packets.specs.declared.lives.Lives.{Lives}

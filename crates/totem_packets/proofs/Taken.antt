@@ -5,8 +5,8 @@ use Rattle.std.proofs.Common.{◌≡◌, ℕ, ◌+◌, ◌%◌, ◌^◌, ◌<◌
 use Rattle.std.proofs.lemmas.Bool.{cases_lt, ltb-false, ltb-true, le-ltb, lt-ltb, leb-true, le-leb, eqb-true, eqb-false, ne_eqb}
 use Rattle.std.proofs.lemmas.List.{take_at, drop_at, take-append-drop, length-append, length-take, get_or-drop, get_or-take, get_or_past}
 use Rattle.std.proofs.lemmas.Nat.{be_bytes_2, be_bytes_4, be_bytes_8, from_be_bytes-to_be_bytes_2, from_be_bytes-to_be_bytes_4, from_be_bytes-to_be_bytes_8}
-use Rattle.totem_ids.specs.Names.{RingName}
-use Rattle.totem_ids.specs.Texts.{IsProcess, IsRing}
+use Rattle.totem_names.specs.Names.{RingName}
+use Rattle.totem_names.specs.Texts.{IsProcess, IsRing}
 use Rattle.totem_packets.specs.declared.fault.PacketFault.TheVariants.{Short, Range}
 use Rattle.totem_packets.specs.Parsing.{◌>>=◌, AreBytes}
 use Rattle.totem_packets.specs.Fields.{bytes_at, number_at, above_at, up_to_at, ring_at, payload_at, maybe_at}

@@ -4,7 +4,7 @@ use Rattle.std.specs.List.{flat_map, AllByRecursion}
 use Rattle.std.proofs.Common.{◌≡◌, ℕ, zero, suc, ◌+◌, ◌^◌, ◌<◌, ◌≤◌, List, [], ◌∷◌, ◌++◌, length, Ok, refl, ap, ◌∙◌, append_assoc, arith}
 use Rattle.std.proofs.lemmas.List.Concat.{flat_map-cons}
 use Rattle.std.proofs.lemmas.List.Elements.{All-from_recursion, recursion_from_All}
-use Rattle.totem_ids.specs.Texts.{IsUpTo, IsProcess}
+use Rattle.totem_names.specs.Texts.{IsUpTo, IsProcess}
 use Rattle.totem_packets.specs.Parsing.{Parsed, ◌>>=◌, AreBytes}
 use Rattle.totem_packets.specs.Fields.{above_at, up_to_at, rising_at, list_at}
 use Rattle.totem_packets.specs.Rising.{IsNumber, IsRequests, IsProcesses}

@@ -3,9 +3,9 @@ use Rattle.std.specs.Prelude.{◌==◌}
 use Rattle.std.specs.Int.{w8, w16, w32}
 use Rattle.std.proofs.Common.{◌≡◌, ℕ, ◌^◌, List, ◌++◌, Ok, refl, append_assoc, arith, inl, inr}
 use Rattle.std.proofs.lemmas.Bool.{eqb-true}
-use Rattle.totem_ids.specs.Names.{RingName}
-use Rattle.totem_ids.specs.declared.message.Service.{Service}
-use Rattle.totem_ids.specs.declared.message.Service.TheVariants.{Agreed, Safe}
+use Rattle.totem_names.specs.Names.{RingName}
+use Rattle.totem_names.specs.declared.message.Service.{Service}
+use Rattle.totem_names.specs.declared.message.Service.TheVariants.{Agreed, Safe}
 use Rattle.totem_packets.specs.declared.fault.PacketFault.TheVariants.{Range}
 use Rattle.totem_packets.specs.declared.message.Body.{Body}
 use Rattle.totem_packets.specs.declared.message.Body.TheVariants.{App, Old, Mark}

@@ -1,6 +1,6 @@
 -- The members of commit tokens, and what they report (docs/PROTOCOL.md, "Packets").
 use Rattle.std.specs.Prelude.{ℕ, ◌<◌, ◌≤◌, ◌^◌, List, length, All, AllPairs, IfSome}
-use Rattle.totem_ids.specs.Texts.{IsUpTo, IsProcess, IsRing}
+use Rattle.totem_names.specs.Texts.{IsUpTo, IsProcess, IsRing}
 use Rattle.totem_packets.specs.declared.commit_member.Report.{Report}
 use Rattle.totem_packets.specs.declared.commit_member.CommitMember.{CommitMember}
 use Rattle.totem_packets.specs.Rising.{IsProcesses}

@@ -1,8 +1,8 @@
 -- Packets, read from left to right (docs/PROTOCOL.md, "Packets").
 use Rattle.std.specs.Prelude.{ℕ, List, length, Option, Some, None, Result, Ok, Err, ◌==◌, if◌then◌else◌}
 use Rattle.std.specs.Int.{w8, w16, w32, w64}
-use Rattle.totem_ids.specs.declared.message.Service.{Service}
-use Rattle.totem_ids.specs.declared.message.Service.TheVariants.{Agreed, Safe}
+use Rattle.totem_names.specs.declared.message.Service.{Service}
+use Rattle.totem_names.specs.declared.message.Service.TheVariants.{Agreed, Safe}
 use Rattle.totem_packets.specs.declared.commit.CommitToken.{CommitToken}
 use Rattle.totem_packets.specs.declared.commit.Round.{Round}
 use Rattle.totem_packets.specs.declared.commit.Round.TheVariants.{First, Second}

@@ -1,8 +1,8 @@
 -- The lives that the members of a commit token report, and when its packet carries them (docs/PROTOCOL.md, "Packets").
 use Rattle.std.specs.Prelude.{ℕ, List, map, Option, Some, None, Bool, nat_lt, if◌then◌else◌}
 use Rattle.std.specs.List.{list_any}
-use Rattle.totem_ids.specs.Names.{RingName}
-use Rattle.totem_ids.specs.Ranks.{rank_of}
+use Rattle.totem_names.specs.Names.{RingName}
+use Rattle.totem_names.specs.Ranks.{rank_of}
 use Rattle.totem_packets.specs.declared.commit_member.Report.{Report}
 use Rattle.totem_packets.specs.declared.commit_member.CommitMember.{CommitMember}
 use Rattle.totem_packets.specs.declared.lives.Lives.{Lives}

@@ -1,7 +1,7 @@
 -- What the reports of a commit token say about an old ring (docs/PROTOCOL.md, "Recovery").
 use Rattle.std.specs.Prelude.{ℕ, ◌==◌, ◌&&◌, ◌||◌, if◌then◌else◌, List, [], ◌∷◌, map, filter, fold, min, max, Bool, false, Option, Some, None, is_some}
 use Rattle.std.specs.List.{filter_map, list_all, list_any}
-use Rattle.totem_ids.specs.Names.{RingName}
+use Rattle.totem_names.specs.Names.{RingName}
 use Rattle.totem_packets.specs.declared.commit_member.Report.{Report}
 use Rattle.totem_packets.specs.declared.commit_member.CommitMember.{CommitMember}
 use Rattle.totem_packets.specs.Sets.{has, union}

@@ -1,6 +1,6 @@
 -- The values that packets may have (docs/PROTOCOL.md, "Packets").
 use Rattle.std.specs.Prelude.{◌<◌, ◌^◌, IfSome}
-use Rattle.totem_ids.specs.Texts.{IsUpTo, IsProcess, IsRing}
+use Rattle.totem_names.specs.Texts.{IsUpTo, IsProcess, IsRing}
 use Rattle.totem_packets.specs.declared.commit.CommitToken.{CommitToken}
 use Rattle.totem_packets.specs.declared.join.Join.{Join}
 use Rattle.totem_packets.specs.declared.message.Body.{Body}

@@ -1,6 +1,6 @@
 -- Lists of numbers and of processes in packets (docs/PROTOCOL.md, "Packets").
 use Rattle.std.specs.Prelude.{ℕ, ◌<◌, ◌≤◌, List, length, All, AllPairs}
-use Rattle.totem_ids.specs.Texts.{IsUpTo, IsProcess}
+use Rattle.totem_names.specs.Texts.{IsUpTo, IsProcess}
 
 abbrev pub IsBelow : ℕ → ℕ → Type 0
 IsBelow p q = p < q

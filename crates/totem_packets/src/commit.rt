@@ -2,7 +2,7 @@ ghost use Rattle.std.specs.Prelude.{◌≡◌, ◌↔◌, IsTrue, IfOk};
 
 use crate::commit_members::CommitMembers;
 use std::alloc::{AllocError, Global};
-use totem_ids::RingId;
+use totem_names::RingId;
 
 /// The round of a commit token on the ring: in the first each member fills in its report, in the second all reports are filled in.
 #[derive(Clone, Copy, Debug, PartialEq, Eq, PartialOrd, Ord, Hash)]

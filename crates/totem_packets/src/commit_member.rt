@@ -5,7 +5,7 @@ ghost use Rattle.totem_packets.specs.Lives.{reported_life, member_rank};
 use crate::life::Life;
 use crate::processes::Processes;
 use std::alloc::{AllocError, Global};
-use totem_ids::{Proc, ProcId, RingId, ring_fits};
+use totem_names::{Proc, ProcId, RingId, ring_fits};
 
 /// What a member reports of the ring that it comes from (docs/PROTOCOL.md, "The commit token").
 #[derive(Debug, Drop)]

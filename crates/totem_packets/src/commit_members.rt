@@ -1,11 +1,11 @@
 ghost use Rattle.std.specs.Prelude.{◌≡◌, ◌↔◌, IsTrue, ◌<◌, ◌^◌, All, IfOk, MatchResult};
-ghost use Rattle.totem_ids.specs.Lists.{Refuses};
+ghost use Rattle.totem_names.specs.Lists.{Refuses};
 ghost use Rattle.totem_packets.specs.CommitMembers.{IsBelowMember, IsCommitMembers};
 
 use crate::commit_member::CommitMember;
 use std::alloc::{AllocError, Global};
 use std::marker::Model;
-use totem_ids::{Refused, are_same, copied, rising};
+use totem_names::{Refused, are_same, copied, rising};
 
 /// How many members a commit token may have at most.
 const MOST: usize = 32;

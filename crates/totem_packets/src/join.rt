@@ -3,7 +3,7 @@ ghost use Rattle.std.specs.Prelude.{◌≡◌, ◌↔◌, IsTrue, IfOk};
 use crate::number::Number;
 use crate::processes::Processes;
 use std::alloc::{AllocError, Global};
-use totem_ids::ProcId;
+use totem_names::ProcId;
 
 /// The Join of a gathering process: the processes with which it would form a ring, and which of them it thinks have failed.
 #[derive(Debug, Drop)]

@@ -67,4 +67,4 @@ pub use set_fault::SetFault;
 pub use sets::is_among;
 pub use token::Token;
 pub use token_seq::TokenSeq;
-pub use totem_ids::{ListFault, Refused};
+pub use totem_names::{ListFault, Refused};

@@ -6,7 +6,7 @@ ghost use Rattle.totem_packets.specs.Rising.{IsNumber};
 use crate::commit_member::CommitMember;
 use crate::number::Number;
 use std::alloc::{AllocError, Global};
-use totem_ids::{Keyed, Listed};
+use totem_names::{Keyed, Listed};
 
 impl Listed for Number {
     ghost keeps = { IsNumber };

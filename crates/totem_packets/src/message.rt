@@ -3,7 +3,7 @@ ghost use Rattle.std.specs.Prelude.{◌≡◌, ◌↔◌, IsTrue, IfOk};
 use crate::number::Number;
 use crate::payload::Payload;
 use std::alloc::AllocError;
-use totem_ids::{ProcId, RingId, Service};
+use totem_names::{ProcId, RingId, Service};
 
 /// What a message carries.
 #[derive(Debug, Drop)]

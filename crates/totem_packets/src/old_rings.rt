@@ -1,6 +1,6 @@
 //! What the reports of a commit token say about an old ring (docs/PROTOCOL.md, "Recovery").
 ghost use Rattle.std.specs.Prelude.{◌≡◌, ◌≤◌, length, map, filter, not, IfOk};
-ghost use Rattle.totem_ids.specs.Ranks.{id_of};
+ghost use Rattle.totem_names.specs.Ranks.{id_of};
 ghost use Rattle.totem_packets.specs.Lives.{member_ranks, transitional_ranks};
 ghost use Rattle.totem_packets.specs.Sets.{has, same_processes, Makes};
 ghost use Rattle.totem_packets.specs.OldRings.{processes_of, is_filled, reports_ring, transitional_set, least_aru, greatest_delivered, obligation_union, obligation_from, is_obliged};
@@ -11,7 +11,7 @@ use crate::processes::{MOST, Processes};
 use crate::set_fault::SetFault;
 use crate::sets::list_union;
 use std::alloc::{AllocError, Global};
-use totem_ids::{Proc, ProcId, RingId};
+use totem_names::{Proc, ProcId, RingId};
 
 impl CommitMember {
     /// Returns whether this member has reported `old` as the ring that it comes from.

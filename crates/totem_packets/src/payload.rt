@@ -1,11 +1,11 @@
 ghost use Rattle.std.specs.Prelude.{◌≡◌, ◌↔◌, IsTrue, ◌≤◌, ◌<◌, length, IfOk, MatchResult};
-ghost use Rattle.totem_ids.specs.Lists.{Refuses, Anyhow};
+ghost use Rattle.totem_names.specs.Lists.{Refuses, Anyhow};
 ghost use Rattle.totem_packets.specs.Payload.{IsPayload};
 
 use bytes::Bytes;
 use std::alloc::AllocError;
 use std::marker::Model;
-use totem_ids::{ListFault, Refused};
+use totem_names::{ListFault, Refused};
 
 /// How many bytes a message may carry at most.
 const MOST: usize = 1_024;

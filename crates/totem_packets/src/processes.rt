@@ -1,10 +1,10 @@
 ghost use Rattle.std.specs.Prelude.{◌≡◌, ◌<◌, ◌^◌, All, IfOk, MatchResult};
-ghost use Rattle.totem_ids.specs.Lists.{Refuses};
+ghost use Rattle.totem_names.specs.Lists.{Refuses};
 ghost use Rattle.totem_packets.specs.Rising.{IsBelow, IsProcesses};
 
 use std::alloc::{AllocError, Global};
 use std::marker::Model;
-use totem_ids::{ProcId, Refused, rising};
+use totem_names::{ProcId, Refused, rising};
 
 /// How many processes a set may have at most.
 pub const MOST: usize = 32;

@@ -6,7 +6,7 @@ use crate::join::Join;
 use crate::message::{Body, Message};
 use crate::packet::Packet;
 use crate::token::Token;
-use totem_ids::ring_fits;
+use totem_names::ring_fits;
 
 fn body_keeps(body: &Body)
     ensures { IsBody body.now }

@@ -1,7 +1,7 @@
 //! Reading strictly ascending lists of numbers and of processes from left to right.
 ghost use Rattle.std.specs.Prelude.{All, IfOk};
 ghost use Rattle.std.specs.Int.{w16, w32};
-ghost use Rattle.totem_ids.specs.Texts.{IsProcess};
+ghost use Rattle.totem_names.specs.Texts.{IsProcess};
 ghost use Rattle.totem_packets.specs.Fields.{above_at, rising_at, list_at};
 ghost use Rattle.totem_packets.specs.Parsing.{Reads};
 ghost use Rattle.totem_packets.specs.Rising.{IsNumber};
@@ -12,7 +12,7 @@ use crate::processes::Processes;
 use crate::reader::Reader;
 use crate::requests::Requests;
 use std::alloc::Global;
-use totem_ids::ProcId;
+use totem_names::ProcId;
 
 /// Reads `count` strictly ascending numbers.
 fn numbers(alloc: Global, reader: &mut Reader, count: u8) -> Result<Vec<Number>, PacketFault>

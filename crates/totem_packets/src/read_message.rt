@@ -6,7 +6,7 @@ use crate::fault::PacketFault;
 use crate::message::{Body, Message};
 use crate::reader::Reader;
 use std::alloc::Global;
-use totem_ids::Service;
+use totem_names::Service;
 
 #[tactic(auto, using(crate::proofs::Falling::passes_on), unfolding(crate::specs::Grammar::app_at))]
 fn app(alloc: Global, reader: &mut Reader, service: Service) -> Result<Body, PacketFault>

@@ -12,7 +12,7 @@ use crate::token_seq::TokenSeq;
 use bytes::Bytes;
 use std::alloc::Global;
 use std::marker::Model;
-use totem_ids::{ProcId, RingId};
+use totem_names::{ProcId, RingId};
 
 /// The bytes of a packet that are still to be read. Which bytes are left after a fault is unspecified.
 #[derive(Drop)]

@@ -1,11 +1,11 @@
 ghost use Rattle.std.specs.Prelude.{◌≡◌, ◌↔◌, IsTrue, ◌<◌, ◌^◌, All, IfOk, MatchResult};
-ghost use Rattle.totem_ids.specs.Lists.{Refuses};
+ghost use Rattle.totem_names.specs.Lists.{Refuses};
 ghost use Rattle.totem_packets.specs.Rising.{IsBelow, IsRequests};
 
 use crate::number::Number;
 use std::alloc::{AllocError, Global};
 use std::marker::Model;
-use totem_ids::{Refused, are_same, rising};
+use totem_names::{Refused, are_same, rising};
 
 /// How many numbers a token may ask for at most.
 const MOST: usize = 64;

@@ -3,7 +3,7 @@ ghost use Rattle.std.specs.Prelude.{◌≡◌, ◌↔◌, IsTrue, IfOk};
 use crate::requests::Requests;
 use crate::token_seq::TokenSeq;
 use std::alloc::{AllocError, Global};
-use totem_ids::{ProcId, RingId};
+use totem_names::{ProcId, RingId};
 
 /// The token of a ring: the member that has it may send.
 #[derive(Debug, Drop)]

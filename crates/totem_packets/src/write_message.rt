@@ -6,7 +6,7 @@ ghost use Rattle.totem_packets.specs.Spelling.{app_kind, old_kind, number_bytes,
 use crate::message::{Body, Message};
 use crate::writing::{put_payload, put_process, put_ring, put_u8, put_u32};
 use std::alloc::AllocError;
-use totem_ids::Service;
+use totem_names::Service;
 
 fn put_app_kind(out: &mut Vec<u8>, service: Service) -> Result<(), AllocError>
     ensures { OnOk result (out.new.items ≡ out.old.items ++ number_bytes w8 (app_kind service)) }

@@ -7,7 +7,7 @@ use crate::payload::Payload;
 use crate::processes::Processes;
 use crate::requests::Requests;
 use std::alloc::AllocError;
-use totem_ids::{ProcId, RingId};
+use totem_names::{ProcId, RingId};
 
 #[tactic(auto, unfolding(crate::specs::Spelling::number_bytes))]
 pub fn put_u8(out: &mut Vec<u8>, number: u8) -> Result<(), AllocError>

@@ -1,7 +1,7 @@
 -- Lists of one bad entry, or of two, are those that break 1.4 and 2.3.
 use Rattle.std.proofs.Common.{inl, inr, List, [], ◌∷◌, Option, Some, None, Result, Ok, Err, IfOk, MatchOption, refl}
 use Rattle.std.proofs.lemmas.Bool.{cases_eq}
-use Rattle.totem_ids.specs.declared.place.Place.{Place}
+use Rattle.totem_names.specs.declared.place.Place.{Place}
 use Rattle.totem_evs.specs.declared.entry.Entry.TheVariants.{Conf, Send, Deliver}
 use Rattle.totem_evs.specs.declared.log.Log.{Log}
 use Rattle.totem_evs.specs.declared.spec.SpecNo.{SpecNo}

@@ -5,7 +5,7 @@ use Rattle.std.specs.Cmp.{IsTotalOrder}
 use Rattle.std.specs.HashMap.Eq.{lookup_congr}
 use Rattle.std.specs.BTreeMap.{BTreeMap, is_at, IsUnchanged}
 use Rattle.std.specs.BTreeMap as tree
-use Rattle.totem_ids.proofs.Exact.{equal_at, apart_or_at}
+use Rattle.totem_names.proofs.Exact.{equal_at, apart_or_at}
 use Rattle.totem_pass_ab.specs.Met.{IsMet, Knows}
 
 -- equal keys have one value

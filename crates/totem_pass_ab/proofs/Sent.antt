@@ -1,11 +1,11 @@
 -- Searching for the sends of what is delivered, and the quick test that makes most searches unnecessary.
 use Rattle.std.proofs.Common.{◌≡◌, ℕ, inl, inr, List, [], ◌∷◌, slice_get, Option, Some, None, MatchOption, is_some, Bool, false, IsTrue, ◌↔◌, refl, arith, true, sym, ◌∙◌, ap, subst}
 use Rattle.std.proofs.lemmas.Option.{slice_get_within}
-use Rattle.totem_ids.specs.declared.ring.RingId.{RingId}
-use Rattle.totem_ids.specs.declared.conf.ConfId.{ConfId}
-use Rattle.totem_ids.specs.declared.conf.ConfId.TheVariants.{Regular}
-use Rattle.totem_ids.specs.declared.message.MsgId.{MsgId}
-use Rattle.totem_ids.specs.declared.place.Place.{Place}
+use Rattle.totem_names.specs.declared.ring.RingId.{RingId}
+use Rattle.totem_names.specs.declared.conf.ConfId.{ConfId}
+use Rattle.totem_names.specs.declared.conf.ConfId.TheVariants.{Regular}
+use Rattle.totem_names.specs.declared.message.MsgId.{MsgId}
+use Rattle.totem_names.specs.declared.place.Place.{Place}
 use Rattle.totem_evs.specs.declared.entry.Entry.{Entry}
 use Rattle.totem_evs.specs.declared.entry.Entry.TheVariants.{Send, Deliver, Conf}
 use Rattle.totem_evs.specs.declared.log.Log.{Log}
@@ -31,15 +31,15 @@ use Rattle.std.specs.BTreeSet.{BTreeSet}
 use Rattle.std.specs.BTreeSet as sorted
 use Rattle.std.proofs.lemmas.Grind.{not_there}
 use Rattle.std.proofs.lemmas.Map.Lookups.{CmpEqualImpliesEq}
-use Rattle.totem_ids.specs.declared.message.Service.{Service}
-use Rattle.totem_ids.specs.contracts.ring.RingIdOrd.TheImpl as ring
-use Rattle.totem_ids.specs.contracts.message.MsgIdOrd.TheImpl as message
+use Rattle.totem_names.specs.declared.message.Service.{Service}
+use Rattle.totem_names.specs.contracts.ring.RingIdOrd.TheImpl as ring
+use Rattle.totem_names.specs.contracts.message.MsgIdOrd.TheImpl as message
 use Rattle.totem_pass_ab.specs.declared.unsent_1_3.Sending.{Sending}
 use Rattle.totem_pass_ab.specs.contracts.unsent_1_3.SendingOrd.TheImpl as by_sending
 use Rattle.totem_table.specs.declared.keys.Change.{Change}
 use Rattle.totem_table.specs.Registers.{StaysSound, KnowsLog}
 use Rattle.totem_pass_ab.specs.Noted.{WereSent, KnowsRegularChange, AreFollowed}
-use Rattle.totem_ids.proofs.Exact.{equal_at, apart_or_at, both_equal, exact_ring, exact_message}
+use Rattle.totem_names.proofs.Exact.{equal_at, apart_or_at, both_equal, exact_ring, exact_message}
 use Rattle.totem_table.proofs.Exact.{change_by}
 
 -- what follows c is the next change after the first change to c

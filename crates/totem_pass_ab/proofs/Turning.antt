@@ -5,10 +5,10 @@ use Rattle.std.specs.Prelude.{All, Contains, IfSome}
 use Rattle.std.specs.Bool.{OnFalse}
 use Rattle.std.proofs.lemmas.Bool.{ltb-false}
 use Rattle.std.proofs.lemmas.Option.{slice_get_within}
-use Rattle.totem_ids.specs.declared.ring.RingId.{RingId}
-use Rattle.totem_ids.specs.declared.conf.ConfId.{ConfId}
-use Rattle.totem_ids.specs.declared.conf.ConfId.TheVariants.{Regular, Transitional}
-use Rattle.totem_ids.specs.declared.place.Place.{Place}
+use Rattle.totem_names.specs.declared.ring.RingId.{RingId}
+use Rattle.totem_names.specs.declared.conf.ConfId.{ConfId}
+use Rattle.totem_names.specs.declared.conf.ConfId.TheVariants.{Regular, Transitional}
+use Rattle.totem_names.specs.declared.place.Place.{Place}
 use Rattle.totem_evs.specs.declared.entry.Entry.{Entry}
 use Rattle.totem_evs.specs.declared.entry.Entry.TheVariants.{Conf}
 use Rattle.totem_evs.specs.declared.log.Log.{Log}
@@ -23,14 +23,14 @@ use Rattle.totem_judge_run.specs.Succession.{IsWrongSuccession}
 use Rattle.totem_pass_ab.specs.Turns.{HasNoSuccession, IsOfOtherRing, IsOtherOrigin, IsTurnRest, IsTurnFault}
 use Rattle.totem_evs.proofs.LogOf.{less_or_not}
 use Rattle.totem_pass_ab.proofs.Starting.{Begins, EachBegins, begins_at, none_known}
-use Rattle.totem_ids.proofs.Orderings.{place_strict}
+use Rattle.totem_names.proofs.Orderings.{place_strict}
 use Rattle.totem_judge_run.proofs.Behind.{right_kinds, right_from, right_to, right_name}
 use Rattle.totem_judge_run.proofs.Decisions.{same_ring_or_not, regular_or_transitional}
 use Rattle.std.specs.declared.cmp.Ordering.{Ordering}
 use Rattle.std.specs.Cmp.{IsTotalOrder}
 use Rattle.std.specs.BTreeMap.{BTreeMap}
 use Rattle.std.specs.BTreeMap as tree
-use Rattle.totem_ids.proofs.Exact.{apart_or_at}
+use Rattle.totem_names.proofs.Exact.{apart_or_at}
 use Rattle.totem_pass_ab.specs.declared.succession_2_4.Latest.{Latest}
 use Rattle.totem_pass_ab.specs.Noted.{IsWithin, Widens, KnowsOrigin}
 use Rattle.totem_table.specs.Registers.{Keeps, KnowsRun}

@@ -11,7 +11,7 @@ use crate::met::{Met, Same};
 use crate::pairs::{Standing, Test, least_bad};
 use std::alloc::{AllocError, Global};
 use totem_evs::{Entry, Members, Places, Run, SpecNo};
-use totem_ids::{ConfId, Place, Proc};
+use totem_names::{ConfId, Place, Proc};
 use totem_table::{Change, ChangeRegister, Changes, enter_changes};
 
 impl Same for Members {

@@ -5,8 +5,8 @@ ghost use Rattle.totem_evs.specs.Changes.{ChangesNext};
 ghost use Rattle.totem_pass_ab.specs.Turns.{HasNoSuccession};
 
 use totem_evs::{Entry, Members};
-use totem_ids::ConfId;
 use totem_judge_run::walk_to_change;
+use totem_names::ConfId;
 
 /// Returns whether this is a transitional configuration.
 pub fn is_transitional(conf: &ConfId) -> bool

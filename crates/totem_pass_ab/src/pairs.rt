@@ -1,7 +1,7 @@
 //! Finds the least list of one entry that is bad alone, or of two that are bad together.
 ghost use Rattle.std.specs.Prelude.{◌≡◌, ◌↔◌, ℕ, ◌<◌, ◌≤◌, List, IsTrue, IfOk, MatchOption, Some, length, slice_get};
 ghost use Rattle.std.specs.Bool.{OnFalse};
-ghost use Rattle.totem_ids.specs.declared.place.Place.{Place};
+ghost use Rattle.totem_names.specs.declared.place.Place.{Place};
 ghost use Rattle.totem_evs.specs.declared.entry.Entry.{Entry};
 ghost use Rattle.totem_evs.specs.declared.log.Log.{Log};
 ghost use Rattle.totem_evs.specs.Events.{log_of};
@@ -11,7 +11,7 @@ ghost use Rattle.totem_pass_ab.specs.Pairs.{IsOne, IsOneOrTwo};
 
 use std::alloc::{AllocError, Global};
 use totem_evs::{Entry, Places, Run};
-use totem_ids::{Place, Proc};
+use totem_names::{Place, Proc};
 use totem_table::{Relation, least, places_of};
 
 /// What a search for a list that begins with one entry returns: the rest of the least such list, if there is one.

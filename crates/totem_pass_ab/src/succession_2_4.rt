@@ -17,8 +17,8 @@ use crate::pairs::Rest;
 use std::alloc::{AllocError, Global};
 use std::collections::BTreeMap;
 use totem_evs::{Entry, Places, Run, SpecNo};
-use totem_ids::{ConfId, Proc, RingId};
 use totem_judge_run::is_wrong_succession;
+use totem_names::{ConfId, Proc, RingId};
 use totem_table::{ChangeRegister, Changes, Relation, begin_at, enter_changes, least, places_of};
 
 /// What is noted of the logs that come to a configuration from regular ones: the ranks of their processes are at most `rank`, and at

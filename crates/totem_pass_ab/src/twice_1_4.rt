@@ -13,8 +13,8 @@ use crate::neighbours::is_transitional;
 use crate::pairs::{Standing, Test, least_bad};
 use std::alloc::{AllocError, Global};
 use totem_evs::{Entry, Places, Run, SpecNo};
-use totem_ids::{MsgId, Place, Proc};
 use totem_judge_run::{deliveries_are_once, sends_are_once};
+use totem_names::{MsgId, Place, Proc};
 use totem_table::{Register, enter_run};
 
 /// A message, and a process that delivers it.

@@ -17,7 +17,7 @@ use crate::pairs::Rest;
 use std::alloc::{AllocError, Global};
 use std::collections::{BTreeMap, BTreeSet};
 use totem_evs::{Entry, Places, Run, SpecNo};
-use totem_ids::{ConfId, MsgId, Proc, RingId};
+use totem_names::{ConfId, MsgId, Proc, RingId};
 use totem_table::{
     Change, ChangeRegister, Changes, Register, Relation, enter_changes, enter_run, least, places_of,
 };

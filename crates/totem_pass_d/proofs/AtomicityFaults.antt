@@ -2,11 +2,11 @@
 -- goes along without the message.
 use Rattle.std.proofs.Common.{◌≡◌, ℕ, ◌+◌, ◌<◌, inl, inr, List, [], ◌∷◌, length, slice_get, Some, Bool, true, false, IsTrue, ◌↔◌, refl, sym, arith}
 use Rattle.std.specs.Bool.{OnTrue, OnFalse}
-use Rattle.totem_ids.specs.declared.ring.RingId.{RingId}
-use Rattle.totem_ids.specs.declared.conf.ConfId.{ConfId}
-use Rattle.totem_ids.specs.declared.conf.ConfId.TheVariants.{Regular, Transitional}
-use Rattle.totem_ids.specs.declared.message.MsgId.{MsgId}
-use Rattle.totem_ids.specs.declared.place.Place.{Place}
+use Rattle.totem_names.specs.declared.ring.RingId.{RingId}
+use Rattle.totem_names.specs.declared.conf.ConfId.{ConfId}
+use Rattle.totem_names.specs.declared.conf.ConfId.TheVariants.{Regular, Transitional}
+use Rattle.totem_names.specs.declared.message.MsgId.{MsgId}
+use Rattle.totem_names.specs.declared.place.Place.{Place}
 use Rattle.totem_evs.specs.declared.entry.Entry.{Entry}
 use Rattle.totem_evs.specs.declared.entry.Entry.TheVariants.{Deliver}
 use Rattle.totem_evs.specs.declared.log.Log.{Log}

@@ -6,9 +6,9 @@ use Rattle.std.specs.BTreeMap as tree
 use Rattle.std.specs.BTreeSet.{BTreeSet, IsOrdered}
 use Rattle.std.specs.BTreeSet as sorted
 use Rattle.std.proofs.lemmas.Map.Lookups.{CmpEqualImpliesEq}
-use Rattle.totem_ids.specs.declared.ring.RingId.{RingId}
-use Rattle.totem_ids.specs.declared.conf.ConfId.{ConfId}
-use Rattle.totem_ids.specs.declared.conf.ConfId.TheVariants.{Regular}
+use Rattle.totem_names.specs.declared.ring.RingId.{RingId}
+use Rattle.totem_names.specs.declared.conf.ConfId.{ConfId}
+use Rattle.totem_names.specs.declared.conf.ConfId.TheVariants.{Regular}
 use Rattle.totem_evs.specs.declared.entry.Entry.{Entry}
 use Rattle.totem_evs.specs.declared.entry.Entry.TheVariants.{Conf}
 use Rattle.totem_evs.specs.declared.log.Log.{Log}
@@ -16,13 +16,13 @@ use Rattle.totem_evs.specs.Events.{log_of, ChangesTo, IsChange, IsQuiet, ending_
 use Rattle.totem_evs.specs.Answers.{IsRing, AreRings, MeetsPasses}
 use Rattle.totem_table.specs.declared.keys.Change.{Change}
 use Rattle.totem_table.specs.Registers.{Keeps, StaysSound}
-use Rattle.totem_ids.proofs.Exact.{equal_at, apart_or_at, exact_ring}
+use Rattle.totem_names.proofs.Exact.{equal_at, apart_or_at, exact_ring}
 use Rattle.totem_table.proofs.Exact.{change_by}
 use Rattle.std.proofs.lemmas.Option.{slice_get_within, slice_get-get_or, get_or_from_slice_get}
 use Rattle.std.proofs.lemmas.Map.Keys.{Less-from_sorted}
 use Rattle.std.proofs.lemmas.Map.Views.{btree_set_contains_iff}
-use Rattle.totem_ids.specs.contracts.ring.RingIdOrd.TheImpl as ring
-use Rattle.totem_ids.specs.contracts.ring.RingIdOrd.TheImpl.Laws.{total-law}
+use Rattle.totem_names.specs.contracts.ring.RingIdOrd.TheImpl as ring
+use Rattle.totem_names.specs.contracts.ring.RingIdOrd.TheImpl.Laws.{total-law}
 use Rattle.totem_judge_run.proofs.PendingOrder.{below_from_less}
 use Rattle.totem_pass_d.specs.Comings.{KnowsComing, AreComings, HoldsComings}
 use Rattle.totem_evs.specs.Runs.{IsRun, IsLog}

@@ -1,6 +1,6 @@
 -- What breaks 3, 7.1 and 7.2 in one regular configuration, event by event, and which processes the end of their stay excuses.
 use Rattle.std.proofs.Common.{◌≡◌, ◌⊎◌, inl, inr, List, length, Bool, true, false, refl, arith, ℕ, ◌<◌, ◌≤◌, get_or, slice_get, Some, not, IsTrue, ◌↔◌, sym}
-use Rattle.totem_ids.specs.declared.ring.RingId.{RingId}
+use Rattle.totem_names.specs.declared.ring.RingId.{RingId}
 use Rattle.totem_evs.specs.declared.log.Log.{Log}
 use Rattle.totem_evs.specs.Events.{IsQuiet, log_of, ChangesTo, Delivers}
 use Rattle.totem_evs.specs.Following.{FailedIn, StaysIn, OpenIn, Com, DeliversIn, HasDelivered, DeliversOrEnds}
@@ -13,10 +13,10 @@ use Rattle.std.specs.List.{AllWithin, HoldsAt}
 use Rattle.std.proofs.lemmas.Bool.{cases_eq}
 use Rattle.std.proofs.lemmas.Grind.{get_or_default_zero}
 use Rattle.std.proofs.lemmas.List.Elements.{All-from_all_within, All-contains}
-use Rattle.totem_ids.specs.declared.conf.ConfId.{ConfId}
-use Rattle.totem_ids.specs.declared.conf.ConfId.TheVariants.{Regular}
-use Rattle.totem_ids.specs.declared.message.MsgId.{MsgId}
-use Rattle.totem_ids.specs.declared.message.Service.{Service}
+use Rattle.totem_names.specs.declared.conf.ConfId.{ConfId}
+use Rattle.totem_names.specs.declared.conf.ConfId.TheVariants.{Regular}
+use Rattle.totem_names.specs.declared.message.MsgId.{MsgId}
+use Rattle.totem_names.specs.declared.message.Service.{Service}
 use Rattle.totem_evs.specs.declared.entry.Entry.{Entry}
 use Rattle.totem_evs.specs.declared.entry.Entry.TheVariants.{Send, Deliver, Fail}
 use Rattle.totem_evs.specs.Changes.{Names}

@@ -2,8 +2,8 @@
 -- stay of a process.
 use Rattle.std.proofs.Common.{◌≡◌, ℕ, ◌+◌, ◌<◌, ◌≤◌, inl, inr, List, ◌∷◌, length, slice_get, Some, refl, sym, ap, arith, below_more, [], Result, Ok, Err, Option, None, IfOk, MatchOption, zero, suc, add-one}
 use Rattle.std.proofs.lemmas.Option.{slice_get_within, get_or_from_slice_get}
-use Rattle.totem_ids.specs.declared.ring.RingId.{RingId}
-use Rattle.totem_ids.specs.declared.place.Place.{Place}
+use Rattle.totem_names.specs.declared.ring.RingId.{RingId}
+use Rattle.totem_names.specs.declared.place.Place.{Place}
 use Rattle.totem_evs.specs.declared.log.Log.{Log}
 use Rattle.totem_evs.specs.Answers.{ComesFirst, IsLeast, FindsIn}
 use Rattle.totem_table.specs.Search.{place, NoneFrom, HoldsOfNone, IsLeastFrom}
@@ -15,8 +15,8 @@ use Rattle.totem_pass_d.specs.Search.{IsInside, EachBeginsWithin, NoneBelow, Non
 use Rattle.totem_evs.specs.declared.spec.SpecNo.{SpecNo}
 use Rattle.totem_evs.specs.RingFaults.{BreaksIn, MeetsIn}
 use Rattle.std.specs.declared.alloc.AllocError.{AllocError}
-use Rattle.totem_ids.specs.declared.conf.ConfId.{ConfId}
-use Rattle.totem_ids.specs.declared.message.MsgId.{MsgId}
+use Rattle.totem_names.specs.declared.conf.ConfId.{ConfId}
+use Rattle.totem_names.specs.declared.message.MsgId.{MsgId}
 use Rattle.totem_evs.specs.declared.entry.Entry.{Entry}
 use Rattle.totem_evs.specs.Events.{at_place, entry_at, log_of, Sends}
 use Rattle.totem_evs.specs.Changes.{Names}

@@ -3,19 +3,19 @@ use Rattle.std.proofs.Common.{◌≡◌, ℕ, ◌+◌, ◌<◌, inl, inr, List, 
 use Rattle.std.specs.BTreeMap.{BTreeMap}
 use Rattle.std.specs.BTreeMap as tree
 use Rattle.std.proofs.lemmas.Option.{slice_get_within}
-use Rattle.totem_ids.specs.declared.ring.RingId.{RingId}
-use Rattle.totem_ids.specs.declared.conf.ConfId.{ConfId}
-use Rattle.totem_ids.specs.declared.conf.ConfId.TheVariants.{Regular}
-use Rattle.totem_ids.specs.declared.message.MsgId.{MsgId}
-use Rattle.totem_ids.specs.declared.message.Service.{Service}
-use Rattle.totem_ids.specs.contracts.message.MsgIdOrd.TheImpl as message
+use Rattle.totem_names.specs.declared.ring.RingId.{RingId}
+use Rattle.totem_names.specs.declared.conf.ConfId.{ConfId}
+use Rattle.totem_names.specs.declared.conf.ConfId.TheVariants.{Regular}
+use Rattle.totem_names.specs.declared.message.MsgId.{MsgId}
+use Rattle.totem_names.specs.declared.message.Service.{Service}
+use Rattle.totem_names.specs.contracts.message.MsgIdOrd.TheImpl as message
 use Rattle.totem_evs.specs.declared.entry.Entry.{Entry}
 use Rattle.totem_evs.specs.declared.entry.Entry.TheVariants.{Send, Deliver}
 use Rattle.totem_evs.specs.declared.log.Log.{Log}
 use Rattle.totem_evs.specs.Events.{Sends, log_of, Delivers}
 use Rattle.totem_evs.specs.Answers.{MeetsPasses}
 use Rattle.totem_judge_traffic.proofs.Rowing.{before_or_at}
-use Rattle.totem_ids.proofs.Exact.{equal_at, apart_or_at, exact_message}
+use Rattle.totem_names.proofs.Exact.{equal_at, apart_or_at, exact_message}
 use Rattle.totem_judge_run.specs.Stays.{IsStay}
 use Rattle.totem_pass_d.specs.declared.stays.Stay.{Stay}
 use Rattle.totem_pass_d.specs.declared.stays.Sending.{Sending}

@@ -10,12 +10,12 @@ use Rattle.std.specs.Option.{IsSome}
 use Rattle.std.specs.BTreeMap as tree
 use Rattle.std.proofs.lemmas.Option.{slice_get_within, slice_get_read, get_or_from_slice_get}
 use Rattle.std.proofs.lemmas.Map.Views.{btree_map_contains_key_iff}
-use Rattle.totem_ids.specs.declared.ring.RingId.{RingId}
-use Rattle.totem_ids.specs.declared.conf.ConfId.TheVariants.{Regular}
-use Rattle.totem_ids.specs.declared.message.MsgId.{MsgId}
-use Rattle.totem_ids.specs.contracts.message.MsgIdOrd.TheImpl as message
-use Rattle.totem_ids.specs.contracts.message.MsgIdOrd.TheImpl.Laws.{total-law}
-use Rattle.totem_ids.proofs.Exact.{exact_message}
+use Rattle.totem_names.specs.declared.ring.RingId.{RingId}
+use Rattle.totem_names.specs.declared.conf.ConfId.TheVariants.{Regular}
+use Rattle.totem_names.specs.declared.message.MsgId.{MsgId}
+use Rattle.totem_names.specs.contracts.message.MsgIdOrd.TheImpl as message
+use Rattle.totem_names.specs.contracts.message.MsgIdOrd.TheImpl.Laws.{total-law}
+use Rattle.totem_names.proofs.Exact.{exact_message}
 use Rattle.totem_evs.specs.declared.entry.Entry.{Entry}
 use Rattle.totem_evs.specs.declared.log.Log.{Log}
 use Rattle.totem_evs.specs.Events.{log_of, ChangesTo}

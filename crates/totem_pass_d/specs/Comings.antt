@@ -5,8 +5,8 @@ use Rattle.std.specs.BTreeMap.{BTreeMap}
 use Rattle.std.specs.BTreeMap as tree
 use Rattle.std.specs.BTreeSet.{BTreeSet}
 use Rattle.std.specs.BTreeSet as sorted
-use Rattle.totem_ids.specs.declared.ring.RingId.{RingId}
-use Rattle.totem_ids.specs.declared.conf.ConfId.TheVariants.{Regular}
+use Rattle.totem_names.specs.declared.ring.RingId.{RingId}
+use Rattle.totem_names.specs.declared.conf.ConfId.TheVariants.{Regular}
 use Rattle.totem_evs.specs.declared.entry.Entry.{Entry}
 use Rattle.totem_evs.specs.declared.log.Log.{Log}
 use Rattle.totem_evs.specs.Events.{ChangesTo, log_of}

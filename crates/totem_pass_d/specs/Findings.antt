@@ -1,7 +1,7 @@
 -- The findings of one job: for each specification of the last pass the least events that break it in one regular configuration,
 -- or none if the run meets it there (docs/SPECIFICATIONS.md, "Passes").
 use Rattle.std.specs.Prelude.{◌≡◌, ◌++◌, List, [], None, IsTrue}
-use Rattle.totem_ids.specs.declared.ring.RingId.{RingId}
+use Rattle.totem_names.specs.declared.ring.RingId.{RingId}
 use Rattle.totem_evs.specs.declared.log.Log.{Log}
 use Rattle.totem_evs.specs.declared.spec.SpecNo.TheVariants as spec
 use Rattle.totem_evs.specs.declared.fault.Fault.{Fault}

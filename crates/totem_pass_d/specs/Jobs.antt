@@ -1,7 +1,7 @@
 -- The jobs of the last pass (docs/SPECIFICATIONS.md, "Passes").
 use Rattle.std.specs.Prelude.{◌≡◌, ℕ, List, slice_get, Some}
-use Rattle.totem_ids.specs.declared.ring.RingId.{RingId}
-use Rattle.totem_ids.specs.contracts.ring.RingIdOrd.TheImpl as ring
+use Rattle.totem_names.specs.declared.ring.RingId.{RingId}
+use Rattle.totem_names.specs.contracts.ring.RingIdOrd.TheImpl as ring
 use Rattle.totem_table.specs.contracts.keys.ChangeOrd.TheImpl as change
 use Rattle.totem_evs.specs.declared.log.Log.{Log}
 use Rattle.totem_evs.specs.Answers.{MeetsPasses, AreRings}

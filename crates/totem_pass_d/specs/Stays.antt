@@ -1,8 +1,8 @@
 -- The parts of the logs that are in one regular configuration and in what follows it
 -- (docs/SPECIFICATIONS.md, "Following", "Passes").
 use Rattle.std.specs.Prelude.{◌≡◌, ◌↔◌, ℕ, ◌<◌, ◌≤◌, false, IsTrue, List, length, slice_get, Some, All, AllPairs}
-use Rattle.totem_ids.specs.declared.ring.RingId.{RingId}
-use Rattle.totem_ids.specs.declared.conf.ConfId.TheVariants.{Regular}
+use Rattle.totem_names.specs.declared.ring.RingId.{RingId}
+use Rattle.totem_names.specs.declared.conf.ConfId.TheVariants.{Regular}
 use Rattle.totem_evs.specs.declared.log.Log.{Log}
 use Rattle.totem_evs.specs.Events.{ChangesTo, IsQuiet, log_of}
 use Rattle.totem_evs.specs.Following.{NeverFails}

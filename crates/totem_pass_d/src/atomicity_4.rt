@@ -14,7 +14,7 @@ use crate::search::{EachIndex, Finder, FoundList, Relation, first_found, least_f
 use crate::stays::{Stay, Stays};
 use std::alloc::{AllocError, Global};
 use totem_evs::{Entry, Places, SpecNo};
-use totem_ids::{ConfId, MsgId};
+use totem_names::{ConfId, MsgId};
 use totem_table::begin_at;
 
 /// Returns the index at which a stay changes to this one of its two configurations, and that of the next change or of the end of the stay.

@@ -19,7 +19,7 @@ use crate::suspects::{comes_before, suspects_of};
 use std::alloc::{AllocError, Global};
 use std::collections::BTreeSet;
 use totem_evs::{Entry, Places, SpecNo};
-use totem_ids::{MsgId, Proc};
+use totem_names::{MsgId, Proc};
 
 /// The deliveries of a message without its cause before it.
 #[derive(Clone, Copy)]

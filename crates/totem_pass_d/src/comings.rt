@@ -5,7 +5,7 @@ use crate::stays::{Stays, sends_of, stay_from};
 use std::alloc::{AllocError, Global};
 use std::collections::{BTreeMap, BTreeSet};
 use totem_evs::{Entry, Run};
-use totem_ids::{ConfId, Proc, RingId};
+use totem_names::{ConfId, Proc, RingId};
 use totem_table::{Change, ChangeRegister, Changes, enter_changes};
 
 /// The rings of the regular configurations, and the index at which each process changes to each of them.

@@ -15,7 +15,7 @@ use crate::stays::{Stay, Stays};
 use crate::suspects::comes_before;
 use std::alloc::{AllocError, Global};
 use totem_evs::{Entry, Places, SpecNo};
-use totem_ids::{MsgId, Proc};
+use totem_names::{MsgId, Proc};
 use totem_table::begin_at;
 
 fn is_among(members: &[Proc], proc: Proc) -> bool

@@ -7,7 +7,7 @@ ghost use Rattle.totem_pass_d.specs.Indexes.{IsShortPart, delivered_at, IsDelive
 use std::alloc::{AllocError, Global};
 use std::collections::BTreeMap;
 use totem_evs::Entry;
-use totem_ids::MsgId;
+use totem_names::MsgId;
 
 /// How many places a row may have at most for each entry.
 const SPARSEST: usize = 4;

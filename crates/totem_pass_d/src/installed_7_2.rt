@@ -9,7 +9,7 @@ ghost use Rattle.totem_pass_d.specs.KnownStays.{AreKnown};
 use crate::search::EventTest;
 use crate::stays::{Stay, Stays};
 use totem_evs::Entry;
-use totem_ids::Proc;
+use totem_names::Proc;
 
 /// The deliveries of safe messages in the regular configuration if a member never changes to it.
 #[derive(Clone, Copy)]

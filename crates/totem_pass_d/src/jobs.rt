@@ -12,8 +12,8 @@ use crate::findings::{Findings, findings_in};
 use std::alloc::{AllocError, Global};
 use std::collections::BTreeMap;
 use totem_evs::Run;
-use totem_ids::RingId;
 use totem_judge_traffic::{Observed, Shown, Traffic};
+use totem_names::RingId;
 use totem_table::Changes;
 
 /// The jobs of a run that has passed the passes before, in the order of their configurations. Each depends on no other part of the run

@@ -13,8 +13,8 @@ use crate::jobs::Jobs;
 use crate::stays::{Stay, Stays};
 use std::alloc::{AllocError, Global};
 use totem_evs::{Pending, Run, Waiting};
-use totem_ids::MsgId;
 use totem_judge_run::{has_failed, in_order};
+use totem_names::MsgId;
 
 /// Returns whether the process of this stay is open in it.
 fn is_open(stays: &Stays, stay: &Stay) -> bool

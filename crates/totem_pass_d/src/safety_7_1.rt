@@ -9,7 +9,7 @@ ghost use Rattle.totem_pass_d.specs.KnownStays.{AreKnown};
 use crate::search::EventTest;
 use crate::stays::{Stay, Stays};
 use totem_evs::Entry;
-use totem_ids::{MsgId, Proc};
+use totem_names::{MsgId, Proc};
 
 /// The deliveries of safe messages that some member neither delivers nor is excused from delivering.
 #[derive(Clone, Copy)]

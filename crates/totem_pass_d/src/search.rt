@@ -1,7 +1,7 @@
 //! The least list of events of a run, or the least single event, that starts in a regular configuration or in what follows it.
 ghost use Rattle.std.specs.Prelude.{◌≡◌, ◌<◌, ℕ, IfOk, MatchOption, List, [], ◌∷◌};
 ghost use Rattle.std.specs.Bool.{OnTrue, OnFalse};
-ghost use Rattle.totem_ids.specs.declared.place.Place.{Place};
+ghost use Rattle.totem_names.specs.declared.place.Place.{Place};
 ghost use Rattle.totem_table.specs.Search.{place, NoneFrom, IsLeastFrom, HoldsOfNone};
 ghost use Rattle.totem_evs.specs.Answers.{FindsIn, IsLeast};
 ghost use Rattle.totem_evs.specs.RingFaults.{MeetsIn};
@@ -15,7 +15,7 @@ ghost use Rattle.totem_pass_d.specs.Search.{IsInside, IsOneEvent, IsBrokenAlone,
 use crate::stays::{Stay, Stays};
 use std::alloc::{AllocError, Global};
 use totem_evs::Places;
-use totem_ids::{Place, Proc};
+use totem_names::{Place, Proc};
 use totem_table::{begin_at, places_of};
 
 /// What a search for the least list returns: that list or the rest of it, if there is one.

@@ -15,8 +15,8 @@ use crate::indexes::Indexes;
 use std::alloc::{AllocError, Global};
 use std::collections::BTreeMap;
 use totem_evs::{Ending, Entry, Log, Run};
-use totem_ids::{MsgId, Proc, RingId, Service};
 use totem_judge_run::walk_to_change;
+use totem_names::{MsgId, Proc, RingId, Service};
 
 /// The stay of a process. Its log changes to the regular configuration at `from` and to what follows that at `turn`; the entries
 /// before `end` are in these two. If nothing follows, `turn` is `end`. A quiet log claims that nothing more was to come

@@ -10,7 +10,7 @@ use crate::stays::{Stay, Stays};
 use std::alloc::{AllocError, Global};
 use std::collections::BTreeSet;
 use totem_evs::Entry;
-use totem_ids::MsgId;
+use totem_names::MsgId;
 
 /// Returns the message that this entry sends or delivers.
 fn handled(entry: &Entry) -> Option<MsgId>

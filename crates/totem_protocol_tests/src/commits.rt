@@ -1,8 +1,8 @@
 //! Commit tokens by direct calls: the members' views are given in words, and what the members do is text.
 use crate::values::{Case, part, proc, push, push_procs, push_truth, ring, set};
 use std::alloc::{AllocError, Global};
-use totem_ids::RingId;
 use totem_member::{CommitOut, CommitView, MemberFault, Phase, first_commit, on_commit};
+use totem_names::RingId;
 use totem_packets::{CommitToken, Life, Number, Report, Round};
 
 /// Returns the state of a member: the ring whose token it has filled, its phase, and whether it has started that ring.

@@ -3,7 +3,7 @@ use crate::names::{Text, memory, message, told};
 use crate::streams::push_bytes;
 use crate::values::{Case, proc};
 use std::alloc::{AllocError, Global};
-use totem_ids::{
+use totem_names::{
     Failed, Pieces, Place, Proc, ReadError, Service, Sink, ToWrite, Version, life_fits, life_order,
     life_spelling, read_place, read_process, read_process_to, read_service, service_spelling,
     write_message, write_number, write_process,

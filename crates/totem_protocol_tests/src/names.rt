@@ -2,7 +2,7 @@
 use crate::values::{Case, proc};
 use std::alloc::{AllocError, Global};
 use std::fmt::Display;
-use totem_ids::{
+use totem_names::{
     ConfId, Failed, FromRead, MsgId, Place, Proc, ProcId, ReadError, RingId, Service, TextFault,
     Version, conf_fits, conf_order, conf_spelling, message_fits, message_order, message_spelling,
     next, number, number_spelling, number_to, number_within, place_fits, place_order,

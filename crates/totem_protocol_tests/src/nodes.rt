@@ -6,9 +6,9 @@ use std::fmt;
 use std::fmt::Write;
 use std::sync::Arc;
 use std::test::Fail;
+use totem_core::{Input, NodeCore, NodeFault, StepOut};
 use totem_evs::{Entry, Members};
-use totem_ids::{Proc, ProcId, Service};
-use totem_node::{Input, NodeCore, NodeFault, StepOut};
+use totem_names::{Proc, ProcId, Service};
 use totem_packets::{
     Body, CommitMember, CommitMembers, CommitToken, Join, Message, Number, Packet, Payload,
     Processes, Round, TokenSeq,

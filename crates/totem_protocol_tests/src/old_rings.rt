@@ -1,7 +1,7 @@
 //! What the reports of a commit token say about an old ring. Members are given in words, and answers as text.
 use crate::values::{Case, numbers, proc, push, push_made, push_procs, ring, set};
 use std::alloc::{AllocError, Global};
-use totem_ids::Proc;
+use totem_names::Proc;
 use totem_packets::{CommitMember, CommitMembers, Life, Processes, Report};
 
 /// Returns the report with the old ring's number, up to where messages are held, up to where they were delivered to the node,

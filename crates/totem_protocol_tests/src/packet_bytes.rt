@@ -4,7 +4,7 @@ use crate::values::{ring, set};
 use bytes::Bytes;
 use std::alloc::{AllocError, Global};
 use std::test::Fail;
-use totem_ids::{ProcId, Service};
+use totem_names::{ProcId, Service};
 use totem_packets::{
     Body, CommitMember, CommitMembers, CommitToken, Join, Life, Message, Number, Packet,
     PacketFault, Payload, Report, Requests, Round, Token, TokenSeq,

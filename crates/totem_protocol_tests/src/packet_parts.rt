@@ -3,7 +3,7 @@
 use crate::values::{Case, numbers, proc, procs, push, push_procs};
 use bytes::Bytes;
 use std::alloc::{AllocError, Global};
-use totem_ids::ProcId;
+use totem_names::ProcId;
 use totem_packets::{
     CommitMember, CommitMembers, Life, ListFault, Number, PacketFault, Payload, Processes,
     Requests, TokenSeq, a_cut_packet_is_short, is_among, kind_5_tells_later_lives,

@@ -4,7 +4,7 @@ use crate::values::{proc, ring, set};
 use bytes::Bytes;
 use std::alloc::{AllocError, Global};
 use std::test::Fail;
-use totem_ids::{ProcId, RingId, Service};
+use totem_names::{ProcId, RingId, Service};
 use totem_packets::{
     CommitMember, CommitMembers, CommitToken, Join, Life, Number, Packet, Payload, Report,
     Requests, Round, Token, TokenSeq,

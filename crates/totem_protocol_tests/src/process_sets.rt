@@ -1,7 +1,7 @@
 //! Sets of processes. Questions are given in words, and answers as text.
 use crate::values::{Case, proc, push_made, push_procs, set};
 use std::alloc::{AllocError, Global};
-use totem_ids::ProcId;
+use totem_names::ProcId;
 use totem_packets::{Processes, SetFault};
 
 fn told_made(alloc: Global, made: Result<Processes, SetFault>) -> Result<String, AllocError> {

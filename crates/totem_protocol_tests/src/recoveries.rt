@@ -6,7 +6,7 @@ use crate::values::{Case, part, proc, push_number, push_procs, push_truth, ring,
 use std::alloc::{AllocError, Global};
 use std::fmt::Display;
 use std::test::Fail;
-use totem_ids::{ProcId, Service};
+use totem_names::{ProcId, Service};
 use totem_packets::{Body, Packet};
 use totem_recover::{
     Recovery, a_member_owes_itself, is_ready, members_leave_alike, owed_are_delivered,

@@ -3,7 +3,7 @@ use crate::values::{part, proc, procs, push, push_lives, say, set, state};
 use std::alloc::{AllocError, Global};
 use std::test::Fail;
 use totem_evs::Entry;
-use totem_ids::{ProcId, RingId, Service};
+use totem_names::{ProcId, RingId, Service};
 use totem_packets::{
     Body, CommitMember, CommitMembers, CommitToken, Life, Message, Number, Report, Round,
 };

@@ -1,7 +1,7 @@
 //! Members of a ring for the tests: what they do is given in words, and what they answer is text.
 use crate::values::{is_shown_alike, proc, procs, push, push_number, ring, say, state};
 use std::alloc::{AllocError, Global};
-use totem_ids::{ProcId, RingId, Service};
+use totem_names::{ProcId, RingId, Service};
 use totem_packets::{Body, Message, Packet, Token};
 use totem_ring::{MOST_WAITING, RingFault, RingOut, RingState, RingUndo, To, first_token};
 

@@ -5,7 +5,7 @@ use crate::values::{procs, ring, state};
 use bytes::Bytes;
 use std::alloc::{AllocError, Global};
 use std::test::Fail;
-use totem_ids::Service;
+use totem_names::Service;
 use totem_packets::{Body, Message, Packet, Payload};
 use totem_ring::{RingOut, RingState, first_token};
 

@@ -1,6 +1,6 @@
 //! The commands of a script's lines, and the fault of each line that is not a command.
 use std::alloc::Global;
-use totem_ids::{ProcId, RingId, Service};
+use totem_names::{ProcId, RingId, Service};
 use totem_script::{Command, Keyword, LineFault, Parts, ScriptVersion, read_command};
 
 fn read(alloc: Global, line: &str) -> Result<Command, LineFault> {

@@ -3,9 +3,9 @@
 use std::alloc::Global;
 use std::test::Fail;
 use totem_evs::write_run;
-use totem_ids::ToWrite;
+use totem_names::ToWrite;
 use totem_script::{
-    ScriptFault, ScriptFaultKind, ScriptVersion, a_return_begins_the_next_life,
+    FaultyLine, ScriptFault, ScriptVersion, a_return_begins_the_next_life, follow,
     only_the_crashed_return, simulate,
 };
 
@@ -38,15 +38,15 @@ fn text_of(alloc: Global, script: &str) -> Result<Vec<u8>, Fail> {
 }
 
 /// Returns what is wrong with a script, and in which line.
-fn fault_of(alloc: Global, script: &str) -> Result<Option<(ScriptFaultKind, u32)>, Fail> {
-    match simulate(alloc, &bytes_of(alloc, script)?) {
+fn fault_of(alloc: Global, script: &str) -> Result<Option<(ScriptFault, u32)>, Fail> {
+    match follow(alloc, &bytes_of(alloc, script)?) {
         Ok(_) => Ok(None),
         Err(fault) => Ok(Some((fault.kind, fault.line))),
     }
 }
 
 /// Returns what is wrong with a script in which its one process crashes and returns this often.
-fn fault_of_returns(alloc: Global, times: u32) -> Result<Option<(ScriptFaultKind, u32)>, Fail> {
+fn fault_of_returns(alloc: Global, times: u32) -> Result<Option<(ScriptFault, u32)>, Fail> {
     let mut script = String::new(alloc);
     script.push_str("totem-script 2;ring 4.1 1;")?;
     for _ in 0..times {
@@ -90,9 +90,9 @@ fn who_comes_back_has_crashed(rt: HostRuntime) -> Result<(), Fail> {
     )?;
     let runs = fault_of(rt.alloc(), "totem-script 2;ring 4.1 1;return 1;end;")?;
     let unknown = fault_of(rt.alloc(), "totem-script 2;ring 4.1 1;return 2;end;")?;
-    assert_eq!(rt; old, Some((ScriptFaultKind::Word, 4)));
-    assert_eq!(rt; runs, Some((ScriptFaultKind::Place, 3)));
-    assert_eq!(rt; unknown, Some((ScriptFaultKind::Members, 3)));
+    assert_eq!(rt; old, Some((ScriptFault::Word, 4)));
+    assert_eq!(rt; runs, Some((ScriptFault::Place, 3)));
+    assert_eq!(rt; unknown, Some((ScriptFault::Members, 3)));
     Ok(())
 }
 
@@ -107,7 +107,7 @@ fn a_return_has_a_ring_number(rt: HostRuntime) -> Result<(), Fail> {
         rt.alloc(),
         "totem-script 2;ring 4294967292.1 1;crash 1;return 1;end;",
     )?;
-    assert_eq!(rt; (last, none), (None, Some((ScriptFaultKind::Place, 4))));
+    assert_eq!(rt; (last, none), (None, Some((ScriptFault::Place, 4))));
     Ok(())
 }
 
@@ -117,7 +117,7 @@ fn each_life_counts(rt: HostRuntime) -> Result<(), Fail> {
     assert_eq!(rt; fault_of_returns(rt.alloc(), 31)?, None);
     assert_eq!(rt;
         fault_of_returns(rt.alloc(), 32)?,
-        Some((ScriptFaultKind::TooMany, 66))
+        Some((ScriptFault::TooMany, 66))
     );
     Ok(())
 }
@@ -139,13 +139,13 @@ fn a_first_line_names_a_version(rt: HostRuntime) {
 /// The text of a script's fault says what is wrong, and in which line.
 #[test]
 fn a_fault_says_what_and_where(rt: HostRuntime) -> Result<(), Fail> {
-    let fault = ScriptFault {
-        kind: ScriptFaultKind::Place,
+    let fault = FaultyLine {
+        kind: ScriptFault::Place,
         line: 3,
     };
     let text = format!(in rt.alloc(); "{fault}")?;
     assert_eq!(rt;
-        (fault.number(), fault.name(), text.as_str()),
+        (fault.kind.number(), fault.kind.name(), text.as_str()),
         (
             6,
             "Place",

@@ -5,7 +5,7 @@ use crate::values::{Case, push};
 use std::alloc::{AllocError, Global};
 use std::io;
 use std::io::{ErrorKind, Read, Write};
-use totem_ids::{
+use totem_names::{
     Buffered, ConfId, Failed, FromRead, Fused, Pieces, Sink, Source, ToWrite, Version, read_ring,
 };
 

@@ -2,7 +2,7 @@
 use bytes::Bytes;
 use std::alloc::{AllocError, Global};
 use std::fmt::Debug;
-use totem_ids::{Proc, ProcId, RingId, Service};
+use totem_names::{Proc, ProcId, RingId, Service};
 use totem_packets::{Body, Payload, Processes, SetFault};
 use totem_ring::RingState;
 

@@ -1,6 +1,6 @@
 -- Writing the deliveries of an old ring, one held message after another.
 use Rattle.std.proofs.Common.{◌≡◌, ℕ, ◌+◌, ◌≤◌, List, ◌++◌, length, Bool, true, false}
-use Rattle.totem_ids.specs.declared.conf.ConfId.{ConfId}
+use Rattle.totem_names.specs.declared.conf.ConfId.{ConfId}
 use Rattle.totem_packets.specs.declared.message.Message as message
 use Rattle.totem_evs.specs.declared.entry.Entry.{Entry}
 use Rattle.totem_ring.specs.Rings.{Held, going_up}

@@ -1,7 +1,7 @@
 -- The members that a commit token reports are the members of configurations.
 use Rattle.std.proofs.Common.{◌≡◌, ℕ, ◌<◌, List, [], ◌∷◌, length, sym, subst, IsTrue, arith}
 use Rattle.std.proofs.lemmas.List.{length-map}
-use Rattle.totem_ids.specs.Names.{RingName}
+use Rattle.totem_names.specs.Names.{RingName}
 use Rattle.totem_packets.specs.declared.commit_member.CommitMember.{CommitMember}
 use Rattle.totem_packets.specs.CommitMembers.{IsCommitMembers}
 use Rattle.totem_packets.specs.Lives.{member_ranks, transitional_ranks}

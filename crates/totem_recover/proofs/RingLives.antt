@@ -2,11 +2,11 @@
 use Rattle.std.proofs.Common.{◌≡◌, ℕ, ◌<◌, List, [], ◌∷◌, length, get_or, refl, ap, ◌∙◌, arith}
 use Rattle.std.specs.Prelude.{AllPairs}
 use Rattle.std.proofs.lemmas.List.{length-map, get_or-map}
-use Rattle.totem_ids.specs.Lists.{Refuses}
-use Rattle.totem_ids.proofs.Kept.{not_refused}
+use Rattle.totem_names.specs.Lists.{Refuses}
+use Rattle.totem_names.proofs.Kept.{not_refused}
 use Rattle.totem_evs.specs.Members.{IsBelow}
-use Rattle.totem_ids.specs.declared.refused.ListFault.{ListFault}
-use Rattle.totem_ids.specs.Ranks.{id_of}
+use Rattle.totem_names.specs.declared.refused.ListFault.{ListFault}
+use Rattle.totem_names.specs.Ranks.{id_of}
 use Rattle.totem_recover.specs.Lives.{first_rank, first_ranks, ids_of, IsRingMembers}
 
 -- processes whose identifiers are those of a ring's members are ascending

@@ -1,8 +1,8 @@
 -- What the members of a new ring report to each other about their old rings (docs/PROTOCOL.md, "Recovery").
 use Rattle.std.specs.Prelude.{ℕ, ◌==◌, ◌&&◌, ◌≤◌, List, [], ◌∷◌, ◌++◌, length, map, filter, fold, take, drop, min, max, Bool, true, false, if◌then◌else◌, nat_lt, nat_le, IsTrue, Option, None, Some}
 use Rattle.std.specs.List.{filter_map}
-use Rattle.totem_ids.specs.Names.{RingName}
-use Rattle.totem_ids.specs.Ranks.{id_of}
+use Rattle.totem_names.specs.Names.{RingName}
+use Rattle.totem_names.specs.Ranks.{id_of}
 use Rattle.totem_packets.specs.declared.commit.CommitToken.{CommitToken}
 use Rattle.totem_packets.specs.declared.commit_member.CommitMember.{CommitMember}
 use Rattle.totem_packets.specs.declared.commit_member.Report.{Report}

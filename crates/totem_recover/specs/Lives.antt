@@ -1,6 +1,6 @@
 -- Processes and their lives: rings know identifiers, configurations know lives (docs/PROTOCOL.md, "The node").
 use Rattle.std.specs.Prelude.{ℕ, ◌<◌, List, length, map}
-use Rattle.totem_ids.specs.Ranks.{rank_of, id_of}
+use Rattle.totem_names.specs.Ranks.{rank_of, id_of}
 use Rattle.totem_packets.specs.Rising.{IsProcesses}
 
 -- the first life of an identifier

@@ -1,7 +1,7 @@
 -- Whose messages a member delivers when it leaves its old ring (docs/PROTOCOL.md, "The finish").
 use Rattle.std.specs.Prelude.{◌≡◌, ℕ, ◌<◌, ◌⊎◌, List, [], ◌∷◌, ◌++◌, true, Some}
-use Rattle.totem_ids.specs.declared.conf.ConfId.{ConfId}
-use Rattle.totem_ids.specs.declared.conf.ConfId.TheVariants.{Regular}
+use Rattle.totem_names.specs.declared.conf.ConfId.{ConfId}
+use Rattle.totem_names.specs.declared.conf.ConfId.TheVariants.{Regular}
 use Rattle.totem_packets.specs.declared.commit.CommitToken.{CommitToken}
 use Rattle.totem_packets.specs.declared.message.Message as message
 use Rattle.totem_packets.specs.Sets.{has}

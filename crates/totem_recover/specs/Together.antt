@@ -1,6 +1,6 @@
 -- Members that leave an old ring together (docs/PROTOCOL.md, "The finish").
 use Rattle.std.specs.Prelude.{◌≡◌, ℕ, ◌≤◌, ◌&&◌, ◌++◌, List, map, filter, nat_lt, nat_le}
-use Rattle.totem_ids.specs.declared.conf.ConfId.TheVariants.{Regular}
+use Rattle.totem_names.specs.declared.conf.ConfId.TheVariants.{Regular}
 use Rattle.totem_packets.specs.declared.message.Message as message
 use Rattle.totem_ring.specs.Rings.{Ring, Held, aru_of}
 use Rattle.totem_ring.specs.Invariant.{RisesFrom}

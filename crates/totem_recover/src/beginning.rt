@@ -9,7 +9,7 @@ use crate::lives::members_with;
 use std::alloc::{AllocError, Global};
 use std::sync::Arc;
 use totem_evs::Members;
-use totem_ids::{ProcId, RingId};
+use totem_names::{ProcId, RingId};
 use totem_packets::{CommitMembers, CommitToken, Processes, SetFault};
 use totem_ring::RingState;
 

@@ -7,7 +7,7 @@ ghost use Rattle.totem_recover.specs.Finish.{delivery, deliveries, rest_from};
 use std::alloc::AllocError;
 use std::collections::BTreeMap;
 use totem_evs::Entry;
-use totem_ids::{ConfId, MsgId};
+use totem_names::{ConfId, MsgId};
 use totem_packets::{Body, Message, Processes};
 use totem_ring::is_agreed;
 

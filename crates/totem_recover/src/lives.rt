@@ -6,7 +6,7 @@ ghost use Rattle.totem_recover.specs.Lives.{first_ranks, ids_of, IsRingMembers};
 use std::alloc::{AllocError, Global};
 use std::sync::Arc;
 use totem_evs::Members;
-use totem_ids::{Proc, ProcId};
+use totem_names::{Proc, ProcId};
 
 /// Returns the first lives of these identifiers.
 pub(crate) fn first_lives(alloc: Global, ids: &[ProcId]) -> Result<Vec<Proc>, AllocError>

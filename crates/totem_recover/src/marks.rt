@@ -1,10 +1,10 @@
 //! Marks: each says that its sender has sent all its messages of older rings (docs/PROTOCOL.md, "Recovery").
 ghost use Rattle.std.specs.Prelude.{◌≡◌, map};
-ghost use Rattle.totem_ids.specs.Ranks.{id_of};
+ghost use Rattle.totem_names.specs.Ranks.{id_of};
 ghost use Rattle.totem_recover.specs.Exchange.{is_mark, mark_of, greatest_of_all, is_reached};
 
 use std::collections::BTreeMap;
-use totem_ids::{Proc, ProcId};
+use totem_names::{Proc, ProcId};
 use totem_packets::{Body, Message};
 
 fn is_mark(body: &Body) -> bool

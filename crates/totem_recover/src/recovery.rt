@@ -7,7 +7,7 @@ use crate::sending::{MOST_AT_A_VISIT, copies_of, count_anew, list_to_send};
 use std::alloc::{AllocError, Global};
 use std::marker::Model;
 use totem_evs::{Entry, Members};
-use totem_ids::{ConfId, ProcId, RingId};
+use totem_names::{ConfId, ProcId, RingId};
 use totem_packets::{Body, CommitToken, Processes};
 use totem_ring::{RingOut, RingState};
 

@@ -5,7 +5,7 @@ ghost use Rattle.totem_recover.specs.Exchange.{sent_again, list_to_send, sent_an
 
 use std::alloc::{AllocError, Global};
 use std::collections::BTreeMap;
-use totem_ids::ProcId;
+use totem_names::ProcId;
 use totem_packets::{Body, Message, Packet};
 use totem_ring::To;
 

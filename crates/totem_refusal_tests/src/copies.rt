@@ -5,7 +5,7 @@ use totem_audit::{Verdict, audit};
 use totem_certificate::{CertFault, Certificate, read_cert};
 use totem_check::{Accepted, CheckFault, check};
 use totem_evs::{Entry, Fault, Log, Run, RunFault, read_run};
-use totem_ids::FromRead;
+use totem_names::FromRead;
 
 /// 1 and 2 move on to a ring of their own. 3 stays, has a message pending, and waits for both.
 const PARTED: &str = "totem-run 1

@@ -6,7 +6,7 @@ use rand_pcg::Pcg32;
 use std::alloc::{AllocError, Global};
 use std::test::Fail;
 use totem_evs::{Next, RunFault, RunReader, read_run};
-use totem_ids::FromRead;
+use totem_names::FromRead;
 use totem_packets::{Packet, PacketFault};
 
 /// The number of times that each packet and the text are changed.
@@ -143,7 +143,7 @@ fn fault_of_parts(alloc: Global, bytes: &[u8]) -> Option<RunFault> {
         Err(fault) => return Some(fault),
     };
     for _ in 0..=bytes.len() {
-        match reader.next(&mut source) {
+        match reader.next(alloc, &mut source) {
             Ok(Next::Part(_, later)) => reader = later,
             Ok(Next::End) => return None,
             Err(fault) => return Some(fault),

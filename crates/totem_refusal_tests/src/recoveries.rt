@@ -4,7 +4,7 @@ use bytes::Bytes;
 use std::alloc::{AllocError, Global};
 use std::test::Fail;
 use totem_evs::Entry;
-use totem_ids::Service;
+use totem_names::Service;
 use totem_packets::{
     Body, CommitMember, CommitMembers, CommitToken, Life, Message, Number, Payload, Processes,
     Report, Round,

@@ -7,9 +7,9 @@ use std::collections::VecDeque;
 use std::fmt;
 use std::sync::Arc;
 use std::test::Fail;
+use totem_core::Input;
 use totem_evs::{Entry, Members, Refused};
-use totem_ids::{Proc, ProcId, RingId, Service};
-use totem_node::Input;
+use totem_names::{Proc, ProcId, RingId, Service};
 use totem_packets::Packet;
 
 /// Packets on their way, each with its receiver.

@@ -1,6 +1,6 @@
 -- What can happen on one ring, whatever the network does (docs/PROTOCOL.md, "One order").
 use Rattle.std.specs.Prelude.{ℕ, ◌==◌, List, [], ◌∷◌, ◌++◌, map, Contains, if◌then◌else◌, Result, Ok, Err}
-use Rattle.totem_ids.specs.Names.{RingName}
+use Rattle.totem_names.specs.Names.{RingName}
 use Rattle.totem_packets.specs.declared.message.Body.{Body}
 use Rattle.totem_packets.specs.declared.message.Message.{Message}
 use Rattle.totem_packets.specs.declared.packet.Packet.{Packet}

@@ -6,7 +6,7 @@ ghost use Rattle.totem_ring.specs.Visits.{broadcasts, aru_set};
 
 use crate::outcome::To;
 use std::alloc::{AllocError, Global};
-use totem_ids::ProcId;
+use totem_names::ProcId;
 use totem_packets::{Message, Packet, Token};
 
 /// How a visit ends: the token that leaves, what the member sends, and what it delivers to its node.

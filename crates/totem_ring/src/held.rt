@@ -10,7 +10,7 @@ use crate::walks::{add_all, cut_above, put, whole_to};
 use std::alloc::{AllocError, Global};
 use std::collections::BTreeMap;
 use std::marker::Model;
-use totem_ids::Service;
+use totem_names::Service;
 use totem_packets::{Body, Message, Number};
 
 /// The messages of a ring that were received or sent here, by number.

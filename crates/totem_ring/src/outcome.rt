@@ -2,7 +2,7 @@
 ghost use Rattle.std.specs.Prelude.{◌≡◌, IfOk};
 
 use std::alloc::{AllocError, Global};
-use totem_ids::ProcId;
+use totem_names::ProcId;
 use totem_packets::{Message, Packet};
 
 /// The receivers of a packet.

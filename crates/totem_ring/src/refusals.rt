@@ -1,11 +1,11 @@
 //! Why a member's ring refuses a message or a token, such as an old or a repeated one (docs/PROTOCOL.md, "The ring"). Whether a node
-//! refuses it depends on its state, too: that is decided in totem_node, `messages` and `token_refusal`.
+//! refuses it depends on its state, too: that is decided in totem_core, `messages` and `token_refusal`.
 ghost use Rattle.std.specs.Prelude.{◌≡◌};
 ghost use Rattle.totem_ring.specs.Refusals.{is_none_or_member, is_above};
 
 use crate::fault::RingFault;
 use crate::state::{RingState, is_same_ring};
-use totem_ids::ProcId;
+use totem_names::ProcId;
 use totem_packets::{Body, Message, Number, Token, TokenSeq, is_among};
 
 pub fn is_none_or_member(members: &[ProcId], proc: Option<ProcId>) -> bool

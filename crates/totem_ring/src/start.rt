@@ -3,7 +3,7 @@ ghost use Rattle.std.specs.Prelude.{◌≡◌};
 ghost use Rattle.totem_ring.specs.Rings.{first_token};
 
 use std::alloc::Global;
-use totem_ids::RingId;
+use totem_names::RingId;
 use totem_packets::{Requests, Token, TokenSeq};
 
 /// Returns the first token of a ring, made for its least member. Takes no memory.

@@ -12,7 +12,7 @@ use crate::undo::{RingUndo, VisitUndo};
 use std::alloc::{AllocError, Global};
 use std::collections::BTreeMap;
 use std::marker::Model;
-use totem_ids::{ProcId, RingId};
+use totem_names::{ProcId, RingId};
 use totem_packets::{Body, Message, Number, Packet, Token};
 
 mod act;

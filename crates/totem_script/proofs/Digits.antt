@@ -2,7 +2,7 @@
 use Rattle.std.proofs.Common.{◌≡◌, ℕ, ◌<◌, ◌≤◌, ◌+◌, ◌-◌, ◌*◌, List, [], ◌∷◌, length, get_or, drop, true, false, Ok, Err, refl, ap, ◌∙◌, arith}
 use Rattle.std.proofs.lemmas.List.{drop_more, drop_all}
 use Rattle.std.proofs.lemmas.Bool.Decides.{nat_tests}
-use Rattle.totem_ids.specs.Numbers.{is_digit}
+use Rattle.totem_names.specs.Numbers.{is_digit}
 use Rattle.totem_script.specs.declared.fault.LineFault.TheVariants.{Word, Number}
 use Rattle.totem_script.specs.Numbers.{begins_number, digits_in, number_in}
 

@@ -3,9 +3,9 @@ use Rattle.std.proofs.Common.{◌≡◌, ℕ, zero, suc, ◌+◌, ◌-◌, ◌==
 use Rattle.std.specs.Prelude.{if◌then◌else◌, IfOk, IfSome, All, slice_get, codes}
 use Rattle.std.specs.Str.{bytes_eq}
 use Rattle.std.proofs.lemmas.List.Elements.{All-nil, All-cons, All-head, All-tail, All-append, All-push, All-take, All-drop}
-use Rattle.totem_ids.specs.Names.{RingName}
-use Rattle.totem_ids.specs.Ranks.{id_of, life_of}
-use Rattle.totem_ids.specs.declared.message.Service.{Service}
+use Rattle.totem_names.specs.Names.{RingName}
+use Rattle.totem_names.specs.Ranks.{id_of, life_of}
+use Rattle.totem_names.specs.declared.message.Service.{Service}
 use Rattle.totem_packets.specs.declared.packet.Packet.{Packet}
 use Rattle.totem_evs.specs.RunRecord.{RunRecord}
 use Rattle.totem_evs.specs.Lives.{AreFirst, HasFirstLives}
@@ -13,14 +13,14 @@ use Rattle.totem_ring.specs.declared.outcome.To.{To}
 use Rattle.totem_ring.specs.declared.outcome.To.TheVariants.{All as ToAll, One as ToOne}
 use Rattle.totem_ring.specs.Visits.{Sending}
 use Rattle.totem_recover.specs.Lives.{first_rank, first_ranks}
-use Rattle.totem_node.specs.declared.input.Input.{Input}
-use Rattle.totem_node.specs.declared.input.Input.TheVariants as input
-use Rattle.totem_node.specs.Nodes.{Stepped}
-use Rattle.totem_node.specs.Outcomes.{Outcome}
-use Rattle.totem_node.specs.Replay.{first_change}
-use Rattle.totem_node.specs.Table.{step}
-use Rattle.totem_node.specs.FirstLives.{IsFirstPacket, IsFirstSending, IsFirstInput, IsFirstEntry, IsFirstNode, IsFirstStep}
-use Rattle.totem_node.proofs.FirstLives.{step_stays}
+use Rattle.totem_core.specs.declared.input.Input.{Input}
+use Rattle.totem_core.specs.declared.input.Input.TheVariants as input
+use Rattle.totem_core.specs.Nodes.{Stepped}
+use Rattle.totem_core.specs.Outcomes.{Outcome}
+use Rattle.totem_core.specs.Replay.{first_change}
+use Rattle.totem_core.specs.Table.{step}
+use Rattle.totem_core.specs.FirstLives.{IsFirstPacket, IsFirstSending, IsFirstInput, IsFirstEntry, IsFirstNode, IsFirstStep}
+use Rattle.totem_core.proofs.FirstLives.{step_stays}
 use Rattle.totem_script.specs.declared.command.Command.{Command}
 use Rattle.totem_script.specs.declared.command.Command.TheVariants as command
 use Rattle.totem_script.specs.declared.keyword.Keyword.{Keyword}

@@ -5,9 +5,9 @@ use Rattle.std.proofs.lemmas.List.{take_more}
 use Rattle.std.proofs.lemmas.List.Folds.{concat-append}
 use Rattle.totem_packets.specs.declared.packet.Packet.{Packet}
 use Rattle.totem_ring.specs.Visits.{Sending}
-use Rattle.totem_node.specs.declared.input.Input.{Input}
-use Rattle.totem_node.specs.declared.input.Input.TheVariants as input
-use Rattle.totem_script.specs.declared.script_fault.ScriptFaultKind.{ScriptFaultKind}
+use Rattle.totem_core.specs.declared.input.Input.{Input}
+use Rattle.totem_core.specs.declared.input.Input.TheVariants as input
+use Rattle.totem_script.specs.declared.script_fault.ScriptFault.{ScriptFault}
 use Rattle.totem_script.specs.Judged.{Judged, Fails, ◌>>=◌}
 use Rattle.totem_script.specs.Actors.{Actor}
 use Rattle.totem_script.specs.Casts.{cast_step}
@@ -16,7 +16,7 @@ use Rattle.totem_script.specs.Scenes.{Queue, Scene, posted_all, scene_step, run_
 -- ---- A step
 
 module _ (s : Scene) (p : ℕ) (i : Input) where
-  pub not_stepped : (fault : ScriptFaultKind) → Fails fault (cast_step s.actors p i) → Fails fault (scene_step s p i)
+  pub not_stepped : (fault : ScriptFault) → Fails fault (cast_step s.actors p i) → Fails fault (scene_step s p i)
   unfolding scene_step
   not_stepped fault fails = record { is = λ other. rw (fails.is other) }
 
@@ -53,14 +53,14 @@ module _ (s : Scene) (p : ℕ) (packet : Packet) (queue : Queue) (is : s.queue �
       let less : suc left - 1 ≡ left = omega arith in
       rw (less, is, done)
 
-  pub one_failed : (left : ℕ) (fault : ScriptFaultKind) → 0 < left → Fails fault (scene_step (record s { queue = queue }) p (input.Packet packet))
+  pub one_failed : (left : ℕ) (fault : ScriptFault) → 0 < left → Fails fault (scene_step (record s { queue = queue }) p (input.Packet packet))
       → Fails fault (run_times left s)
   unfolding run_times
   one_failed zero fault some fails = absurd (omega arith)
   one_failed (suc left) fault some fails = record { is = λ other. rw (is, fails.is other) }
 
 -- the same, of what is left of a whole
-pub fails_too : {A : Type 0} (fault : ScriptFaultKind) (whole rest : Judged A) → whole ≡ rest → Fails fault rest → Fails fault whole
+pub fails_too : {A : Type 0} (fault : ScriptFault) (whole rest : Judged A) → whole ≡ rest → Fails fault rest → Fails fault whole
 fails_too fault whole rest same fails = record { is = λ other. same ∙ fails.is other }
 
 -- ---- All processes of groups

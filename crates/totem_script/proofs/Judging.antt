@@ -4,9 +4,9 @@ use Rattle.std.proofs.lemmas.List.{length-drop}
 use Rattle.totem_evs.specs.RunRecord.{RunRecord}
 use Rattle.totem_script.specs.declared.command.Command.{Command}
 use Rattle.totem_script.specs.declared.fault.LineFault.{LineFault}
+use Rattle.totem_script.specs.declared.script_fault.FaultyLine.{FaultyLine}
 use Rattle.totem_script.specs.declared.script_fault.ScriptFault.{ScriptFault}
-use Rattle.totem_script.specs.declared.script_fault.ScriptFaultKind.{ScriptFaultKind}
-use Rattle.totem_script.specs.declared.script_fault.ScriptFaultKind.TheVariants.{End, Truncated}
+use Rattle.totem_script.specs.declared.script_fault.ScriptFault.TheVariants.{End, Truncated}
 use Rattle.totem_script.specs.declared.script_version.ScriptVersion.{ScriptVersion}
 use Rattle.totem_script.specs.Commands.{command_of}
 use Rattle.totem_script.specs.Lines.{lines_of, longer_line}
@@ -21,7 +21,7 @@ use Rattle.totem_script.specs.Simulation.{Texts, Told, is_end, line_played, clos
 -- ---- A line
 
 module _ (s : Scene) (lines : Texts) where
-  pub unfit_text : (fault : ScriptFaultKind) → lines ≡ Err fault ∷ [] → Fails fault (first_line_played s lines)
+  pub unfit_text : (fault : ScriptFault) → lines ≡ Err fault ∷ [] → Fails fault (first_line_played s lines)
   unfolding line_played
   unfit_text fault is = record { is = λ other. ap (first_line_played s) is }
 
@@ -31,7 +31,7 @@ module _ (s : Scene) (lines : Texts) where
     no_command fault fails = record { is = λ other. let err = fails.is (λ e. other (ap of_line e)) in rw (is, err) }
 
     module _ (c : Command) (read : command_of s.version text ≡ Ok c) where
-      pub not_carried_out : (fault : ScriptFaultKind) → Fails fault (carried_out s c) → Fails fault (first_line_played s lines)
+      pub not_carried_out : (fault : ScriptFault) → Fails fault (carried_out s c) → Fails fault (first_line_played s lines)
       unfolding line_played
       not_carried_out fault fails = record { is = λ other. rw (is, read, fails.is other) }
 
@@ -41,7 +41,7 @@ module _ (s : Scene) (lines : Texts) where
 
 -- ---- Line after line
 
-pub stops : (whole : Told Scene) (n : ℕ) (s : Scene) (lines : Texts) (kind : ScriptFaultKind) → whole ≡ play n s lines → Fails kind (first_line_played s lines)
+pub stops : (whole : Told Scene) (n : ℕ) (s : Scene) (lines : Texts) (kind : ScriptFault) → whole ≡ play n s lines → Fails kind (first_line_played s lines)
     → FailsAt (record { kind = kind; line = n }) whole
 unfolding play
 stops whole n s [] kind so_far fails = record { is = λ other. let same : Truncated ≡ kind = (let e = fails.is other in cc) in so_far ∙ rw same }
@@ -93,7 +93,7 @@ few_lines (suc room) (b ∷ bytes) = by_byte (b == 10) (few_lines room bytes)
     by_byte true few = omega arith
     by_byte false few = longer_many b (lines_of room bytes) room few
 
-no_head : (lines : Texts) (kind : ScriptFaultKind) → Fails kind (first_headed lines) → FailsAt (record { kind = kind; line = 1 }) (all_played lines)
+no_head : (lines : Texts) (kind : ScriptFault) → Fails kind (first_headed lines) → FailsAt (record { kind = kind; line = 1 }) (all_played lines)
 unfolding all_played
 no_head [] kind fails = record { is = λ other. let same : Truncated ≡ kind = (let e = fails.is other in cc) in rw same }
 no_head (l ∷ lines) kind fails = record { is = λ other. rw (fails.is other) }
@@ -105,11 +105,11 @@ a_head version [] rest head is = absurd (cc)
 a_head version (l ∷ lines) rest head is = let same : rest ≡ lines = is in rw (head, same)
 
 module _ (script : List ℕ) (lines : Texts) (is : lines ≡ lines_of 65536 script) where
-  fails_whole : (fault : ScriptFault) → FailsAt fault (all_played lines) → FailsAt fault (simulate script)
+  fails_whole : (fault : FaultyLine) → FailsAt fault (all_played lines) → FailsAt fault (simulate script)
   unfolding simulate
   fails_whole fault fails = record { is = λ other. let err = rw is at (fails.is other) in rw err }
 
-  pub without_head : (kind : ScriptFaultKind) → Fails kind (first_headed lines) → FailsAt (record { kind = kind; line = 1 }) (simulate script)
+  pub without_head : (kind : ScriptFault) → Fails kind (first_headed lines) → FailsAt (record { kind = kind; line = 1 }) (simulate script)
   without_head kind fails = fails_whole (record { kind = kind; line = 1 }) (no_head lines kind fails)
 
   pub few_behind : (rest : Texts) → rest ≡ drop 1 lines → length rest ≤ 65537
@@ -120,7 +120,7 @@ module _ (script : List ℕ) (lines : Texts) (is : lines ≡ lines_of 65536 scri
       omega (arith, few, all, fewer, length-drop 1 lines)
 
   module _ (version : ScriptVersion) (rest : Texts) (head : first_headed lines ≡ Ok version) (behind : rest ≡ drop 1 lines) where
-    pub play_fails : (fault : ScriptFault) → FailsAt fault (play 2 (empty_scene version) rest) → FailsAt fault (simulate script)
+    pub play_fails : (fault : FaultyLine) → FailsAt fault (play 2 (empty_scene version) rest) → FailsAt fault (simulate script)
     play_fails fault fails = fails_whole fault (record { is = λ other. a_head version lines rest head behind ∙ fails.is other })
 
     pub play_ends : (s : Scene) (run : RunRecord) → play 2 (empty_scene version) rest ≡ Ok s → run ≡ run_of s.version (logs_in s.actors)

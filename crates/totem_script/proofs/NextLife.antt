@@ -1,14 +1,14 @@
 -- A process that returns.
 use Rattle.std.proofs.Common.{◌≡◌, ◌≢◌, ℕ, ◌<◌, ◌+◌, ◌&&◌, List, [], ◌∷◌, ◌++◌, Bool, true, false, nat_lt, nat_le, refl, ap, arith}
 use Rattle.std.proofs.lemmas.Bool.Decides.{nat_tests}
-use Rattle.totem_ids.specs.Names.{RingName}
-use Rattle.totem_ids.specs.Ranks.{id_of, life_of}
+use Rattle.totem_names.specs.Names.{RingName}
+use Rattle.totem_names.specs.Ranks.{id_of, life_of}
 use Rattle.totem_evs.specs.declared.entry.Entry.{Entry}
 use Rattle.std.proofs.lemmas.List.Elements.{All-push}
 use Rattle.totem_evs.specs.LogRecord.{LogRecord}
 use Rattle.totem_evs.specs.declared.ending.Ending.TheVariants.{Quiet}
-use Rattle.totem_node.specs.Nodes.{Node, new_node}
-use Rattle.totem_node.specs.Replay.{first_change}
+use Rattle.totem_core.specs.Nodes.{Node, new_node}
+use Rattle.totem_core.specs.Replay.{first_change}
 use Rattle.totem_script.specs.Laws.{CanReturn}
 use Rattle.totem_script.specs.Actors.{Actor, new_actor, log_of, may_return, next_life, ring_of_return, returned, procs_in, IsBelowAll, Rises, AreLives, IsHistory}
 

@@ -4,8 +4,8 @@ use Rattle.std.specs.Prelude.{Contains, slice_index_or}
 use Rattle.std.specs.Result.{IsOk}
 use Rattle.std.proofs.lemmas.Bool.{eqb-true}
 use Rattle.std.proofs.lemmas.Bool.Decides.{nat_tests}
-use Rattle.totem_ids.specs.Ranks.{id_of, life_of}
-use Rattle.totem_script.specs.declared.script_fault.ScriptFaultKind.TheVariants.{Members, Place, TooMany}
+use Rattle.totem_names.specs.Ranks.{id_of, life_of}
+use Rattle.totem_script.specs.declared.script_fault.ScriptFault.TheVariants.{Members, Place, TooMany}
 use Rattle.totem_script.specs.Judged.{Judged, ◌>>=◌}
 use Rattle.totem_script.specs.Actors.{Actor, new_actor, may_return, next_life, returned, ring_of_return, IsBelowAll, Rises}
 use Rattle.totem_script.specs.Casts.{Returned, IsCast, ids_in, is_known, lives_of, return_of, with_return}

@@ -1,19 +1,19 @@
 -- A process of a script: its lives, its node, and the entries that the node has written (docs/PROTOCOL.md, "Scripts").
 use Rattle.std.specs.Prelude.{◌≡◌, ℕ, ◌+◌, ◌<◌, ◌&&◌, List, [], ◌∷◌, ◌++◌, length, map, Bool, true, false, if◌then◌else◌, nat_lt, nat_le, Vec, Ok, Err}
-use Rattle.totem_ids.specs.Names.{RingName}
-use Rattle.totem_ids.specs.Ranks.{rank_of, id_of, life_of}
+use Rattle.totem_names.specs.Names.{RingName}
+use Rattle.totem_names.specs.Ranks.{rank_of, id_of, life_of}
 use Rattle.totem_evs.specs.declared.entry.Entry.{Entry}
 use Rattle.totem_evs.specs.declared.entry.Entry.TheVariants.{Conf, Send, Deliver, Fail}
 use Rattle.totem_evs.specs.declared.ending.Ending.TheVariants.{Standing, Failed}
 use Rattle.totem_evs.specs.LogRecord.{LogRecord}
 use Rattle.totem_evs.specs.Lives.{AreLoud}
 use Rattle.totem_ring.specs.Visits.{Sending}
-use Rattle.totem_node.specs.declared.input.Input.{Input}
-use Rattle.totem_node.specs.Nodes.{Node, Stepped, new_node}
-use Rattle.totem_node.specs.Outcomes.{Outcome}
-use Rattle.totem_node.specs.Replay.{first_change}
-use Rattle.totem_node.specs.Table.{step}
-use Rattle.totem_script.specs.declared.script_fault.ScriptFaultKind.TheVariants.{TooMany}
+use Rattle.totem_core.specs.declared.input.Input.{Input}
+use Rattle.totem_core.specs.Nodes.{Node, Stepped, new_node}
+use Rattle.totem_core.specs.Outcomes.{Outcome}
+use Rattle.totem_core.specs.Replay.{first_change}
+use Rattle.totem_core.specs.Table.{step}
+use Rattle.totem_script.specs.declared.script_fault.ScriptFault.TheVariants.{TooMany}
 use Rattle.totem_script.specs.Judged.{Judged, Fails}
 
 pub record Actor : Type 0 where

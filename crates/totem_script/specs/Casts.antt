@@ -1,14 +1,14 @@
 -- The processes of a script (docs/PROTOCOL.md, "Scripts").
 use Rattle.std.specs.Prelude.{◌≡◌, ℕ, ◌+◌, ◌≤◌, ◌==◌, ◌&&◌, not, List, [], ◌∷◌, length, map, Bool, true, if◌then◌else◌, nat_lt, Ok, Err, Vec}
 use Rattle.std.specs.List.{list_any, list_all, flat_map, sum_by}
-use Rattle.totem_ids.specs.Names.{RingName}
-use Rattle.totem_ids.specs.Ranks.{id_of}
+use Rattle.totem_names.specs.Names.{RingName}
+use Rattle.totem_names.specs.Ranks.{id_of}
 use Rattle.totem_evs.specs.LogRecord.{LogRecord}
 use Rattle.totem_packets.specs.Sets.{is_least}
 use Rattle.totem_ring.specs.Visits.{Sending}
 use Rattle.totem_recover.specs.Lives.{first_ranks}
-use Rattle.totem_node.specs.declared.input.Input.{Input}
-use Rattle.totem_script.specs.declared.script_fault.ScriptFaultKind.TheVariants.{Members, Place, TooMany}
+use Rattle.totem_core.specs.declared.input.Input.{Input}
+use Rattle.totem_script.specs.declared.script_fault.ScriptFault.TheVariants.{Members, Place, TooMany}
 use Rattle.totem_script.specs.Judged.{Judged, Fails, ◌>>=◌}
 use Rattle.totem_script.specs.Actors.{Actor, new_actor, actor_step, logs_of, may_return, returned, ring_of_return, Rises}
 

@@ -3,9 +3,9 @@
 use Rattle.std.specs.Prelude.{ℕ, ◌&&◌, ◌||◌, List, [], ◌∷◌, ◌++◌, length, Bool, if◌then◌else◌, nat_lt, nat_le, nat_eq, Option, None, Some, Ok, Err, codes}
 use Rattle.std.specs.List.{list_all, starts_with}
 use Rattle.std.specs.Str.{bytes_eq}
-use Rattle.totem_ids.specs.declared.message.Service.{Service}
-use Rattle.totem_ids.specs.declared.message.Service.TheVariants.{Agreed, Safe}
-use Rattle.totem_ids.specs.Numbers.{is_digit}
+use Rattle.totem_names.specs.declared.message.Service.{Service}
+use Rattle.totem_names.specs.declared.message.Service.TheVariants.{Agreed, Safe}
+use Rattle.totem_names.specs.Numbers.{is_digit}
 use Rattle.totem_script.specs.declared.fault.LineFault.TheVariants.{Word}
 use Rattle.totem_script.specs.declared.command.Command.{Command}
 use Rattle.totem_script.specs.declared.command.Command.TheVariants as command

@@ -1,12 +1,12 @@
 -- The result of a part of a script, or what is wrong with it (docs/PROTOCOL.md, "Scripts").
 use Rattle.std.specs.Prelude.{◌≡◌, ◌≢◌, Result, Ok, Err}
-use Rattle.totem_script.specs.declared.script_fault.ScriptFaultKind.{ScriptFaultKind}
-use Rattle.totem_script.specs.declared.script_fault.ScriptFaultKind.TheVariants.{Memory}
+use Rattle.totem_script.specs.declared.script_fault.ScriptFault.{ScriptFault}
+use Rattle.totem_script.specs.declared.script_fault.ScriptFault.TheVariants.{Memory}
 use Rattle.totem_script.specs.ScriptFaults.{of_line}
 use Rattle.totem_script.specs.Parsed.{Parsed}
 
 abbrev pub Judged : Type 0 → Type 0
-Judged A = Result A ScriptFaultKind
+Judged A = Result A ScriptFault
 
 -- one part after the other, up to the first fault
 infixl 10 ◌>>=◌
@@ -20,7 +20,7 @@ by_line (Ok x) = Ok x
 by_line (Err fault) = Err (of_line fault)
 
 -- this fault is the written one, unless it is out of memory
-pub record Fails {A : Type 0} (fault : ScriptFaultKind) (written : Judged A) : Type 0 where
+pub record Fails {A : Type 0} (fault : ScriptFault) (written : Judged A) : Type 0 where
   pub is : fault ≢ Memory → written ≡ Err fault
 
 -- the answer is the written one, unless it is out of memory

@@ -1,10 +1,10 @@
 -- Laws of returns (docs/PROTOCOL.md, "Scripts").
 use Rattle.std.specs.Prelude.{◌≡◌, ◌↔◌, ℕ, ◌+◌, ◌<◌, ◌≤◌, List, [], ◌∷◌, ◌++◌, true, Err}
 use Rattle.std.specs.Result.{IsOk}
-use Rattle.totem_ids.specs.Ranks.{id_of, life_of}
-use Rattle.totem_node.specs.Nodes.{new_node}
-use Rattle.totem_node.specs.Replay.{first_change}
-use Rattle.totem_script.specs.declared.script_fault.ScriptFaultKind.TheVariants.{Place, TooMany}
+use Rattle.totem_names.specs.Ranks.{id_of, life_of}
+use Rattle.totem_core.specs.Nodes.{new_node}
+use Rattle.totem_core.specs.Replay.{first_change}
+use Rattle.totem_script.specs.declared.script_fault.ScriptFault.TheVariants.{Place, TooMany}
 use Rattle.totem_script.specs.Actors.{Actor, log_of}
 use Rattle.totem_script.specs.Casts.{Returned, lives_of, with_return}
 

@@ -1,6 +1,6 @@
 -- A script's lines (docs/PROTOCOL.md, "Scripts").
 use Rattle.std.specs.Prelude.{ℕ, zero, suc, ◌==◌, List, [], ◌∷◌, if◌then◌else◌, Ok, Err}
-use Rattle.totem_script.specs.declared.script_fault.ScriptFaultKind.TheVariants.{Truncated, TooMany}
+use Rattle.totem_script.specs.declared.script_fault.ScriptFault.TheVariants.{Truncated, TooMany}
 use Rattle.totem_script.specs.Judged.{Judged}
 
 -- one byte more in front of the first line; if there is no line, the script ends in this one

@@ -1,7 +1,7 @@
 -- Numbers and names that are a whole word (docs/PROTOCOL.md, "Scripts").
 use Rattle.std.specs.Prelude.{ℕ, ◌+◌, ◌-◌, ◌*◌, ◌==◌, ◌&&◌, not, List, [], ◌∷◌, Bool, if◌then◌else◌, nat_le, Ok, Err}
-use Rattle.totem_ids.specs.Names.{RingName}
-use Rattle.totem_ids.specs.Numbers.{is_digit}
+use Rattle.totem_names.specs.Names.{RingName}
+use Rattle.totem_names.specs.Numbers.{is_digit}
 use Rattle.totem_script.specs.declared.fault.LineFault.TheVariants.{Word, Number}
 use Rattle.totem_script.specs.Parsed.{Parsed, ◌>>=◌}
 use Rattle.totem_script.specs.Parts.{parts}

@@ -1,8 +1,8 @@
 -- The scene of a script under way, and what commands do to it (docs/PROTOCOL.md, "Scripts").
 use Rattle.std.specs.Prelude.{ℕ, zero, suc, ◌-◌, ◌==◌, ◌&&◌, not, List, [], ◌∷◌, ◌++◌, length, map, filter, remove, Bool, true, false, if◌then◌else◌, nat_lt, slice_get, count_by, Option, None, Some, Ok, Err}
 use Rattle.std.specs.List.{list_any, list_all, flat_map, concat}
-use Rattle.totem_ids.specs.Names.{RingName}
-use Rattle.totem_ids.specs.Ranks.{id_of}
+use Rattle.totem_names.specs.Names.{RingName}
+use Rattle.totem_names.specs.Ranks.{id_of}
 use Rattle.totem_packets.specs.declared.packet.Packet.{Packet}
 use Rattle.totem_packets.specs.declared.packet.Packet.TheVariants.{Token}
 use Rattle.totem_packets.specs.Sets.{has}
@@ -10,11 +10,11 @@ use Rattle.totem_ring.specs.declared.outcome.To.{To}
 use Rattle.totem_ring.specs.declared.outcome.To.TheVariants.{All as ToAll, One as ToOne}
 use Rattle.totem_ring.specs.Rings.{first_token}
 use Rattle.totem_ring.specs.Visits.{Sending}
-use Rattle.totem_node.specs.declared.input.Input.{Input}
-use Rattle.totem_node.specs.declared.input.Input.TheVariants as input
+use Rattle.totem_core.specs.declared.input.Input.{Input}
+use Rattle.totem_core.specs.declared.input.Input.TheVariants as input
 use Rattle.totem_script.specs.declared.command.Command.{Command}
 use Rattle.totem_script.specs.declared.command.Command.TheVariants as command
-use Rattle.totem_script.specs.declared.script_fault.ScriptFaultKind.TheVariants.{Order, Members, Place}
+use Rattle.totem_script.specs.declared.script_fault.ScriptFault.TheVariants.{Order, Members, Place}
 use Rattle.totem_script.specs.declared.script_version.ScriptVersion.{ScriptVersion}
 use Rattle.totem_script.specs.Judged.{Judged, ◌>>=◌}
 use Rattle.totem_script.specs.Actors.{Actor}

@@ -3,8 +3,8 @@ use Rattle.std.specs.Prelude.{◌≡◌, ◌≢◌, ℕ, ◌+◌, List, [], ◌�
 use Rattle.totem_evs.specs.RunRecord.{RunRecord}
 use Rattle.totem_script.specs.declared.command.Command.{Command}
 use Rattle.totem_script.specs.declared.command.Command.TheVariants as command
-use Rattle.totem_script.specs.declared.script_fault.ScriptFault.{ScriptFault}
-use Rattle.totem_script.specs.declared.script_fault.ScriptFaultKind.TheVariants.{Header, End, Truncated, Memory}
+use Rattle.totem_script.specs.declared.script_fault.FaultyLine.{FaultyLine}
+use Rattle.totem_script.specs.declared.script_fault.ScriptFault.TheVariants.{Header, End, Truncated, Memory}
 use Rattle.totem_script.specs.declared.script_version.ScriptVersion.{ScriptVersion}
 use Rattle.totem_script.specs.Commands.{command_of}
 use Rattle.totem_script.specs.Lines.{lines_of}
@@ -18,7 +18,7 @@ abbrev pub Texts : Type 0
 Texts = List (Judged (List ℕ))
 
 abbrev pub Told : Type 0 → Type 0
-Told A = Result A ScriptFault
+Told A = Result A FaultyLine
 
 -- a fault of the line with this number
 abbrev pub at_line : {A : Type 0} → ℕ → Judged A → Told A
@@ -88,13 +88,18 @@ simulate script = and_then (all_played (lines_of 65536 script)) (λ scene. Ok (r
 -- ---- Results
 
 -- this fault is the written one, unless it is out of memory
-pub record FailsAt {A : Type 0} (fault : ScriptFault) (written : Told A) : Type 0 where
+pub record FailsAt {A : Type 0} (fault : FaultyLine) (written : Told A) : Type 0 where
   pub is : fault.kind ≢ Memory → written ≡ Err fault
 
 -- the answer is the written one, unless it is out of memory
 abbrev pub Gives : {A : Type 0} → Told A → Told A → Type 0
 Gives (Ok x) written = written ≡ Ok x
 Gives (Err fault) written = FailsAt fault written
+
+-- the result without the number of the line
+abbrev pub without_line : {A : Type 0} → Told A → Judged A
+without_line (Ok x) = Ok x
+without_line (Err fault) = Err fault.kind
 
 -- the same for a call that changes a scene
 abbrev pub Leads : {B : Type 0} → Told B → Scene → Told Scene → Type 0

@@ -1,8 +1,8 @@
 -- The versions of scripts, and the run of some logs (docs/PROTOCOL.md, "Scripts"; docs/SPECIFICATIONS.md, "Runs").
 use Rattle.std.specs.Prelude.{◌≡◌, ℕ, ◌≤◌, List, length, All, AllPairs, if◌then◌else◌, Option, None, Some, codes}
 use Rattle.std.specs.Str.{bytes_eq}
-use Rattle.totem_ids.specs.declared.version.Version.{Version}
-use Rattle.totem_ids.specs.declared.version.Version.TheVariants.{One, Two}
+use Rattle.totem_names.specs.declared.version.Version.{Version}
+use Rattle.totem_names.specs.declared.version.Version.TheVariants.{One, Two}
 use Rattle.totem_evs.specs.LogRecord.{LogRecord}
 use Rattle.totem_evs.specs.Lives.{AreLoud, HasFirstLives}
 use Rattle.totem_evs.specs.RunRecord.{RunRecord}

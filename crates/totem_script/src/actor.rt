@@ -1,18 +1,18 @@
 //! A process of a script.
 ghost use Rattle.std.specs.Prelude.{◌≡◌, ◌+◌, ◌<◌, ◌≤◌, ◌∷◌, ◌++◌, [], length, true, IfOk, OnOk};
 ghost use Rattle.totem_evs.specs.Members.{IsMembers};
-ghost use Rattle.totem_ids.specs.Ranks.{id_of};
-ghost use Rattle.totem_node.specs.Nodes.{new_node};
-ghost use Rattle.totem_node.specs.Replay.{first_change};
+ghost use Rattle.totem_names.specs.Ranks.{id_of};
+ghost use Rattle.totem_core.specs.Nodes.{new_node};
+ghost use Rattle.totem_core.specs.Replay.{first_change};
 ghost use Rattle.totem_script.specs.Actors.{new_actor, actor_step, log_of, log_with, logs_of, may_return, returned, ring_of_return, IsHistory, IsActorStep};
 
-use crate::script_fault::ScriptFaultKind;
+use crate::script_fault::ScriptFault;
 use std::alloc::{AllocError, Global};
 use std::marker::Model;
 use std::mem;
+use totem_core::{Input, NodeCore, NodeFault};
 use totem_evs::{Entries, Entry, Log};
-use totem_ids::{Proc, ProcId, RingId, Version, life_fits};
-use totem_node::{Input, NodeCore, NodeFault};
+use totem_names::{Proc, ProcId, RingId, Version, life_fits};
 use totem_packets::Packet;
 use totem_ring::To;
 
@@ -117,11 +117,7 @@ impl ActorState {
 
     /// Gives the node this input, and returns what the node sends. A step that the node refuses changes nothing.
     /// `TooMany` if the log would have more than 1,000,000 entries.
-    pub fn step(
-        &mut self,
-        alloc: Global,
-        input: Input,
-    ) -> Result<Vec<(To, Packet)>, ScriptFaultKind>
+    pub fn step(&mut self, alloc: Global, input: Input) -> Result<Vec<(To, Packet)>, ScriptFault>
         ensures stepped { IsActorStep result self.new (actor_step self.old input) }
         ensures same { self.new.proc ≡ self.old.proc }
         ensures earlier { self.new.earlier ≡ self.old.earlier }
@@ -130,13 +126,13 @@ impl ActorState {
             Ok(out) => out,
             Err(fault) => {
                 if fault == NodeFault::Memory {
-                    return Err(ScriptFaultKind::Memory);
+                    return Err(ScriptFault::Memory);
                 }
                 return Ok(Vec::new(alloc));
             }
         };
         if out.entries.len() > MOST - self.entries.len() {
-            return Err(ScriptFaultKind::TooMany);
+            return Err(ScriptFault::TooMany);
         }
         self.entries.append(&mut out.entries)?;
         Ok(out.packets)

@@ -4,7 +4,7 @@ ghost use Rattle.totem_script.specs.Simulation.{is_end};
 
 use crate::groups::Groups;
 use crate::process_list::ProcessList;
-use totem_ids::{ProcId, RingId, Service};
+use totem_names::{ProcId, RingId, Service};
 use totem_packets::Payload;
 
 /// What a line of a script says (docs/PROTOCOL.md, "Scripts").

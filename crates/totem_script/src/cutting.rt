@@ -10,7 +10,7 @@ use crate::numbers::{process, ring as ring_name};
 use crate::parts::Parts;
 use crate::process_list::ProcessList;
 use std::alloc::Global;
-use totem_ids::ProcId;
+use totem_names::ProcId;
 
 /// Reads at least one process.
 fn processes(alloc: Global, words: &mut Parts<'_>) -> Result<ProcessList, LineFault>

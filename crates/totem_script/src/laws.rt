@@ -6,7 +6,7 @@ ghost use Rattle.totem_script.specs.Laws.{IsNextLife, ReturnsIfCrashed};
 ghost use Rattle.totem_script.specs.Lines.{lines_of};
 ghost use Rattle.totem_script.specs.Simulation.{first_headed, simulate};
 ghost use Rattle.totem_script.specs.Versions.{FitVersion, version_of};
-ghost use Rattle.totem_script.specs.declared.script_fault.ScriptFaultKind.TheVariants.{Members};
+ghost use Rattle.totem_script.specs.declared.script_fault.ScriptFault.TheVariants.{Members};
 ghost use Rattle.totem_script.specs.declared.script_version.ScriptVersion.{ScriptVersion};
 ghost use Rattle.totem_evs.specs.RunRecord.{RunRecord};
 

@@ -4,8 +4,8 @@
 //! - `read_command` returns the command of a line by the grammar, or the fault of its first unexpected byte (`command_of`,
 //!   specs/Commands).
 //! - `simulate` returns the run of the script: its lines folded over the defined node step, with a log for each life of each
-//!   process (`simulate`, specs/Simulation, over `step` of totem_node). A fault is that of the first line that has one, and names
-//!   the line.
+//!   process (`simulate`, specs/Simulation, over `step` of totem_core). A fault is that of the first line that has one;
+//!   `follow` does the same, and names the line.
 //! - A process returns exactly if it has crashed and numbers and lives are left, and then begins its next life, alone on a ring:
 //!   the laws `only_the_crashed_return`, `a_return_begins_the_next_life`.
 //!
@@ -40,8 +40,8 @@ pub use laws::{
     a_return_begins_the_next_life, a_run_has_its_scripts_version, only_the_crashed_return,
 };
 pub use parts::Parts;
-pub use playing::simulate;
+pub use playing::{follow, simulate};
 pub use process_list::ProcessList;
 pub use reading::read_command;
-pub use script_fault::{ScriptFault, ScriptFaultKind};
+pub use script_fault::{FaultyLine, ScriptFault};
 pub use script_version::ScriptVersion;

@@ -3,7 +3,7 @@ ghost use Rattle.std.specs.Prelude.{◌≡◌, [], ◌∷◌, MatchResult, Match
 ghost use Rattle.totem_script.specs.Lines.{lines_of};
 ghost use Rattle.totem_script.specs.Judged.{Judged};
 
-use crate::script_fault::ScriptFaultKind;
+use crate::script_fault::ScriptFault;
 use std::marker::Model;
 
 /// The greatest size of a script in bytes.
@@ -41,7 +41,7 @@ impl<'a> Lines<'a> {
 
     /// Returns the next line without its end, or `None` after the last one. A fault ends the lines: `Truncated` if
     /// this one has no end, `TooMany` if the script is too long.
-    pub fn next(&mut self) -> Result<Option<&'a [u8]>, ScriptFaultKind>
+    pub fn next(&mut self) -> Result<Option<&'a [u8]>, ScriptFault>
         ensures { MatchResult result
             (λ line. MatchOption line (self.old ≡ []) (λ text. self.old ≡ Ok text.now ∷ self.new))
             (λ fault. self.old ≡ Err fault ∷ []) }
@@ -62,8 +62,8 @@ impl<'a> Lines<'a> {
                 self.room -= i + 1;
                 Ok(Some(&rest[..i]))
             }
-            None if within < rest.len() => Err(ScriptFaultKind::TooMany),
-            None => Err(ScriptFaultKind::Truncated),
+            None if within < rest.len() => Err(ScriptFault::TooMany),
+            None => Err(ScriptFault::Truncated),
         }
     }
 

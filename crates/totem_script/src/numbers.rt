@@ -1,12 +1,12 @@
 //! Reads numbers and names that are a whole word.
 ghost use Rattle.std.specs.Prelude.{◌≡◌, ◌≤◌, ◌&&◌, ◌==◌, not, IfOk};
-ghost use Rattle.totem_ids.specs.Numbers.{is_digit};
-ghost use Rattle.totem_ids.specs.Texts.{IsUpTo};
+ghost use Rattle.totem_names.specs.Numbers.{is_digit};
+ghost use Rattle.totem_names.specs.Texts.{IsUpTo};
 ghost use Rattle.totem_script.specs.Numbers.{begins_number, number_in, process_in, ring_in};
 
 use crate::fault::LineFault;
 use crate::parts::Parts;
-use totem_ids::{ProcId, RingId};
+use totem_names::{ProcId, RingId};
 
 /// Returns whether the byte is a digit, `0` to `9`.
 pub fn is_digit(byte: u8) -> bool

@@ -9,7 +9,7 @@ use crate::groups::Groups;
 use crate::process_list::ProcessList;
 use std::alloc::{AllocError, Global};
 use std::collections::VecDeque;
-use totem_ids::ProcId;
+use totem_names::ProcId;
 use totem_packets::Packet;
 use totem_ring::To;
 

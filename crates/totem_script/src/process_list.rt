@@ -3,7 +3,7 @@ ghost use Rattle.totem_packets.specs.Sets.{has};
 
 use std::alloc::{AllocError, AllocFailed, Global};
 use std::marker::Model;
-use totem_ids::ProcId;
+use totem_names::ProcId;
 use totem_packets::is_among;
 
 /// Processes as a line lists them: in any order, and perhaps more than once.

@@ -1,6 +1,6 @@
 //! Reads the command of a line.
 ghost use Rattle.std.specs.Prelude.{◌≡◌, ◌≤◌, IfOk};
-ghost use Rattle.totem_ids.specs.Texts.{IsUpTo};
+ghost use Rattle.totem_names.specs.Texts.{IsUpTo};
 ghost use Rattle.totem_script.specs.Numbers.{only};
 ghost use Rattle.totem_script.specs.Commands.{number_words, process_words, cut_words, words_of, command_of};
 ghost use Rattle.totem_script.specs.Parsed.{Gives};
@@ -14,7 +14,7 @@ use crate::parts::Parts;
 use crate::script_version::ScriptVersion;
 use crate::submitting::submit;
 use std::alloc::Global;
-use totem_ids::ProcId;
+use totem_names::ProcId;
 
 /// The greatest number in `run`, `drop` and `repeat`.
 const MOST: u32 = 100_000;

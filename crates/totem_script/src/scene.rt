@@ -8,14 +8,14 @@ use crate::cast::Cast;
 use crate::command::Command;
 use crate::groups::Groups;
 use crate::posting::{Queue, post_all};
-use crate::script_fault::ScriptFaultKind;
+use crate::script_fault::ScriptFault;
 use crate::script_version::ScriptVersion;
 use std::alloc::{AllocError, Global};
 use std::collections::VecDeque;
 use std::marker::Model;
+use totem_core::Input;
 use totem_evs::Run;
-use totem_ids::ProcId;
-use totem_node::Input;
+use totem_names::ProcId;
 
 mod cutting_off;
 mod making;
@@ -70,7 +70,7 @@ impl SceneState {
     }
 
     /// Gives a process this input, and puts what its node sends on its way. Does nothing if the script does not have the process.
-    fn step(&mut self, alloc: Global, proc: ProcId, input: Input) -> Result<(), ScriptFaultKind>
+    fn step(&mut self, alloc: Global, proc: ProcId, input: Input) -> Result<(), ScriptFault>
         ensures { Becomes result self.new (scene_step self.old proc input) }
     {
         let packets = self.actors.step(alloc, proc, input)?;
@@ -80,16 +80,11 @@ impl SceneState {
     }
 
     /// Gives this input to a process that a line names. `Members` if the script does not have that process.
-    fn step_named(
-        &mut self,
-        alloc: Global,
-        proc: ProcId,
-        input: Input,
-    ) -> Result<(), ScriptFaultKind>
+    fn step_named(&mut self, alloc: Global, proc: ProcId, input: Input) -> Result<(), ScriptFault>
         ensures { Becomes result self.new (named_step self.old proc input) }
     {
         if !self.actors.is_known(proc) {
-            return Err(ScriptFaultKind::Members);
+            return Err(ScriptFault::Members);
         }
         self.step(alloc, proc, input)
     }
@@ -104,7 +99,7 @@ impl SceneState {
     }
 
     /// Carries out a command.
-    fn effect(&mut self, alloc: Global, command: Command) -> Result<(), ScriptFaultKind>
+    fn effect(&mut self, alloc: Global, command: Command) -> Result<(), ScriptFault>
         ensures { Becomes result self.new (effect self.old command) }
     {
         match command {
@@ -133,11 +128,11 @@ impl SceneState {
     }
 
     /// Carries out a command if it is allowed here. `Order` if it is not.
-    pub fn carry_out(&mut self, alloc: Global, command: Command) -> Result<(), ScriptFaultKind>
+    pub fn carry_out(&mut self, alloc: Global, command: Command) -> Result<(), ScriptFault>
         ensures { Becomes result self.new (carried_out self.old command) }
     {
         if !self.is_in_order(&command) {
-            return Err(ScriptFaultKind::Order);
+            return Err(ScriptFault::Order);
         }
         self.under_way = !command.makes_ring();
         self.effect(alloc, command)

@@ -1,6 +1,6 @@
 //! Why a script makes no run.
 ghost use Rattle.std.specs.Prelude.{◌≡◌};
-ghost use Rattle.totem_script.specs.declared.script_fault.ScriptFaultKind.TheVariants.{Memory};
+ghost use Rattle.totem_script.specs.declared.script_fault.ScriptFault.TheVariants.{Memory};
 ghost use Rattle.totem_script.specs.ScriptFaults.{fault_number, fault_name, of_line};
 
 use crate::fault::LineFault;
@@ -10,7 +10,7 @@ use thiserror::Error;
 /// What is wrong with a line of a script. If there are several faults, it is the first of them in this order
 /// (docs/PROTOCOL.md, "Scripts").
 #[derive(Clone, Copy, Debug, PartialEq, Eq, Error)]
-pub enum ScriptFaultKind {
+pub enum ScriptFault {
     #[error("the script does not begin with a line `totem-script 1` or `totem-script 2`")]
     Header,
     #[error("unexpected or missing word")]
@@ -39,28 +39,28 @@ pub enum ScriptFaultKind {
 /// too early, that is the missing line. With `Read` and `Memory` it is the line that was under way.
 #[derive(Clone, Copy, Debug, PartialEq, Eq, Error)]
 #[error("line {line}: {kind}")]
-pub struct ScriptFault {
-    pub kind: ScriptFaultKind,
+pub struct FaultyLine {
+    pub kind: ScriptFault,
     pub line: u32,
 }
 
-impl ScriptFaultKind {
+impl ScriptFault {
     /// Returns the fault's number, counted from 1 in the order above.
     pub fn number(&self) -> u8
         ensures { result ≡ fault_number self.now }
     {
         match self {
-            ScriptFaultKind::Header => 1,
-            ScriptFaultKind::Word => 2,
-            ScriptFaultKind::Number => 3,
-            ScriptFaultKind::Order => 4,
-            ScriptFaultKind::Members => 5,
-            ScriptFaultKind::Place => 6,
-            ScriptFaultKind::End => 7,
-            ScriptFaultKind::Truncated => 8,
-            ScriptFaultKind::TooMany => 9,
-            ScriptFaultKind::Read => 10,
-            ScriptFaultKind::Memory => 11,
+            ScriptFault::Header => 1,
+            ScriptFault::Word => 2,
+            ScriptFault::Number => 3,
+            ScriptFault::Order => 4,
+            ScriptFault::Members => 5,
+            ScriptFault::Place => 6,
+            ScriptFault::End => 7,
+            ScriptFault::Truncated => 8,
+            ScriptFault::TooMany => 9,
+            ScriptFault::Read => 10,
+            ScriptFault::Memory => 11,
         }
     }
 
@@ -69,61 +69,45 @@ impl ScriptFaultKind {
         ensures { result.now ≡ fault_name self.now }
     {
         match self {
-            ScriptFaultKind::Header => "Header",
-            ScriptFaultKind::Word => "Word",
-            ScriptFaultKind::Number => "Number",
-            ScriptFaultKind::Order => "Order",
-            ScriptFaultKind::Members => "Members",
-            ScriptFaultKind::Place => "Place",
-            ScriptFaultKind::End => "End",
-            ScriptFaultKind::Truncated => "Truncated",
-            ScriptFaultKind::TooMany => "TooMany",
-            ScriptFaultKind::Read => "Read",
-            ScriptFaultKind::Memory => "Memory",
+            ScriptFault::Header => "Header",
+            ScriptFault::Word => "Word",
+            ScriptFault::Number => "Number",
+            ScriptFault::Order => "Order",
+            ScriptFault::Members => "Members",
+            ScriptFault::Place => "Place",
+            ScriptFault::End => "End",
+            ScriptFault::Truncated => "Truncated",
+            ScriptFault::TooMany => "TooMany",
+            ScriptFault::Read => "Read",
+            ScriptFault::Memory => "Memory",
         }
     }
 }
 
-impl ScriptFault {
-    /// Returns the number of what is wrong.
-    pub fn number(&self) -> u8
-        ensures { result ≡ fault_number self.now.kind }
-    {
-        self.kind.number()
-    }
-
-    /// Returns the name of what is wrong.
-    pub fn name(&self) -> &'static str
-        ensures { result.now ≡ fault_name self.now.kind }
-    {
-        self.kind.name()
-    }
-}
-
-impl From<AllocError> for ScriptFaultKind {
+impl From<AllocError> for ScriptFault {
     ghost from_gives = { λ _ e. e ≡ Memory };
 
-    fn from(_e: AllocError) -> ScriptFaultKind {
-        ScriptFaultKind::Memory
+    fn from(_e: AllocError) -> ScriptFault {
+        ScriptFault::Memory
     }
 }
 
-impl<T: Drop> From<AllocFailed<T>> for ScriptFaultKind {
+impl<T: Drop> From<AllocFailed<T>> for ScriptFault {
     ghost from_gives = { λ _ e. e ≡ Memory };
 
-    fn from(e: AllocFailed<T>) -> ScriptFaultKind {
-        ScriptFaultKind::from(AllocError::from(e))
+    fn from(e: AllocFailed<T>) -> ScriptFault {
+        ScriptFault::from(AllocError::from(e))
     }
 }
 
-impl From<LineFault> for ScriptFaultKind {
+impl From<LineFault> for ScriptFault {
     ghost from_gives = { λ fault e. e ≡ of_line fault };
 
-    fn from(fault: LineFault) -> ScriptFaultKind {
+    fn from(fault: LineFault) -> ScriptFault {
         match fault {
-            LineFault::Word => ScriptFaultKind::Word,
-            LineFault::Number => ScriptFaultKind::Number,
-            LineFault::Memory => ScriptFaultKind::Memory,
+            LineFault::Word => ScriptFault::Word,
+            LineFault::Number => ScriptFault::Number,
+            LineFault::Memory => ScriptFault::Memory,
         }
     }
 }

@@ -2,7 +2,7 @@
 ghost use Rattle.std.specs.Prelude.{◌≡◌};
 ghost use Rattle.totem_script.specs.Versions.{version_in, version_of};
 
-use totem_ids::Version;
+use totem_names::Version;
 
 /// The version of a script: which commands there are.
 #[derive(Clone, Copy, Debug, PartialEq, Eq)]

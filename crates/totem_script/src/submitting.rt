@@ -10,7 +10,7 @@ use crate::numbers::{is_digit, process};
 use crate::parts::Parts;
 use bytes::Bytes;
 use std::alloc::Global;
-use totem_ids::Service;
+use totem_names::Service;
 use totem_packets::Payload;
 
 /// The greatest length of a payload in bytes.

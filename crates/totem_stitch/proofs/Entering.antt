@@ -3,9 +3,9 @@ use Rattle.std.proofs.Common.{◌≡◌, ℕ, ◌+◌, ◌<◌, ◌≤◌, inl, 
 use Rattle.std.proofs.lemmas.Option.{slice_get_within}
 use Rattle.std.specs.BTreeMap.{BTreeMap}
 use Rattle.std.specs.BTreeMap as tree
-use Rattle.totem_ids.specs.declared.ring.RingId.{RingId}
-use Rattle.totem_ids.specs.declared.conf.ConfId.{ConfId}
-use Rattle.totem_ids.specs.declared.conf.ConfId.TheVariants.{Regular}
+use Rattle.totem_names.specs.declared.ring.RingId.{RingId}
+use Rattle.totem_names.specs.declared.conf.ConfId.{ConfId}
+use Rattle.totem_names.specs.declared.conf.ConfId.TheVariants.{Regular}
 use Rattle.totem_evs.specs.declared.entry.Entry.{Entry}
 use Rattle.totem_evs.specs.declared.entry.Entry.TheVariants.{Conf}
 use Rattle.totem_evs.specs.Events.{ChangesTo}
@@ -15,7 +15,7 @@ use Rattle.totem_stitch.specs.Followers.{NothingFollows, IsFollower, FollowsFirs
 use Rattle.totem_stitch.specs.Building.{IsNoRegular, NoneComesNext, MovesNext, HasNotCome, HasCome, KnowsFollower, HasNoOrigin, KnowsOrigin, KnowsLog, IsTable}
 use Rattle.totem_stitch.specs.Tables.{ring_order, conf_order}
 use Rattle.totem_stitch.specs.declared.table.Table.{Table}
-use Rattle.totem_ids.proofs.Exact.{exact_ring, exact_conf}
+use Rattle.totem_names.proofs.Exact.{exact_ring, exact_conf}
 use Rattle.totem_stitch.proofs.Updating.{everywhere}
 use Rattle.totem_stitch.proofs.NextChanges.{one_change}
 use Rattle.totem_evs.proofs.NextChanges.{one_next, same_first}

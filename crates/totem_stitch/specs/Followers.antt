@@ -1,8 +1,8 @@
 -- The configuration that follows a regular one in a log, and the regular one that a configuration follows
 -- (docs/SPECIFICATIONS.md, "Following").
 use Rattle.std.specs.Prelude.{◌≤◌, List, Option, Some, None}
-use Rattle.totem_ids.specs.declared.ring.RingId.{RingId}
-use Rattle.totem_ids.specs.declared.conf.ConfId.{ConfId}
+use Rattle.totem_names.specs.declared.ring.RingId.{RingId}
+use Rattle.totem_names.specs.declared.conf.ConfId.{ConfId}
 use Rattle.totem_evs.specs.declared.entry.Entry.{Entry}
 use Rattle.totem_evs.specs.Following.{Follows}
 

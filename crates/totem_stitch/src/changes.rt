@@ -4,7 +4,7 @@ ghost use Rattle.totem_evs.specs.Events.{ChangesTo};
 ghost use Rattle.totem_stitch.specs.Building.{IsNoRegular, NoneComesNext, MovesNext};
 
 use totem_evs::Entry;
-use totem_ids::{ConfId, RingId};
+use totem_names::{ConfId, RingId};
 
 /// Returns the ring of the regular configuration to which the entry at this index changes, or `None` if there is none.
 pub fn regular_at(log: &[Entry], at: usize) -> Option<RingId>

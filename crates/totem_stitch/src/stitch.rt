@@ -6,7 +6,7 @@ use crate::table::Table;
 use std::alloc::{AllocError, Global};
 use std::collections::BTreeMap;
 use totem_evs::Run;
-use totem_ids::{ConfId, Proc, RingId};
+use totem_names::{ConfId, Proc, RingId};
 
 /// What follows the regular configurations in each log of a run (docs/SPECIFICATIONS.md, "Following").
 #[derive(Drop)]

@@ -7,7 +7,7 @@ use crate::changes::{moves_next, regular_at};
 use std::alloc::{AllocError, Global};
 use std::collections::BTreeMap;
 use totem_evs::Entry;
-use totem_ids::{ConfId, RingId};
+use totem_names::{ConfId, RingId};
 
 /// For each ring to whose regular configuration the log changes, the configuration that follows it, if any; and for each
 /// configuration that follows a regular one, the ring of the first that it follows.

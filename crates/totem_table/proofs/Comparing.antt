@@ -2,7 +2,7 @@
 use Rattle.std.proofs.Common.{◌≡◌, ℕ, true, false, ◌&&◌, ap}
 use Rattle.std.proofs.Math.Dec.{eqb}
 use Rattle.std.proofs.lemmas.Bool.{eq-eqb}
-use Rattle.totem_ids.specs.Ranks.{id_of, life_of}
+use Rattle.totem_names.specs.Ranks.{id_of, life_of}
 
 pub other_parts : (a b : ℕ) → a ≡ b → false ≡ (eqb (id_of a) (id_of b) && eqb (life_of a) (life_of b)) → ⊥
 other_parts a b same e =

@@ -1,10 +1,10 @@
 -- Changes that compare as equal are the same.
 use Rattle.std.proofs.Common.{ℕ, ap, ◌∙◌}
 use Rattle.std.proofs.lemmas.Map.Lookups.{CmpEqualImpliesEq}
-use Rattle.totem_ids.specs.declared.conf.ConfId.{ConfId}
-use Rattle.totem_ids.specs.contracts.life.ProcOrd.TheImpl as life
-use Rattle.totem_ids.specs.contracts.conf.ConfIdOrd.TheImpl as conf
-use Rattle.totem_ids.proofs.Exact.{both_equal, exact_conf}
+use Rattle.totem_names.specs.declared.conf.ConfId.{ConfId}
+use Rattle.totem_names.specs.contracts.life.ProcOrd.TheImpl as life
+use Rattle.totem_names.specs.contracts.conf.ConfIdOrd.TheImpl as conf
+use Rattle.totem_names.proofs.Exact.{both_equal, exact_conf}
 use Rattle.totem_evs.proofs.ProcOrder.{exact_proc}
 use Rattle.totem_table.specs.declared.keys.Change.{Change}
 use Rattle.totem_table.specs.contracts.keys.ChangeOrd.TheImpl as change

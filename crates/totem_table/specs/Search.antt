@@ -1,6 +1,6 @@
 -- The least list of events for which something holds (docs/SPECIFICATIONS.md, "Order of faults").
 use Rattle.std.specs.Prelude.{◌≡◌, ℕ, ◌+◌, ◌<◌, List, [], ◌∷◌, length, Option, Some, None}
-use Rattle.totem_ids.specs.declared.place.Place.{Place}
+use Rattle.totem_names.specs.declared.place.Place.{Place}
 use Rattle.totem_evs.specs.declared.fault.Fault.{Fault}
 use Rattle.totem_evs.specs.declared.spec.SpecNo.{SpecNo}
 use Rattle.totem_evs.specs.declared.log.Log.{Log}

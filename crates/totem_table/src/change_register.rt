@@ -10,7 +10,7 @@ ghost use Rattle.totem_table.specs.Registers.{Keeps, StaysSound, KnowsLog, Knows
 use crate::changes::{Changes, next_change};
 use std::alloc::{AllocError, Global};
 use totem_evs::{Entry, Run};
-use totem_ids::Proc;
+use totem_names::Proc;
 
 /// Keeps some knowledge about the changes of a run.
 pub trait ChangeRegister {

@@ -1,5 +1,5 @@
 //! The keys of registers of changes.
-use totem_ids::{ConfId, Proc};
+use totem_names::{ConfId, Proc};
 
 /// A change of configuration: the process that changes, and the configuration that it changes to.
 #[derive(Clone, Copy, Debug, PartialEq, Eq, PartialOrd, Ord)]

@@ -7,7 +7,7 @@ ghost use Rattle.totem_table.specs.Names.{ListsNames, names_in, all_names};
 
 use std::alloc::{AllocError, Global};
 use totem_evs::{Entry, Log};
-use totem_ids::{ConfId, MsgId};
+use totem_names::{ConfId, MsgId};
 
 /// What an entry may name: a message or a configuration.
 pub trait Name: Ord + Copy {
@@ -23,7 +23,7 @@ pub trait Name: Ord + Copy {
 }
 
 impl Name for MsgId {
-    ghost use Rattle.totem_ids.proofs.Exact.{exact_message};
+    ghost use Rattle.totem_names.proofs.Exact.{exact_message};
     ghost use Rattle.totem_table.specs.Names.{message_of};
 
     ghost name_of = { message_of };
@@ -39,7 +39,7 @@ impl Name for MsgId {
 }
 
 impl Name for ConfId {
-    ghost use Rattle.totem_ids.proofs.Exact.{exact_conf};
+    ghost use Rattle.totem_names.proofs.Exact.{exact_conf};
     ghost use Rattle.totem_table.specs.Names.{conf_of};
 
     ghost name_of = { conf_of };

@@ -6,7 +6,7 @@ ghost use Rattle.totem_table.specs.Registers.{Keeps, StaysSound, KnowsLog, Knows
 
 use std::alloc::{AllocError, Global};
 use totem_evs::{Entry, Run};
-use totem_ids::Proc;
+use totem_names::Proc;
 
 /// Keeps some knowledge about the entries of a run.
 pub trait Register {

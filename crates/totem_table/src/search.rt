@@ -1,13 +1,13 @@
 //! Finds the least list of events of a run for which something holds, place by place.
 ghost use Rattle.std.specs.Prelude.{◌≡◌, ◌++◌, ◌<◌, ◌≤◌, IfOk, MatchOption, List, ◌∷◌, Some, None, length};
-ghost use Rattle.totem_ids.specs.declared.place.Place.{Place};
+ghost use Rattle.totem_names.specs.declared.place.Place.{Place};
 ghost use Rattle.totem_evs.specs.declared.log.Log.{Log};
 ghost use Rattle.totem_evs.specs.Events.{log_of};
 ghost use Rattle.totem_table.specs.Search.{place, listed, NoneFrom, IsLeastFrom, NoneInLog, IsLeastInLog, NoneOf, IsLeastOf};
 
 use std::alloc::{AllocError, Global};
 use totem_evs::{Entry, Fault, Places, Run, SpecNo};
-use totem_ids::{Place, Proc};
+use totem_names::{Place, Proc};
 
 /// A relation on lists of events of one run.
 pub trait Relation {

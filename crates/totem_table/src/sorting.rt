@@ -8,7 +8,7 @@ use crate::row::Row;
 use crate::table::Table;
 use std::alloc::{AllocError, Global};
 use totem_evs::{Entry, Run};
-use totem_ids::{ConfId, MsgId};
+use totem_names::{ConfId, MsgId};
 
 /// Returns the number of what an entry names.
 fn number_of(messages: &[MsgId], confs: &[ConfId], entry: &Entry) -> u32

@@ -9,9 +9,9 @@ use std::fmt::Write;
 use std::sync::Arc;
 use std::test::Fail;
 use totem_books::{Book, BookFault, Call, CloseFault, Reply, Stub};
+use totem_core::Input;
 use totem_evs::{Entry, Members};
-use totem_ids::{Proc, ProcId, RingId, Service};
-use totem_node::Input;
+use totem_names::{Proc, ProcId, RingId, Service};
 use totem_packets::Packet;
 use totem_ring::first_token;
 

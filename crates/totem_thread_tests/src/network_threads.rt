@@ -5,7 +5,7 @@ use std::sync::Wait;
 use std::test::Fail;
 use std::thread;
 use std::thread::Threads;
-use totem_ids::Service;
+use totem_names::Service;
 use totem_net::{
     ClientWord, Fates, Logged, Network, NodeEnds, Outlet, Pacer, PacketWord, Plan, Switch,
     ThreadEnd, TimerWord, Unwatched,

@@ -2,7 +2,7 @@ use bytes::Bytes;
 use std::alloc::{AllocError, Global};
 use std::fmt::Write;
 use std::test::Fail;
-use totem_ids::{ProcId, Service};
+use totem_names::{ProcId, Service};
 use totem_net::{
     Address, Delivery, Fate, Fates, Plan, Quiet, Start, Turns, Ways, copies_wait_their_time, fate,
     no_copy_is_lost,

@@ -6,10 +6,10 @@ use std::alloc::{AllocError, Global};
 use std::marker::Brand;
 use std::sync::{Arc, Wait};
 use std::test::Fail;
-use totem_books::{Blank, BookName, ClosedBook, Reply, Seat, SharedBook};
+use totem_books::{Blank, BookName, ClosedBook, Reply, Seat, SharedBook, close};
+use totem_core::Input;
 use totem_evs::Members;
-use totem_ids::{Proc, ProcId};
-use totem_node::Input;
+use totem_names::{Proc, ProcId};
 use totem_packets::Packet;
 
 /// Returns the process with this number, in this life.
@@ -88,12 +88,12 @@ fn call_all<L: BookName, R: Wait>(
     Ok(())
 }
 
-fn close<L: BookName>(
+fn closed<L: BookName>(
     alloc: Global,
     book: SharedBook<L>,
     seats: Vec<Seat<L>>,
 ) -> Result<ClosedBook, Fail> {
-    match book.close(alloc, seats) {
+    match close(alloc, book, seats) {
         Ok(closed) => Ok(closed),
         Err(_) => Err("the book was not closed".into()),
     }
@@ -114,7 +114,7 @@ fn live<L: BookName, R: Wait>(
 {
     let (book, mut seats) = SharedBook::<L>::new(alloc, blank, me, ring(), members.as_slice(), 1)?;
     call_all(rt, alloc, &book, &mut seats, inputs)?;
-    close(alloc, book, seats)
+    closed(alloc, book, seats)
 }
 
 fn book_of<R: Wait>(

@@ -11,10 +11,10 @@ use std::test::*;
 use std::thread;
 use std::thread::Threads;
 use totem_books::{
-    Blank, BookName, CloseFault, CloseRefused, ClosedBook, Reply, Seat, SharedBook, Stub,
+    Blank, BookName, CloseFault, CloseRefused, ClosedBook, Reply, Seat, SharedBook, Stub, close,
 };
+use totem_core::Input;
 use totem_evs::Members;
-use totem_node::Input;
 
 /// Returns the input that the thread of this number gives its node: the first two threads are clients, the third receives, the
 /// fourth is a timer.
@@ -149,14 +149,14 @@ fn tell_closed(life: &mut Life, closed: &ClosedBook, seats: usize) -> Result<(),
     life.tell(Lines(closed.log()))
 }
 
-fn close<L: BookName>(
+fn close_and_tell<L: BookName>(
     alloc: Global,
     life: &mut Life,
     book: SharedBook<L>,
     seats: Vec<Seat<L>>,
 ) -> Result<(), AllocError> {
     let count = seats.len();
-    match book.close(alloc, seats) {
+    match close(alloc, book, seats) {
         Ok(closed) => tell_closed(life, &closed, count),
         Err(refused) => life.tell(refused.fault.name()),
     }
@@ -187,7 +187,7 @@ fn close_again<L: BookName>(
     let told = tell_refusal(life, fault, seats.len());
     let mut seats = seats;
     let put = put_back(&mut seats, seat);
-    told.and(put).and(close(alloc, life, book, seats))
+    told.and(put).and(close_and_tell(alloc, life, book, seats))
 }
 
 /// Closes the book without its last seat, and then with it.
@@ -199,7 +199,7 @@ fn close_twice<L: BookName>(
 ) -> Result<(), AllocError> {
     let mut seats = seats;
     let last = seats.pop();
-    match book.close(alloc, seats) {
+    match close(alloc, book, seats) {
         Ok(_) => life.tell("closed without a seat"),
         Err(refused) => close_again(alloc, life, refused, last),
     }

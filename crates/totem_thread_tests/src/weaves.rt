@@ -5,7 +5,7 @@ use std::alloc::{AllocError, Global};
 use std::sync::Wait;
 use std::test::*;
 use totem_books::ClosedBook;
-use totem_ids::{Proc, ProcId, RingId};
+use totem_names::{Proc, ProcId, RingId};
 use totem_packets::Message;
 use totem_weave::{WeaveFault, Woven, weave};
 

@@ -5,9 +5,9 @@ use Rattle.std.proofs.lemmas.Bool.{eqb-true}
 use Rattle.std.proofs.lemmas.List.{reverse-append}
 use Rattle.std.proofs.lemmas.List.Elements.{All-nil, All-cons, All-head, All-tail, All-append, All-push, All-map, All-weaker}
 use Rattle.std.proofs.lemmas.List.Sums.{sum_by-cons}
-use Rattle.totem_ids.specs.Ranks.{life_of}
-use Rattle.totem_ids.specs.declared.version.Version.{Version}
-use Rattle.totem_ids.specs.declared.version.Version.TheVariants.{One, Two, Three}
+use Rattle.totem_names.specs.Ranks.{life_of}
+use Rattle.totem_names.specs.declared.version.Version.{Version}
+use Rattle.totem_names.specs.declared.version.Version.TheVariants.{One, Two, Three}
 use Rattle.totem_packets.specs.declared.commit_member.CommitMember.{CommitMember}
 use Rattle.totem_packets.specs.CommitMembers.{IsCommitMembers}
 use Rattle.totem_packets.specs.Lives.{has_later_life}
@@ -16,12 +16,12 @@ use Rattle.totem_evs.specs.declared.entry.Entry.{Entry}
 use Rattle.totem_evs.specs.LogRecord.{LogRecord}
 use Rattle.totem_evs.specs.Lives.{AreFirst, AreLoud, HasFirstLives, IsFirstVersion}
 use Rattle.totem_recover.specs.Lives.{first_rank, first_ranks}
-use Rattle.totem_node.specs.Nodes.{Stepped}
-use Rattle.totem_node.specs.Outcomes.{Outcome}
-use Rattle.totem_node.specs.Table.{step}
-use Rattle.totem_node.specs.Replay.{Life, lived, first_change}
-use Rattle.totem_node.specs.FirstLives.{AreFirstReports, IsFirstInput, IsFirstEntry, IsFirstNode, IsFirstStep}
-use Rattle.totem_node.proofs.FirstLives.{step_stays}
+use Rattle.totem_core.specs.Nodes.{Stepped}
+use Rattle.totem_core.specs.Outcomes.{Outcome}
+use Rattle.totem_core.specs.Table.{step}
+use Rattle.totem_core.specs.Replay.{Life, lived, first_change}
+use Rattle.totem_core.specs.FirstLives.{AreFirstReports, IsFirstInput, IsFirstEntry, IsFirstNode, IsFirstStep}
+use Rattle.totem_core.proofs.FirstLives.{step_stays}
 use Rattle.totem_net.specs.Nodes.{node_numbers}
 use Rattle.totem_books.specs.Calls.{Called, Receipt}
 use Rattle.totem_books.specs.Replay.{Start, lived_back, IsRecorded}

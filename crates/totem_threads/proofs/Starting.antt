@@ -5,9 +5,9 @@ use Rattle.std.proofs.lemmas.List.{length-map, get_or-map, map-append, take_more
 use Rattle.std.proofs.lemmas.List.FromFn.{length-range_with_len, get_or-range_with_len}
 use Rattle.std.proofs.lemmas.List.Elements.{All-push}
 use Rattle.totem_evs.specs.declared.ending.Ending.TheVariants.{Quiet}
-use Rattle.totem_ids.specs.declared.refused.ListFault.{ListFault}
-use Rattle.totem_ids.specs.Lists.{Refuses}
-use Rattle.totem_ids.proofs.Kept.{not_refused}
+use Rattle.totem_names.specs.declared.refused.ListFault.{ListFault}
+use Rattle.totem_names.specs.Lists.{Refuses}
+use Rattle.totem_names.proofs.Kept.{not_refused}
 use Rattle.totem_evs.specs.LogRecord.{LogRecord}
 use Rattle.totem_evs.specs.Runs.{IsBelowLog}
 use Rattle.totem_net.specs.declared.ends.NodeEnds.{NodeEnds}

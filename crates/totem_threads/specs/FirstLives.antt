@@ -1,6 +1,6 @@
 -- Where no life but the first is named in a run in threads (docs/PROTOCOL.md, "A run in threads").
 use Rattle.std.specs.Prelude.{⊤, All}
-use Rattle.totem_node.specs.FirstLives.{IsFirstInput, IsFirstEntry}
+use Rattle.totem_core.specs.FirstLives.{IsFirstInput, IsFirstEntry}
 use Rattle.totem_books.specs.Seats.{SeatRecord, Closed}
 use Rattle.totem_threads.specs.declared.task.Task.{Task}
 use Rattle.totem_threads.specs.declared.task.Task.TheVariants as tasks

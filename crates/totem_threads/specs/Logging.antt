@@ -1,7 +1,7 @@
 -- What is counted of a node's log (docs/PROTOCOL.md, "A run in threads").
 use Rattle.std.specs.Prelude.{List, Bool, true, false, count_by}
-use Rattle.totem_ids.specs.declared.conf.ConfId.{ConfId}
-use Rattle.totem_ids.specs.declared.conf.ConfId.TheVariants.{Regular, Transitional}
+use Rattle.totem_names.specs.declared.conf.ConfId.{ConfId}
+use Rattle.totem_names.specs.declared.conf.ConfId.TheVariants.{Regular, Transitional}
 use Rattle.totem_evs.specs.declared.entry.Entry.{Entry}
 use Rattle.totem_evs.specs.declared.entry.Entry.TheVariants.{Conf, Send, Deliver, Fail}
 use Rattle.totem_net.specs.declared.progress.Logged.{Logged}

@@ -1,6 +1,6 @@
 -- The starts of the nodes of a run in threads (docs/PROTOCOL.md, "A run in threads").
 use Rattle.std.specs.Prelude.{◌≤◌, ℕ, List, map}
-use Rattle.totem_ids.specs.Names.{RingName}
+use Rattle.totem_names.specs.Names.{RingName}
 use Rattle.totem_net.specs.Nodes.{node_numbers}
 use Rattle.totem_books.specs.Replay.{Start}
 use Rattle.totem_books.specs.History.{start_with}

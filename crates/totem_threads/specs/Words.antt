@@ -6,7 +6,7 @@ use Rattle.totem_net.specs.declared.words.TimerWord.{TimerWord}
 use Rattle.totem_net.specs.declared.words.TimerWord.TheVariants as timer_words
 use Rattle.totem_net.specs.declared.words.ClientWord.{ClientWord}
 use Rattle.totem_net.specs.declared.words.ClientWord.TheVariants as client_words
-use Rattle.totem_node.specs.declared.input.Input.TheVariants as inputs
+use Rattle.totem_core.specs.declared.input.Input.TheVariants as inputs
 use Rattle.totem_packets.specs.declared.packet.Packet.{Packet}
 use Rattle.totem_packets.specs.declared.packet.Packet.TheVariants as packets
 use Rattle.totem_packets.specs.declared.fault.PacketFault.{PacketFault}

@@ -7,7 +7,7 @@ ghost use Rattle.totem_threads.specs.Starts.{first_ring, first_packet};
 use bytes::Bytes;
 use std::alloc::{AllocError, Global};
 use totem_evs::Members;
-use totem_ids::{ProcId, RingId};
+use totem_names::{ProcId, RingId};
 use totem_packets::Packet;
 use totem_ring::first_token;
 

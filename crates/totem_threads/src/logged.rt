@@ -5,7 +5,7 @@ ghost use Rattle.totem_threads.specs.Logging.{is_delivery, is_installation, logg
 
 use totem_books::Reply;
 use totem_evs::Entry;
-use totem_ids::ConfId;
+use totem_names::ConfId;
 use totem_net::Logged;
 
 fn is_delivery(entry: &Entry) -> bool

@@ -1,6 +1,6 @@
 //! Makes a run from books.
 ghost use Rattle.std.specs.Prelude.{◌≡◌, ◌≢◌, ◌≤◌, IfOk, IfErr, map, All};
-ghost use Rattle.totem_ids.specs.declared.version.Version.TheVariants.{One};
+ghost use Rattle.totem_names.specs.declared.version.Version.TheVariants.{One};
 ghost use Rattle.totem_evs.specs.Lives.{HasFirstLives};
 ghost use Rattle.totem_threads.specs.Faults.{EndsRun};
 ghost use Rattle.totem_threads.specs.Starts.{starts};
@@ -11,7 +11,7 @@ use crate::fault::{BookTrouble, ThreadsFault};
 use std::alloc::{AllocError, Global};
 use totem_books::{BookFault, ClosedBook};
 use totem_evs::{Ending, Entries, Log, Run};
-use totem_ids::copied;
+use totem_names::copied;
 
 /// Returns the log of a book. If it is longer than a log may be, the fault is that of a call to a full book.
 fn log_of(alloc: Global, book: &ClosedBook) -> Result<Log, ThreadsFault>

@@ -14,9 +14,9 @@ use std::marker::Brand;
 use std::sync::Wait;
 use std::thread;
 use std::thread::{Promise, Threads};
-use totem_books::{Blank, BookFault, BookName, ClosedBook, Seat, SharedBook};
+use totem_books::{Blank, BookFault, BookName, ClosedBook, Seat, SharedBook, close};
 use totem_evs::Members;
-use totem_ids::Proc;
+use totem_names::Proc;
 use totem_net::{NodeEnds, Outlet, Start};
 
 /// A promise of a thread: the calls of the seat that it gives back name no life but the first.
@@ -136,7 +136,7 @@ fn keep_book<L: BookName + Send + Sync, S: Start, R: Threads + Wait + Sync>(
         3,
     )?;
     let back = serve_all(rt, alloc, &book, seats, ends, outlet, start)?;
-    match book.close(alloc, back) {
+    match close(alloc, book, back) {
         Ok(closed) => Ok(closed),
         Err(refused) => Err(ThreadsFault::from(refused.fault)),
     }

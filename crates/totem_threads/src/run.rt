@@ -3,7 +3,7 @@ ghost use Rattle.std.specs.Prelude.{◌≡◌, ◌<◌, ◌≤◌, All, IfOk, If
 ghost use Rattle.totem_net.specs.Nodes.{node_numbers};
 ghost use Rattle.totem_threads.specs.Faults.{EndsRun};
 ghost use Rattle.totem_threads.specs.Starts.{IsInRange, start_of, starts};
-ghost use Rattle.totem_ids.specs.declared.version.Version.TheVariants.{One};
+ghost use Rattle.totem_names.specs.declared.version.Version.TheVariants.{One};
 ghost use Rattle.totem_evs.specs.Lives.{HasFirstLives};
 ghost use Rattle.totem_threads.specs.FirstLives.{IsFirstBook};
 ghost use Rattle.totem_threads.specs.Books.{IsRunOf};
@@ -20,7 +20,7 @@ use std::thread;
 use std::thread::{Promise, PromisedHandle, Threads};
 use totem_books::ClosedBook;
 use totem_evs::Run;
-use totem_ids::ProcId;
+use totem_names::ProcId;
 use totem_net::{Fates, Network, Progress, Start};
 
 /// What a thread promises: either the book of this node in a run of this many, or why there is no run.

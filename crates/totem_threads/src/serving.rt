@@ -9,7 +9,7 @@ use crate::word::Word;
 use std::alloc::Global;
 use std::sync::Wait;
 use totem_books::{BookFault, BookName, Seat, SharedBook};
-use totem_ids::ProcId;
+use totem_names::ProcId;
 use totem_net::{Logged, Outlet, PacketWord, Start, ThreadEnd};
 
 /// Gives the node the input of a task, sends its packets, and returns what was logged, or `None` at a stop.

@@ -1,5 +1,5 @@
 //! The tasks of a node's threads.
-use totem_node::Input;
+use totem_core::Input;
 
 /// What a channel message asks of its thread.
 #[derive(Drop)]

@@ -1,14 +1,14 @@
 //! What the words of a node's three threads ask.
 ghost use Rattle.std.specs.Prelude.{◌≡◌, false, IfOk};
-ghost use Rattle.totem_node.specs.FirstLives.{IsFirstPacket};
+ghost use Rattle.totem_core.specs.FirstLives.{IsFirstPacket};
 ghost use Rattle.totem_threads.specs.FirstLives.{IsFirstTask};
 ghost use Rattle.totem_threads.specs.Words.{names_later_life, packet_task, timer_task, client_task};
 
 use crate::task::Task;
 use bytes::Bytes;
 use std::alloc::{AllocError, Global};
+use totem_core::Input;
 use totem_net::{ClientWord, PacketWord, TimerWord};
-use totem_node::Input;
 use totem_packets::{Packet, PacketFault};
 
 /// The payload that a client submits.

@@ -1,10 +1,10 @@
 -- A run and a certificate after it, reports that were not written, and explanations of a no.
 use Rattle.std.proofs.Common.{◌≡◌, inl, inr, ℕ, List, ◌++◌, Option, Some, None, Result, Ok, Err, map, refl, sym, ap, ◌∙◌, IfSome, append_assoc}
 use Rattle.std.specs.Io.KnownBytes.{Consumes}
-use Rattle.totem_ids.specs.Sources.{Seen}
-use Rattle.totem_ids.specs.Writing.{Held}
+use Rattle.totem_names.specs.Sources.{Seen}
+use Rattle.totem_names.specs.Writing.{Held}
 use Rattle.totem_evs.specs.declared.fault.Fault.{Fault}
-use Rattle.totem_ids.specs.declared.version.Version.{Version}
+use Rattle.totem_names.specs.declared.version.Version.{Version}
 use Rattle.totem_evs.specs.RunRecord.{RunRecord}
 use Rattle.totem_evs.specs.declared.run.Run.{Run}
 use Rattle.totem_evs.specs.declared.writing.WriteFault.{WriteFault}

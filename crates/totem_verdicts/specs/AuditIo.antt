@@ -1,8 +1,8 @@
 -- What auditing a stream returns, reads and writes (docs/SPECIFICATIONS.md, "Report text").
 use Rattle.std.specs.Prelude.{◌≡◌, ◌≢◌, ◌⊎◌, ◌+◌, ◌%◌, ◌^◌, List, IfSome, Result, Ok, Err}
 use Rattle.std.specs.Io.KnownBytes.{Consumes}
-use Rattle.totem_ids.specs.Sources.{Seen}
-use Rattle.totem_ids.specs.Writing.{Held, Wrote}
+use Rattle.totem_names.specs.Sources.{Seen}
+use Rattle.totem_names.specs.Writing.{Held, Wrote}
 use Rattle.totem_evs.specs.RunRecord.{RunRecord}
 use Rattle.totem_evs.specs.declared.run.Run.{Run}
 use Rattle.totem_evs.specs.declared.run_fault.RunFault.{RunFault}

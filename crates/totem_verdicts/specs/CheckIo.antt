@@ -1,8 +1,8 @@
 -- What checking a stream returns, reads and writes (docs/SPECIFICATIONS.md, "The checker").
 use Rattle.std.specs.Prelude.{◌≡◌, ◌≢◌, ◌⊎◌, ℕ, ◌+◌, ◌%◌, ◌^◌, List, [], ◌∷◌, ◌++◌, IfSome, Result, Ok, Err}
 use Rattle.std.specs.Io.KnownBytes.{Consumes, Keeps}
-use Rattle.totem_ids.specs.Sources.{Seen}
-use Rattle.totem_ids.specs.Writing.{Held, Wrote}
+use Rattle.totem_names.specs.Sources.{Seen}
+use Rattle.totem_names.specs.Writing.{Held, Wrote}
 use Rattle.totem_evs.specs.RunRecord.{RunRecord}
 use Rattle.totem_evs.specs.declared.fault.Fault.{Fault}
 use Rattle.totem_evs.specs.declared.run.Run.{Run}

@@ -1,7 +1,7 @@
 -- What drawing the run of a stream returns, reads and writes (docs/SPECIFICATIONS.md, "Pictures").
 use Rattle.std.specs.Prelude.{List, [], ℕ, Result, Ok, Err}
-use Rattle.totem_ids.specs.Sources.{Seen}
-use Rattle.totem_ids.specs.Writing.{Held, Wrote}
+use Rattle.totem_names.specs.Sources.{Seen}
+use Rattle.totem_names.specs.Writing.{Held, Wrote}
 use Rattle.totem_evs.specs.RunRecord.{RunRecord}
 use Rattle.totem_evs.specs.declared.writing.WriteFault.{WriteFault}
 use Rattle.totem_evs.specs.WriteRun.{WritesText}

@@ -1,7 +1,7 @@
 //! The auditor: the program without the commands that make runs.
 ghost use Rattle.std.specs.Prelude.{◌≡◌, []};
-ghost use Rattle.totem_ids.specs.Sources.{seen};
-ghost use Rattle.totem_ids.specs.Writing.{held};
+ghost use Rattle.totem_names.specs.Sources.{seen};
+ghost use Rattle.totem_names.specs.Writing.{held};
 ghost use Rattle.totem_verdicts.specs.Endings.{Ends, bare};
 
 use crate::answering::answer;
@@ -11,7 +11,7 @@ use crate::words::{Words, read_words};
 use std::alloc::Global;
 use std::sync::Wait;
 use std::thread::Threads;
-use totem_ids::{Sink, Source};
+use totem_names::{Sink, Source};
 
 /// What is printed if the auditor is asked for a run.
 const LACKING: &str = "\

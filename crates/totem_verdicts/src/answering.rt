@@ -1,7 +1,7 @@
 //! The answer to a request for help or the version, and to usage errors (docs/SPECIFICATIONS.md, "The program").
 ghost use Rattle.std.specs.Prelude.{◌≡◌, []};
 ghost use Rattle.clap.specs.Values.{kind_of};
-ghost use Rattle.totem_ids.specs.Writing.{held};
+ghost use Rattle.totem_names.specs.Writing.{held};
 ghost use Rattle.totem_verdicts.specs.Endings.{Answers, Shows, bare};
 
 use crate::report::write_text;
@@ -11,7 +11,7 @@ use clap::Error;
 use clap::error::ErrorKind;
 use std::alloc::{AllocError, Global};
 use totem_evs::WriteFault;
-use totem_ids::Sink;
+use totem_names::Sink;
 
 /// Returns the text that is printed.
 fn text_of(alloc: Global, error: &Error) -> Result<String, AllocError> {

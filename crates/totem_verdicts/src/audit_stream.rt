@@ -1,7 +1,7 @@
 //! From the text of a run to the report of its audit.
 ghost use Rattle.std.specs.Prelude.{◌≡◌, [], IfOk};
-ghost use Rattle.totem_ids.specs.Sources.{seen};
-ghost use Rattle.totem_ids.specs.Writing.{held};
+ghost use Rattle.totem_names.specs.Sources.{seen};
+ghost use Rattle.totem_names.specs.Writing.{held};
 ghost use Rattle.totem_evs.specs.Answers.{IsAnswered};
 ghost use Rattle.totem_evs.specs.Meanings.{IsSound};
 ghost use Rattle.totem_certificate.specs.Keeping.{certificate_version};
@@ -16,7 +16,7 @@ use std::sync::Wait;
 use std::thread::Threads;
 use totem_audit::{OpenGate, Verdict, Workers, audit, audit_with};
 use totem_evs::{Run, RunFault, read_end, read_run};
-use totem_ids::{Sink, Source};
+use totem_names::{Sink, Source};
 
 /// Reads a run and the end of the input after it.
 pub(crate) fn read_whole<R: Source>(alloc: Global, input: &mut R) -> Result<Run, RunFault>

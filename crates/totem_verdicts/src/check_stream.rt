@@ -1,8 +1,8 @@
 //! From the text of a run and its certificate to the checker's report. The verdict is that of totem_check, whose module `checker` begins
 //! with what a yes depends on.
 ghost use Rattle.std.specs.Prelude.{◌≡◌, []};
-ghost use Rattle.totem_ids.specs.Sources.{seen};
-ghost use Rattle.totem_ids.specs.Writing.{held};
+ghost use Rattle.totem_names.specs.Sources.{seen};
+ghost use Rattle.totem_names.specs.Writing.{held};
 ghost use Rattle.totem_verdicts.specs.CheckIo.{ReadsLast, ChecksText};
 
 use crate::outcome::Outcome;
@@ -12,7 +12,7 @@ use std::alloc::Global;
 use totem_certificate::{CertFault, Certificate, read_cert};
 use totem_check::{CheckFault, check};
 use totem_evs::read_run;
-use totem_ids::{Sink, Source};
+use totem_names::{Sink, Source};
 
 /// Reads a certificate and the end of the input after it.
 fn read_last<R: Source>(alloc: Global, input: &mut R) -> Result<Certificate, CertFault>

@@ -4,7 +4,7 @@ use crate::verdict_fault::VerdictFault;
 use std::alloc::{AllocError, Global};
 use std::env::Args;
 use std::io;
-use totem_ids::Sink;
+use totem_names::Sink;
 
 /// Returns the arguments as a list. (`collect` would try again with less memory if its first growth is refused.)
 pub fn listed(alloc: Global, words: Args) -> Result<Vec<String>, AllocError> {

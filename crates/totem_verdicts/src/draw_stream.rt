@@ -1,7 +1,7 @@
 //! From the text of a run to a picture of its verdict.
 ghost use Rattle.std.specs.Prelude.{◌≡◌, []};
-ghost use Rattle.totem_ids.specs.Sources.{seen};
-ghost use Rattle.totem_ids.specs.Writing.{held};
+ghost use Rattle.totem_names.specs.Sources.{seen};
+ghost use Rattle.totem_names.specs.Writing.{held};
 ghost use Rattle.totem_verdicts.specs.DrawIo.{DrawsRun, WritesDrawn};
 
 use crate::audit_stream::{judge, outcome, read_whole};
@@ -14,7 +14,7 @@ use std::thread::Threads;
 use totem_audit::{Verdict, Workers};
 use totem_draw::{draw_no, draw_yes};
 use totem_evs::{Run, WriteFault};
-use totem_ids::{Sink, Source};
+use totem_names::{Sink, Source};
 
 /// Returns the picture of a verdict on the run.
 fn drawn(alloc: Global, run: &Run, verdict: &Verdict) -> Result<String, AllocError> {

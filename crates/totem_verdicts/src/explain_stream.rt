@@ -1,8 +1,8 @@
 //! From the text of a run to the explanation of its verdict.
 ghost use Rattle.std.specs.Prelude.{◌≡◌, []};
 ghost use Rattle.std.specs.List.{flat_map};
-ghost use Rattle.totem_ids.specs.Sources.{seen};
-ghost use Rattle.totem_ids.specs.Writing.{Writes, held};
+ghost use Rattle.totem_names.specs.Sources.{seen};
+ghost use Rattle.totem_names.specs.Writing.{Writes, held};
 ghost use Rattle.totem_evs.specs.WriteRun.{WritesText};
 ghost use Rattle.totem_audit.specs.Verdicts.{answer_of};
 ghost use Rattle.totem_verdicts.specs.ExplainIo.{ExplainsRun, WritesTold, explained_text, explained_no_text};
@@ -17,9 +17,9 @@ use std::thread::Threads;
 use totem_audit::{Verdict, Workers};
 use totem_evs::{Run, WriteFault};
 use totem_explain::{Explained, ExplainedNo, explain_no, explain_yes};
-use totem_ids::{Failed, Pieces, Sink, Source, Version};
+use totem_names::{Failed, Pieces, Sink, Source, Version};
 
-#[tactic(auto, using(totem_ids::proofs::Writers::wrote_then, totem_ids::proofs::Writers::wrote_failed))]
+#[tactic(auto, using(totem_names::proofs::Writers::wrote_then, totem_names::proofs::Writers::wrote_failed))]
 fn put_explained<S: Sink>(
     pieces: &mut Pieces,
     sink: &mut S,
@@ -50,7 +50,7 @@ fn put_each_explained<S: Sink>(
     Ok(())
 }
 
-#[tactic(auto, using(totem_ids::proofs::Writers::wrote_then, totem_ids::proofs::Writers::wrote_failed))]
+#[tactic(auto, using(totem_names::proofs::Writers::wrote_then, totem_names::proofs::Writers::wrote_failed))]
 fn put_no<S: Sink>(
     pieces: &mut Pieces,
     sink: &mut S,

@@ -1,7 +1,7 @@
 //! The answer to arguments that ask for a verdict (docs/SPECIFICATIONS.md, "The program").
 ghost use Rattle.std.specs.Prelude.{◌≡◌, []};
-ghost use Rattle.totem_ids.specs.Sources.{seen};
-ghost use Rattle.totem_ids.specs.Writing.{held};
+ghost use Rattle.totem_names.specs.Sources.{seen};
+ghost use Rattle.totem_names.specs.Writing.{held};
 ghost use Rattle.totem_verdicts.specs.Endings.{Judges, Points, bare};
 
 use crate::audit_stream::audit_io;
@@ -16,7 +16,7 @@ use std::sync::Wait;
 use std::thread::Threads;
 use totem_audit::Workers;
 use totem_explain::explain_refusal;
-use totem_ids::{Sink, Source};
+use totem_names::{Sink, Source};
 
 /// Returns this number of workers, or one worker if the number is out of range.
 fn as_many(workers: u32) -> Workers {

@@ -1,11 +1,11 @@
 //! The lines of a yes: what a run leaves open (docs/SPECIFICATIONS.md, "Report text"). What a yes of the checker depends on is in
 //! totem_check, `checker`.
 ghost use Rattle.std.specs.List.{flat_map};
-ghost use Rattle.totem_ids.specs.Writing.{Writes, held};
+ghost use Rattle.totem_names.specs.Writing.{Writes, held};
 ghost use Rattle.totem_verdicts.specs.Report.{pending_line, waiting_line, yes_text};
 
 use totem_evs::{Pending, Waiting};
-use totem_ids::{Failed, Pieces, Sink, Version, write_message, write_process};
+use totem_names::{Failed, Pieces, Sink, Version, write_message, write_process};
 
 /// No pending line takes more bytes.
 const WIDTH: usize = 63;
@@ -43,7 +43,7 @@ fn put_each_pending<S: Sink>(
     Ok(())
 }
 
-#[tactic(auto, using(totem_ids::proofs::Writers::wrote_then, totem_ids::proofs::Writers::wrote_failed))]
+#[tactic(auto, using(totem_names::proofs::Writers::wrote_then, totem_names::proofs::Writers::wrote_failed))]
 fn put_waiting<S: Sink>(
     pieces: &mut Pieces,
     sink: &mut S,
@@ -78,7 +78,7 @@ fn put_each_waiting<S: Sink>(
 }
 
 /// Puts the first line of a yes, and then the lines of what is pending and waiting.
-#[tactic(auto, using(totem_ids::proofs::Writers::wrote_then, totem_ids::proofs::Writers::wrote_failed))]
+#[tactic(auto, using(totem_names::proofs::Writers::wrote_then, totem_names::proofs::Writers::wrote_failed))]
 pub fn put_yes<S: Sink>(
     pieces: &mut Pieces,
     sink: &mut S,

@@ -1,8 +1,8 @@
 //! The text of a report (docs/SPECIFICATIONS.md, "Report text").
 ghost use Rattle.std.specs.Prelude.{◌≡◌, [], ◌++◌, codes};
 ghost use Rattle.std.specs.List.{flat_map};
-ghost use Rattle.totem_ids.specs.Processes.{process_text};
-ghost use Rattle.totem_ids.specs.Writing.{Writes, held};
+ghost use Rattle.totem_names.specs.Processes.{process_text};
+ghost use Rattle.totem_names.specs.Writing.{Writes, held};
 ghost use Rattle.totem_evs.specs.SpecNo.{spec_text};
 ghost use Rattle.totem_evs.specs.ReportText.{places_text, fault_text};
 ghost use Rattle.totem_evs.specs.RunText.{line};
@@ -17,7 +17,7 @@ use totem_audit::Verdict;
 use totem_certificate::put_cert;
 use totem_check::Accepted;
 use totem_evs::{Fault, SpecNo, WriteFault};
-use totem_ids::{Failed, Pieces, Place, Sink, Version};
+use totem_names::{Failed, Pieces, Place, Sink, Version};
 
 fn put_spec<S: Sink>(pieces: &mut Pieces, sink: &mut S, spec: SpecNo) -> Result<(), Failed>
     ensures { Writes (held S.contents S.failures pieces.old sink.old)
@@ -43,7 +43,7 @@ fn put_places<S: Sink>(
 }
 
 /// Puts a fault, without the end of its line.
-#[tactic(auto, using(totem_ids::proofs::Writers::wrote_then, totem_ids::proofs::Writers::wrote_failed))]
+#[tactic(auto, using(totem_names::proofs::Writers::wrote_then, totem_names::proofs::Writers::wrote_failed))]
 pub(crate) fn put_fault<S: Sink>(
     pieces: &mut Pieces,
     sink: &mut S,
@@ -75,7 +75,7 @@ fn put_faults<S: Sink>(
 }
 
 /// Puts the report of a no.
-#[tactic(auto, using(totem_ids::proofs::Writers::wrote_then, totem_ids::proofs::Writers::wrote_failed))]
+#[tactic(auto, using(totem_names::proofs::Writers::wrote_then, totem_names::proofs::Writers::wrote_failed))]
 fn put_no<S: Sink>(
     pieces: &mut Pieces,
     sink: &mut S,
@@ -90,7 +90,7 @@ fn put_no<S: Sink>(
     pieces.put(sink, b"end\n")
 }
 
-#[tactic(auto, using(totem_ids::proofs::Writers::wrote_then, totem_ids::proofs::Writers::wrote_failed))]
+#[tactic(auto, using(totem_names::proofs::Writers::wrote_then, totem_names::proofs::Writers::wrote_failed))]
 fn put_report<S: Sink>(
     pieces: &mut Pieces,
     sink: &mut S,
@@ -115,7 +115,7 @@ fn put_report<S: Sink>(
 }
 
 /// Puts the checker's yes.
-#[tactic(auto, using(totem_ids::proofs::Writers::wrote_then, totem_ids::proofs::Writers::wrote_failed))]
+#[tactic(auto, using(totem_names::proofs::Writers::wrote_then, totem_names::proofs::Writers::wrote_failed))]
 fn put_accepted<S: Sink>(
     pieces: &mut Pieces,
     sink: &mut S,

@@ -1,14 +1,14 @@
 //! What the program prints on standard error. Printing doesn't allocate, and ignores a failure of that stream.
 ghost use Rattle.std.specs.Prelude.{◌≡◌, ◌++◌, decimal};
-ghost use Rattle.totem_ids.specs.Processes.{process_text};
-ghost use Rattle.totem_ids.specs.Writing.{Writes};
+ghost use Rattle.totem_names.specs.Processes.{process_text};
+ghost use Rattle.totem_names.specs.Writing.{Writes};
 ghost use Rattle.totem_verdicts.specs.Endings.{Tells, bare, refusal_text, missing_text, run_line, cert_line, check_line, fault_line, fault_status};
 
 use crate::verdict_fault::VerdictFault;
 use totem_certificate::CertFault;
 use totem_check::CheckFault;
 use totem_evs::RunFault;
-use totem_ids::{Failed, Sink, WrittenProc};
+use totem_names::{Failed, Sink, WrittenProc};
 
 fn put_bytes<E: Sink>(errors: &mut E, bytes: &[u8]) -> Result<(), Failed>
     ensures { Writes (bare E.contents E.failures errors.old) (bare E.contents E.failures errors.new) result bytes.now }
@@ -31,7 +31,7 @@ pub fn put_text<E: Sink>(errors: &mut E, text: &str) -> Result<(), Failed>
 }
 
 /// Puts what was refused, the number of the fault and its name.
-#[tactic(auto, using(totem_ids::proofs::Writers::wrote_then, totem_ids::proofs::Writers::wrote_failed))]
+#[tactic(auto, using(totem_names::proofs::Writers::wrote_then, totem_names::proofs::Writers::wrote_failed))]
 pub fn put_refusal<E: Sink>(
     errors: &mut E,
     front: &str,
@@ -48,7 +48,7 @@ pub fn put_refusal<E: Sink>(
 }
 
 /// Writes a process as the text that names it does.
-#[tactic(auto, using(totem_ids::proofs::Writers::wrote_then, totem_ids::proofs::Writers::wrote_failed))]
+#[tactic(auto, using(totem_names::proofs::Writers::wrote_then, totem_names::proofs::Writers::wrote_failed))]
 fn put_process<E: Sink>(errors: &mut E, proc: WrittenProc) -> Result<(), Failed>
     ensures { Writes (bare E.contents E.failures errors.old) (bare E.contents E.failures errors.new)
         result (process_text proc.version proc.process) }
@@ -63,7 +63,7 @@ fn put_process<E: Sink>(errors: &mut E, proc: WrittenProc) -> Result<(), Failed>
 }
 
 /// Writes the end of the line of a run's fault: for a missing log, the process without it.
-#[tactic(auto, using(totem_ids::proofs::Writers::wrote_then, totem_ids::proofs::Writers::wrote_failed))]
+#[tactic(auto, using(totem_names::proofs::Writers::wrote_then, totem_names::proofs::Writers::wrote_failed))]
 fn put_missing<E: Sink>(errors: &mut E, fault: &RunFault) -> Result<(), Failed>
     ensures { Writes (bare E.contents E.failures errors.old) (bare E.contents E.failures errors.new) result (missing_text fault.now) }
 {
@@ -128,7 +128,7 @@ fn put_fault<E: Sink>(errors: &mut E, fault: &VerdictFault) -> Result<(), Failed
 }
 
 /// Writes the line of a fault and an explanation after it.
-#[tactic(auto, using(totem_ids::proofs::Writers::wrote_then, totem_ids::proofs::Writers::wrote_failed))]
+#[tactic(auto, using(totem_names::proofs::Writers::wrote_then, totem_names::proofs::Writers::wrote_failed))]
 fn put_with_words<E: Sink>(errors: &mut E, fault: &VerdictFault, words: &str) -> Result<(), Failed>
     ensures { Writes (bare E.contents E.failures errors.old) (bare E.contents E.failures errors.new) result
         (fault_line fault.now ++ words.now) }

@@ -3,8 +3,8 @@ use Rattle.std.proofs.Common.{◌≡◌, ℕ, ◌+◌, ◌<◌, ◌≤◌, ◌�
 use Rattle.std.proofs.lemmas.Option.{slice_get_within}
 use Rattle.std.proofs.Math.Dec.{eqb}
 use Rattle.std.proofs.lemmas.Bool.{eq-eqb, eqb-true}
-use Rattle.totem_ids.specs.Ranks.{rank_of, id_of, life_of}
-use Rattle.totem_ids.proofs.RankParts.{rank_of_parts}
+use Rattle.totem_names.specs.Ranks.{rank_of, id_of, life_of}
+use Rattle.totem_names.proofs.RankParts.{rank_of_parts}
 use Rattle.totem_evs.specs.declared.log.Log.{Log}
 use Rattle.totem_evs.specs.Events.{log_of}
 use Rattle.totem_evs.proofs.LogOf.{log_of_cases, less_or_not}

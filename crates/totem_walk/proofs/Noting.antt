@@ -7,11 +7,11 @@ use Rattle.std.specs.Ordering.{ordering_then, nat_cmp, is_eq}
 use Rattle.std.specs.BTreeMap.{BTreeMap, is_at}
 use Rattle.std.specs.BTreeMap as tree
 use Rattle.std.proofs.lemmas.Map.Lookups.{CmpEqualImpliesEq, exact_unsigned}
-use Rattle.totem_ids.specs.declared.ring.RingId.{RingId}
-use Rattle.totem_ids.specs.declared.conf.ConfId.{ConfId}
-use Rattle.totem_ids.specs.declared.conf.ConfId.TheVariants.{Regular}
-use Rattle.totem_ids.specs.declared.message.MsgId.{MsgId}
-use Rattle.totem_ids.specs.contracts.ring.RingIdOrd.TheImpl as ring
+use Rattle.totem_names.specs.declared.ring.RingId.{RingId}
+use Rattle.totem_names.specs.declared.conf.ConfId.{ConfId}
+use Rattle.totem_names.specs.declared.conf.ConfId.TheVariants.{Regular}
+use Rattle.totem_names.specs.declared.message.MsgId.{MsgId}
+use Rattle.totem_names.specs.contracts.ring.RingIdOrd.TheImpl as ring
 use Rattle.totem_evs.specs.declared.entry.Entry.{Entry}
 use Rattle.totem_evs.specs.declared.entry.Entry.TheVariants.{Conf, Send, Deliver, Fail}
 use Rattle.totem_evs.specs.Following.{DeliversIn}

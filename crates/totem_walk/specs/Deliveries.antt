@@ -2,10 +2,10 @@
 use Rattle.std.specs.Prelude.{◌↔◌, ℕ, ◌<◌, List, Option, Some, None}
 use Rattle.std.specs.declared.cmp.Ordering.{Ordering}
 use Rattle.std.specs.BTreeMap as tree
-use Rattle.totem_ids.specs.declared.ring.RingId.{RingId}
-use Rattle.totem_ids.specs.declared.conf.ConfId.{ConfId}
-use Rattle.totem_ids.specs.declared.conf.ConfId.TheVariants.{Regular}
-use Rattle.totem_ids.specs.declared.message.MsgId.{MsgId}
+use Rattle.totem_names.specs.declared.ring.RingId.{RingId}
+use Rattle.totem_names.specs.declared.conf.ConfId.{ConfId}
+use Rattle.totem_names.specs.declared.conf.ConfId.TheVariants.{Regular}
+use Rattle.totem_names.specs.declared.message.MsgId.{MsgId}
 use Rattle.totem_evs.specs.declared.entry.Entry.{Entry}
 use Rattle.totem_evs.specs.Following.{Com, DeliversIn, HasDelivered}
 use Rattle.totem_walk.specs.declared.deliveries.Deliveries.{Deliveries}
@@ -13,7 +13,7 @@ use Rattle.totem_walk.specs.Acts.{IsThere}
 
 -- the order of messages
 abbrev pub message_order : MsgId → MsgId → Ordering
-message_order = (Rattle.totem_ids.specs.contracts.message.MsgIdOrd.TheImpl.cmp-value).it
+message_order = (Rattle.totem_names.specs.contracts.message.MsgIdOrd.TheImpl.cmp-value).it
 
 -- where m is delivered, if at all
 abbrev pub index_in : Deliveries → MsgId → Option ℕ

@@ -1,7 +1,7 @@
 -- Whether the deliveries keep the order of a sender's log.
 use Rattle.std.specs.Prelude.{◌≡◌, ℕ, ◌<◌, ◌≤◌, List, Some}
-use Rattle.totem_ids.specs.declared.conf.ConfId.{ConfId}
-use Rattle.totem_ids.specs.declared.message.MsgId.{MsgId}
+use Rattle.totem_names.specs.declared.conf.ConfId.{ConfId}
+use Rattle.totem_names.specs.declared.message.MsgId.{MsgId}
 use Rattle.totem_evs.specs.declared.entry.Entry.{Entry}
 use Rattle.totem_evs.specs.Events.{Sends}
 use Rattle.totem_walk.specs.declared.deliveries.Deliveries.{Deliveries}

@@ -1,7 +1,7 @@
 -- How a receiver keeps up with what a sender sent and delivered so far.
 use Rattle.std.specs.Prelude.{◌≡◌, ◌⊎◌, ℕ, ◌<◌, ◌≤◌, max, List, Option, Some, None}
-use Rattle.totem_ids.specs.declared.conf.ConfId.{ConfId}
-use Rattle.totem_ids.specs.declared.message.MsgId.{MsgId}
+use Rattle.totem_names.specs.declared.conf.ConfId.{ConfId}
+use Rattle.totem_names.specs.declared.message.MsgId.{MsgId}
 use Rattle.totem_evs.specs.declared.entry.Entry.{Entry}
 use Rattle.totem_walk.specs.declared.deliveries.Deliveries.{Deliveries}
 use Rattle.totem_walk.specs.declared.pace.Pace.{Pace}

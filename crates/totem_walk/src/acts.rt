@@ -3,7 +3,7 @@ ghost use Rattle.std.specs.Prelude.{◌↔◌, IsTrue, IfSome, IfNone};
 ghost use Rattle.totem_walk.specs.Acts.{IsThere, SendsIn, SendsNothing, HandlesIn, HandlesNothing, DeliversThere, DeliversNothing};
 
 use totem_evs::Entry;
-use totem_ids::{ConfId, MsgId};
+use totem_names::{ConfId, MsgId};
 
 /// Returns the message that the entry sends in this configuration, or `None` if it sends none there.
 pub fn sent_in(entry: &Entry, conf: &ConfId) -> Option<MsgId>

@@ -12,7 +12,7 @@ use crate::order::keeps_order;
 use crate::reading::entries_of;
 use std::alloc::{AllocError, Global};
 use totem_evs::Run;
-use totem_ids::{ConfId, Proc, RingId};
+use totem_names::{ConfId, Proc, RingId};
 use totem_stitch::Stitch;
 
 /// A law: specification 5 holds in a regular configuration exactly if it holds between each two processes.

@@ -7,7 +7,7 @@ use crate::reading::read;
 use std::alloc::{AllocError, Global};
 use std::collections::BTreeMap;
 use totem_evs::Entry;
-use totem_ids::{ConfId, MsgId, RingId};
+use totem_names::{ConfId, MsgId, RingId};
 
 /// The index of the delivery of each message.
 #[derive(Drop)]

@@ -7,7 +7,7 @@ use crate::deliveries::Deliveries;
 use crate::pace::Pace;
 use crate::reading::read;
 use totem_evs::Entry;
-use totem_ids::ConfId;
+use totem_names::ConfId;
 
 /// Returns whether these deliveries of a receiver keep the order of a sender's log: whether the receiver delivers what the sender sends
 /// in this configuration after all that the sender sent and delivered there before. Reads each entry of the sender's log once,

@@ -6,7 +6,7 @@ ghost use Rattle.totem_walk.specs.Pace.{IsEarly, IsInTime, pace_with, ComesEarly
 use crate::acts::{handled_in, sent_in};
 use crate::deliveries::Deliveries;
 use totem_evs::Entry;
-use totem_ids::ConfId;
+use totem_names::ConfId;
 
 /// After which index the receiver may deliver what the sender sends next: it has to deliver all that the sender handled so far first.
 #[derive(Clone, Copy)]

@@ -3,7 +3,7 @@ ghost use Rattle.std.specs.Prelude.{◌≡◌, ◌+◌, ◌<◌, ◌≤◌, ◌^
 ghost use Rattle.totem_evs.specs.Events.{log_of};
 
 use totem_evs::{Entry, Run};
-use totem_ids::Proc;
+use totem_names::Proc;
 
 /// Returns all entries of this process. A process without a log has none.
 pub fn entries_of(run: &Run, proc: Proc) -> &[Entry]

@@ -3,8 +3,8 @@ use Rattle.std.proofs.Common.{◌≡◌, ℕ, ◌<◌, ◌⊎◌, inl, inr, List
 use Rattle.std.specs.Prelude.{Contains}
 use Rattle.std.proofs.lemmas.List.{length-map, get_or-map}
 use Rattle.std.proofs.lemmas.Option.{slice_get_within, slice_get_cases, slice_get_read, get_or_from_slice_get, slice_get-map}
-use Rattle.totem_ids.specs.Names.{RingName, PlaceName}
-use Rattle.totem_ids.specs.Ranks.{id_of}
+use Rattle.totem_names.specs.Names.{RingName, PlaceName}
+use Rattle.totem_names.specs.Ranks.{id_of}
 use Rattle.totem_packets.specs.declared.message.Message.{Message}
 use Rattle.totem_ring.specs.Worlds.{start, run}
 use Rattle.totem_ring.specs.Order.{IsPrefixOf}

@@ -1,8 +1,8 @@
 -- What the members' tracks deliver is what the members deliver in a weave that has all of the tracks.
 use Rattle.std.proofs.Common.{◌≡◌, ℕ, suc, List, [], ◌∷◌, map, zip, slice_get, Some, refl, sym, ◌∙◌, ap}
 use Rattle.std.specs.List.Sorted.{IsStrictlyIncreasing}
-use Rattle.totem_ids.specs.Names.{RingName}
-use Rattle.totem_ids.specs.Ranks.{id_of}
+use Rattle.totem_names.specs.Names.{RingName}
+use Rattle.totem_names.specs.Ranks.{id_of}
 use Rattle.totem_packets.specs.declared.message.Message.{Message}
 use Rattle.totem_ring.specs.declared.moves.Act.{Act}
 use Rattle.totem_ring.specs.declared.moves.RingMove.{RingMove}

@@ -1,6 +1,6 @@
 -- A step of a ring keeps the ring's name.
 use Rattle.std.proofs.Common.{◌≡◌, List, [], Option, None, Some, IfOk, refl}
-use Rattle.totem_ids.specs.Names.{RingName}
+use Rattle.totem_names.specs.Names.{RingName}
 use Rattle.totem_packets.specs.declared.message.Body.{Body}
 use Rattle.totem_packets.specs.declared.message.Message.{Message}
 use Rattle.totem_packets.specs.declared.token.Token.{Token}
@@ -8,7 +8,7 @@ use Rattle.totem_ring.specs.declared.fault.RingFault.{RingFault}
 use Rattle.totem_ring.specs.Rings.{Ring}
 use Rattle.totem_ring.specs.Refusals.{message_refusal, token_refusal}
 use Rattle.totem_ring.specs.Steps.{Done, unless_refused, given, holding, after_message, after_token, on_message, on_token}
-use Rattle.totem_node.specs.Visiting.{adopting, adopted_or_same}
+use Rattle.totem_core.specs.Visiting.{adopting, adopted_or_same}
 
 -- the step leads to a state of this ring
 abbrev pub LeadsTo : RingName → Done → Type 0

@@ -6,13 +6,13 @@ use Rattle.std.proofs.lemmas.List.{append-nil}
 use Rattle.std.proofs.lemmas.List.Sums.{fold-append}
 use Rattle.std.proofs.lemmas.List.Elements.{All-nil, All-push, All-same, All-weaker}
 use Rattle.std.proofs.Math.Seq.{drop-append_seam}
-use Rattle.totem_ids.specs.Names.{RingName}
-use Rattle.totem_node.specs.declared.input.Input.{Input}
-use Rattle.totem_node.specs.declared.state.State.{State}
-use Rattle.totem_node.specs.Nodes.{Node, Stepped, is_sealed}
-use Rattle.totem_node.specs.Outcomes.{Outcome}
-use Rattle.totem_node.specs.Table.{step}
-use Rattle.totem_node.specs.Replay.{Answer, Life, born, lived, one_input, replay}
+use Rattle.totem_names.specs.Names.{RingName}
+use Rattle.totem_core.specs.declared.input.Input.{Input}
+use Rattle.totem_core.specs.declared.state.State.{State}
+use Rattle.totem_core.specs.Nodes.{Node, Stepped, is_sealed}
+use Rattle.totem_core.specs.Outcomes.{Outcome}
+use Rattle.totem_core.specs.Table.{step}
+use Rattle.totem_core.specs.Replay.{Answer, Life, born, lived, one_input, replay}
 use Rattle.totem_weave.specs.Adopting.{TellsNoStepOn, replies_after, OnlyAdoptsLast}
 use Rattle.totem_weave.proofs.Standing.{Suits, NodeStands, Goes, least_from}
 use Rattle.totem_weave.proofs.Going.{step_goes}

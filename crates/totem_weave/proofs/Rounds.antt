@@ -3,7 +3,7 @@ use Rattle.std.proofs.Common.{◌≡◌, ℕ, ◌+◌, ◌<◌, ◌≤◌, ◌||
 use Rattle.std.proofs.lemmas.Bool.{cases_eq}
 use Rattle.std.proofs.lemmas.List.{length-map}
 use Rattle.std.proofs.lemmas.Option.{slice_get-map}
-use Rattle.totem_ids.specs.Names.{RingName}
+use Rattle.totem_names.specs.Names.{RingName}
 use Rattle.totem_packets.specs.declared.packet.Packet.TheVariants.{Token as AToken}
 use Rattle.totem_ring.specs.declared.moves.RingMove.{RingMove}
 use Rattle.totem_ring.specs.Rings.{first_token, new_ring}

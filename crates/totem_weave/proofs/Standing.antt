@@ -2,12 +2,12 @@
 use Rattle.std.proofs.Common.{◌≡◌, ℕ, ◌+◌, ◌<◌, ◌≤◌, false, Option, None, Some, is_some, sym, subst, arith}
 use Rattle.std.specs.Prelude.{All}
 use Rattle.std.proofs.lemmas.Bool.{true≢false}
-use Rattle.totem_ids.specs.Names.{RingName}
+use Rattle.totem_names.specs.Names.{RingName}
 use Rattle.totem_ring.specs.Rings.{Ring}
 use Rattle.totem_member.specs.Gathers.{Gather}
-use Rattle.totem_node.specs.declared.state.State.{State}
-use Rattle.totem_node.specs.declared.state.State.TheVariants.{Operational, Gathering, Committing, InRecovery}
-use Rattle.totem_node.specs.Nodes.{Node, Stepped}
+use Rattle.totem_core.specs.declared.state.State.{State}
+use Rattle.totem_core.specs.declared.state.State.TheVariants.{Operational, Gathering, Committing, InRecovery}
+use Rattle.totem_core.specs.Nodes.{Node, Stepped}
 
 -- the ring made or filled last is above the installed one, and the node's number is no less than theirs
 abbrev pub IsAbove : Option RingName → ℕ → ℕ → Type 0

@@ -1,16 +1,16 @@
 -- A node adopts only after its last step on that ring (docs/PROTOCOL.md, "The woven ring").
 use Rattle.std.specs.Prelude.{◌≡◌, ◌≢◌, ℕ, List, ◌∷◌, ◌++◌, length, drop, All, IfOk, Some}
-use Rattle.totem_ids.specs.Names.{RingName}
+use Rattle.totem_names.specs.Names.{RingName}
 use Rattle.totem_packets.specs.declared.message.Message.{Message}
 use Rattle.totem_packets.specs.declared.packet.Packet.TheVariants.{Message as AMessage}
-use Rattle.totem_node.specs.declared.input.Input.{Input}
-use Rattle.totem_node.specs.declared.input.Input.TheVariants.{Packet as APacket}
-use Rattle.totem_node.specs.declared.state.Recovering.{Recovering}
-use Rattle.totem_node.specs.declared.state.State.TheVariants.{InRecovery}
-use Rattle.totem_node.specs.Nodes.{Node}
-use Rattle.totem_node.specs.Outcomes.{Outcome}
-use Rattle.totem_node.specs.Visiting.{carried}
-use Rattle.totem_node.specs.Replay.{Answer, replay}
+use Rattle.totem_core.specs.declared.input.Input.{Input}
+use Rattle.totem_core.specs.declared.input.Input.TheVariants.{Packet as APacket}
+use Rattle.totem_core.specs.declared.state.Recovering.{Recovering}
+use Rattle.totem_core.specs.declared.state.State.TheVariants.{InRecovery}
+use Rattle.totem_core.specs.Nodes.{Node}
+use Rattle.totem_core.specs.Outcomes.{Outcome}
+use Rattle.totem_core.specs.Visiting.{carried}
+use Rattle.totem_core.specs.Replay.{Answer, replay}
 
 -- at this input the node adopts this message or ignores it: it recovers, and the input is a message that carries this one, of
 -- its installed ring

@@ -1,13 +1,13 @@
 -- What books recorded of one ring (docs/PROTOCOL.md, "The woven ring").
 use Rattle.std.specs.Prelude.{◌≡◌, ℕ, ◌+◌, ◌-◌, ◌^◌, ◌==◌, ◌<◌, ◌≤◌, min, List, [], ◌∷◌, length, map, filter, take, Contains, if◌then◌else◌, Ok, Err}
 use Rattle.std.specs.List.{flat_map}
-use Rattle.totem_ids.specs.Names.{RingName, PlaceName}
-use Rattle.totem_ids.specs.Ranks.{id_of}
+use Rattle.totem_names.specs.Names.{RingName, PlaceName}
+use Rattle.totem_names.specs.Ranks.{id_of}
 use Rattle.totem_ring.specs.declared.moves.Act.{Act}
 use Rattle.totem_ring.specs.Rings.{same_ring}
-use Rattle.totem_node.specs.declared.ring_step.RingStep.{RingStep}
-use Rattle.totem_node.specs.Outcomes.{Outcome}
-use Rattle.totem_node.specs.Replay.{Answer}
+use Rattle.totem_core.specs.declared.ring_step.RingStep.{RingStep}
+use Rattle.totem_core.specs.Outcomes.{Outcome}
+use Rattle.totem_core.specs.Replay.{Answer}
 use Rattle.totem_books.specs.Calls.{Called}
 use Rattle.totem_books.specs.Seats.{Closed}
 use Rattle.totem_weave.specs.declared.track.Track.{Track}

@@ -1,8 +1,8 @@
 -- The contract of `weave` (docs/PROTOCOL.md, "The woven ring").
 use Rattle.std.specs.Prelude.{◌≡◌, ℕ, ◌+◌, ◌<◌, ◌≤◌, ◌⊎◌, List, [], length, map, take, All, Contains}
 use Rattle.std.specs.List.Sorted.{IsStrictlyIncreasing}
-use Rattle.totem_ids.specs.Names.{RingName, PlaceName}
-use Rattle.totem_ids.specs.Ranks.{id_of}
+use Rattle.totem_names.specs.Names.{RingName, PlaceName}
+use Rattle.totem_names.specs.Ranks.{id_of}
 use Rattle.totem_packets.specs.declared.message.Message.{Message}
 use Rattle.totem_ring.specs.declared.moves.RingMove.{RingMove}
 use Rattle.totem_ring.specs.Worlds.{start, run, IsSchedule}
@@ -38,13 +38,17 @@ pub record CanWeave (ring : RingName) (members : List ℕ) (books : List Closed)
 abbrev pub handed_by : RingName → List ℕ → List RingMove → List (ℕ × List Message)
 handed_by ring members moves = map (λ p. (p, (run (start ring (ids_of members)) moves).up (id_of p))) members
 
+-- each member of a result with its messages
+abbrev pub handed_in : Woven → List (ℕ × List Message)
+handed_in woven = map (λ h. (h.0, h.1.items)) woven.handed.items
+
 -- a schedule of the ring that takes each recorded step once, in order, and no other step, and none of them is refused
 pub record IsWoven (ring : RingName) (members : List ℕ) (books : List Closed) (woven : Woven) : Type 0 where
   pub can_weave : CanWeave ring members books
   pub is_schedule : IsSchedule (start ring (ids_of members)) woven.steps.items
   pub none_refused : NoneRefused (start ring (ids_of members)) woven.steps.items
   pub whole : (id : ℕ) → acts_of id woven.steps.items ≡ recorded_of ring books members id
-  pub handed : map (λ h. (h.0, h.1.items)) woven.handed.items ≡ handed_by ring members woven.steps.items
+  pub handed : handed_in woven ≡ handed_by ring members woven.steps.items
 
 -- of any two members' lists one is a prefix of the other
 abbrev pub AreOneOrder : List (ℕ × List Message) → Type 0

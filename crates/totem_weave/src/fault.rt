@@ -5,7 +5,7 @@ ghost use Rattle.totem_weave.specs.declared.fault.WeaveFault.TheVariants.{Memory
 
 use std::alloc::{AllocError, AllocFailed};
 use thiserror::Error;
-use totem_ids::Place;
+use totem_names::Place;
 
 /// Why the books of a ring are not woven (docs/PROTOCOL.md, "The woven ring").
 #[derive(Clone, Copy, Debug, PartialEq, Eq, Error)]

@@ -6,7 +6,7 @@ ghost use Rattle.totem_weave.specs.Folds.{Own, IsAt, own_start, with_act, with_a
 use crate::seat::try_act;
 use crate::track::Track;
 use std::alloc::{AllocError, Global};
-use totem_ids::{Proc, ProcId, RingId};
+use totem_names::{Proc, ProcId, RingId};
 use totem_packets::Message;
 use totem_recover::ids_of;
 use totem_ring::{Act, RingState};

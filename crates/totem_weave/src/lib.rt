@@ -32,5 +32,6 @@ pub use laws::{
     left_is_orphan, others_leave, own_sent_grows, sent_grows, sent_is_own, state_is_own,
     stuck_is_greatest, whole_is_found, whole_is_one_order,
 };
+pub use totem_ring::RingMove;
 pub use weaving::weave;
 pub use woven::Woven;

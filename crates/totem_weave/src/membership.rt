@@ -7,7 +7,7 @@ ghost use Rattle.totem_weave.specs.Woven.{process_of, IsOfMember, CanWeave};
 
 use crate::recorded::tell_none;
 use totem_books::ClosedBook;
-use totem_ids::{Proc, RingId};
+use totem_names::{Proc, RingId};
 
 /// The greatest number of members of a ring.
 const MOST: usize = 32;

@@ -4,7 +4,7 @@ ghost use Rattle.totem_weave.specs.Recorded.{recorded, place_at, IsCallOf};
 
 use crate::recorded::{book_of, call_of};
 use totem_books::ClosedBook;
-use totem_ids::{Place, Proc, RingId};
+use totem_names::{Place, Proc, RingId};
 
 /// Returns the place of this call, counted from 0, in a process's book.
 fn place_of(proc: Proc, call: usize) -> Place

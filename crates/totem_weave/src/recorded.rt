@@ -5,8 +5,8 @@ ghost use Rattle.totem_weave.specs.Recorded.{acts_on, call_acts, calls_acts, rec
 
 use std::alloc::{AllocError, Global};
 use totem_books::{Call, ClosedBook, Reply};
-use totem_ids::{Proc, RingId};
-use totem_node::RingStep;
+use totem_core::RingStep;
+use totem_names::{Proc, RingId};
 use totem_ring::{Act, is_same_ring};
 
 /// Returns the book of this process, or the first of them if there are several.

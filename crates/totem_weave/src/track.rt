@@ -5,7 +5,7 @@ ghost use Rattle.totem_weave.specs.Recorded.{recorded, AreTracksOf};
 use crate::recorded::{acts_in, book_of};
 use std::alloc::{AllocError, Global};
 use totem_books::ClosedBook;
-use totem_ids::{Proc, ProcId, RingId};
+use totem_names::{Proc, ProcId, RingId};
 use totem_ring::Act;
 
 /// The acts of one member on a ring, in order. The ring knows the member by its identifier.

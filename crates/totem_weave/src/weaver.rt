@@ -6,7 +6,7 @@ use crate::seat::Seat;
 use crate::sent::Sent;
 use crate::track::Track;
 use std::alloc::{AllocError, Global};
-use totem_ids::{ProcId, RingId};
+use totem_names::{ProcId, RingId};
 use totem_packets::Packet;
 use totem_ring::{RingMove, RingState, first_token};
 

@@ -13,7 +13,7 @@ use crate::weaver::Weaver;
 use crate::woven::Woven;
 use std::alloc::{AllocError, Global};
 use totem_books::ClosedBook;
-use totem_ids::{Proc, RingId};
+use totem_names::{Proc, RingId};
 
 /// Weaves these tracks until no member can continue. So no schedule of them has more steps of any member.
 fn weave_tracks(alloc: Global, ring: RingId, tracks: &[Track]) -> Result<Weaver, AllocError>

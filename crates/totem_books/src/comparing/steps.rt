@@ -1,7 +1,7 @@
 //! Compares the inputs of a node's step, and a node's steps on a ring.
 use crate::comparing::Same;
 use bytes::Bytes;
-use totem_node::{Input, NodeFault, RingStep};
+use totem_core::{Input, NodeFault, RingStep};
 use totem_ring::Act;
 
 impl Same for Act {

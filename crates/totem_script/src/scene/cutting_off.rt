@@ -1,7 +1,7 @@
 //! `cut`: groups between which no packet passes.
 ghost use Rattle.std.specs.Prelude.{◌≡◌, ◌==◌, count_by, IfOk};
 ghost use Rattle.std.specs.List.{concat, list_all};
-ghost use Rattle.totem_ids.specs.Ranks.{id_of};
+ghost use Rattle.totem_names.specs.Ranks.{id_of};
 ghost use Rattle.totem_script.specs.Judged.{Becomes};
 ghost use Rattle.totem_script.specs.Scenes.{parted};
 
@@ -9,9 +9,9 @@ use crate::actor::ActorState;
 use crate::groups::Groups;
 use crate::process_list::ProcessList;
 use crate::scene::SceneState;
-use crate::script_fault::ScriptFaultKind;
+use crate::script_fault::ScriptFault;
 use std::alloc::{AllocError, Global};
-use totem_ids::ProcId;
+use totem_names::ProcId;
 
 /// Returns all processes of these groups, each as often as it is listed.
 fn all_of(alloc: Global, groups: &[ProcessList]) -> Result<Vec<ProcId>, AllocError>
@@ -40,13 +40,13 @@ fn each_once(procs: &[ProcId], actors: &[ActorState]) -> bool
 
 impl SceneState {
     /// Begins a cut: from now on no packet passes between these groups.
-    pub(super) fn part(&mut self, alloc: Global, groups: Groups) -> Result<(), ScriptFaultKind>
+    pub(super) fn part(&mut self, alloc: Global, groups: Groups) -> Result<(), ScriptFault>
         ensures { Becomes result self.new (parted self.old groups) }
     {
         let procs = all_of(alloc, groups.as_slice())?;
         let actors = self.actors.as_slice();
         if procs.len() != actors.len() || !each_once(&procs, actors) {
-            return Err(ScriptFaultKind::Members);
+            return Err(ScriptFault::Members);
         }
         self.cut = Some(groups);
         Ok(())

@@ -4,9 +4,9 @@ ghost use Rattle.totem_script.specs.Judged.{Becomes};
 ghost use Rattle.totem_script.specs.Scenes.{ring_made, with_first_token};
 
 use crate::scene::SceneState;
-use crate::script_fault::ScriptFaultKind;
+use crate::script_fault::ScriptFault;
 use std::alloc::{AllocError, Global};
-use totem_ids::{ProcId, RingId};
+use totem_names::{ProcId, RingId};
 use totem_packets::Packet;
 use totem_ring::first_token;
 
@@ -26,7 +26,7 @@ impl SceneState {
         alloc: Global,
         ring: RingId,
         members: &[ProcId],
-    ) -> Result<(), ScriptFaultKind>
+    ) -> Result<(), ScriptFault>
         ensures { Becomes result self.new (ring_made self.old ring members.now) }
     {
         self.actors.add_ring(alloc, ring, members)?;

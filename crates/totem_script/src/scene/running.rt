@@ -3,13 +3,13 @@ ghost use Rattle.totem_script.specs.Judged.{Becomes};
 ghost use Rattle.totem_script.specs.Scenes.{run_times};
 
 use crate::scene::SceneState;
-use crate::script_fault::ScriptFaultKind;
+use crate::script_fault::ScriptFault;
 use std::alloc::Global;
-use totem_node::Input;
+use totem_core::Input;
 
 impl SceneState {
     /// Gives the first packet to its receiver, this many times while there is one.
-    pub(super) fn run(&mut self, alloc: Global, times: u32) -> Result<(), ScriptFaultKind>
+    pub(super) fn run(&mut self, alloc: Global, times: u32) -> Result<(), ScriptFault>
         ensures { Becomes result self.new (run_times times self.old) }
     {
         let mut left = times;

@@ -1,8 +1,8 @@
 use Rattle.std.proofs.Common.{◌-◌, ◌+◌, ◌==◌, refl, arith}
 use Rattle.std.proofs.lemmas.List.{length_push}
 use Rattle.std.proofs.lemmas.Result.{err_from_is_err_and}
-use Rattle.totem_ids.proofs.Readers.{called, failed, same_left, stops}
-use Rattle.totem_ids.specs.declared.version.Version.TheVariants.{Two}
+use Rattle.totem_names.proofs.Readers.{called, failed, same_left, stops}
+use Rattle.totem_names.specs.declared.version.Version.TheVariants.{Two}
 use Rattle.totem_evs.proofs.RunLoops.{full_is}
 use Rattle.totem_certificate.specs.CertGrammar.{numbering}
 use Rattle.totem_certificate.proofs.CertLoops.{lines_step, lines_none, ended, begun}

@@ -1,6 +1,6 @@
 use Rattle.std.proofs.Common.{subst}
-use Rattle.totem_ids.specs.Writing.{Writes, held}
-use Rattle.totem_ids.proofs.Writers.{wrote_then, wrote_both}
+use Rattle.totem_names.specs.Writing.{Writes, held}
+use Rattle.totem_names.proofs.Writers.{wrote_then, wrote_both}
 use Rattle.totem_certificate.specs.CertRecord.{CertRecord}
 use Rattle.totem_certificate.specs.CertText.{cert_text}
 use Rattle.totem_certificate.proofs.writing.put_cert.Goals as goal

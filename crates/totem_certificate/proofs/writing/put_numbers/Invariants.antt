@@ -1,5 +1,5 @@
 use Rattle.std.proofs.Common.{◌-◌, length, take}
-use Rattle.totem_ids.specs.Writing.{Wrote, held}
+use Rattle.totem_names.specs.Writing.{Wrote, held}
 use Rattle.totem_certificate.specs.CertText.{numbers_text}
 use Rattle.totem_certificate.proofs.writing.put_numbers.Given as goal
 

@@ -24,4 +24,5 @@ pub returns-in-Ok-follow_io : goal.returns-in-Ok-follow_io
 returns-in-Ok-follow_io g c = rw c.status-in-Ok-follow_io.ensures (simulated _ c.in-Ok-follow_io.ensures refl)
 
 pub returns-in-Err-follow_io : goal.returns-in-Err-follow_io
-returns-in-Err-follow_io g c = unfollowed _ _ c.in-Err-follow_io.ensures c.point_line.ensures
+returns-in-Err-follow_io g c =
+    unfollowed _ _ (record { line = c.in-Err-follow_io.unmade.line; is_unmade = c.in-Err-follow_io.ensures }) c.point_line.ensures

@@ -1,4 +1,4 @@
-use Rattle.totem_ids.specs.Sources.{seen}
+use Rattle.totem_names.specs.Sources.{seen}
 use Rattle.totem_cluster.proofs.ScriptReading.{SoFar}
 use Rattle.totem_cluster.proofs.simulating.read_script.Given as goal
 

@@ -1,4 +1,4 @@
-use Rattle.totem_ids.proofs.Writers.{wrote_then}
+use Rattle.totem_names.proofs.Writers.{wrote_then}
 use Rattle.totem_cluster.proofs.telling.put_book_trouble.Goals as goal
 
 pub returns : goal.returns

@@ -1,4 +1,4 @@
-use Rattle.totem_ids.proofs.Writers.{wrote_then}
+use Rattle.totem_names.proofs.Writers.{wrote_then}
 use Rattle.totem_cluster.proofs.Lines.{script_not_read}
 use Rattle.totem_cluster.proofs.telling.put_script_fault.Goals as goal
 

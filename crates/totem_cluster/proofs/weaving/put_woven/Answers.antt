@@ -1,4 +1,4 @@
-use Rattle.totem_ids.proofs.Writers.{wrote_then, wrote_both}
+use Rattle.totem_names.proofs.Writers.{wrote_then, wrote_both}
 use Rattle.totem_cluster.proofs.weaving.put_woven.Goals as goal
 
 pub returns : goal.returns

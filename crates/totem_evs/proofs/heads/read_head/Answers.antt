@@ -1,5 +1,5 @@
 use Rattle.totem_evs.specs.Heads.{head_at}
-use Rattle.totem_ids.proofs.Readers.{begins, called, handed, picks, skips}
+use Rattle.totem_names.proofs.Readers.{begins, called, handed, picks, skips}
 use Rattle.totem_evs.proofs.heads.read_head.Goals as goal
 
 pub returns-then-letter-clause-read : goal.returns-then-letter-clause-read

@@ -2,7 +2,7 @@ use Rattle.std.proofs.Common.{Some, sym, ap, ◌∙◌}
 use Rattle.std.proofs.lemmas.Option.{slice_get-get_or}
 use Rattle.totem_evs.specs.declared.log.Log.{Log}
 use Rattle.totem_evs.specs.Lives.{HasFirstLives}
-use Rattle.totem_ids.proofs.Each.{each_more, each_whole}
+use Rattle.totem_names.proofs.Each.{each_more, each_whole}
 use Rattle.totem_evs.proofs.lives.first_unwritten.Goals as goal
 
 pub returns-then-not-has_first_lives-clause-some : goal.returns-then-not-has_first_lives-clause-some

@@ -1,5 +1,5 @@
 use Rattle.std.proofs.Common.{◌≡◌}
-use Rattle.totem_ids.specs.Sources.{seen}
+use Rattle.totem_names.specs.Sources.{seen}
 use Rattle.totem_evs.specs.ReadState.{IsReadState}
 use Rattle.totem_evs.proofs.FoldedRun.{Folded}
 use Rattle.totem_evs.proofs.Gathers.{parts_left}

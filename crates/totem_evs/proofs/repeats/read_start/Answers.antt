@@ -1,5 +1,5 @@
 use Rattle.totem_evs.specs.LineStarts.{start_at}
-use Rattle.totem_ids.proofs.Readers.{begins, called, handed, picks, skips}
+use Rattle.totem_names.proofs.Readers.{begins, called, handed, picks, skips}
 use Rattle.totem_evs.proofs.repeats.read_start.Goals as goal
 
 pub returns-then-letter-eq115 : goal.returns-then-letter-eq115

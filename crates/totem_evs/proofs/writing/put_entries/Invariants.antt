@@ -1,7 +1,7 @@
 use Rattle.std.proofs.Common.{take}
 use Rattle.std.specs.List.{flat_map}
-use Rattle.totem_ids.specs.Writing.{Wrote, held}
-use Rattle.totem_ids.specs.Processes.{process_text}
+use Rattle.totem_names.specs.Writing.{Wrote, held}
+use Rattle.totem_names.specs.Processes.{process_text}
 use Rattle.totem_evs.specs.RunText.{line, entry_text}
 use Rattle.totem_evs.proofs.writing.put_entries.Given as goal
 

@@ -1,4 +1,4 @@
-use Rattle.totem_ids.proofs.Writers.{wrote_then, wrote_both}
+use Rattle.totem_names.proofs.Writers.{wrote_then, wrote_both}
 use Rattle.totem_evs.proofs.writing.put_entry.Goals as goal
 
 pub returns-in_ok-put-in-Send-3 : goal.returns-in_ok-put-in-Send-3

@@ -1,5 +1,5 @@
 use Rattle.std.proofs.Common.{[], ◌∷◌, append_assoc}
-use Rattle.totem_ids.proofs.Writers.{wrote_then}
+use Rattle.totem_names.proofs.Writers.{wrote_then}
 use Rattle.totem_evs.specs.RunText.{version_digit}
 use Rattle.totem_evs.proofs.writing.put_header.Goals as goal
 

@@ -1,6 +1,6 @@
 use Rattle.std.proofs.Common.{take}
-use Rattle.totem_ids.specs.Writing.{Wrote, held}
-use Rattle.totem_ids.specs.Processes.{process_text}
+use Rattle.totem_names.specs.Writing.{Wrote, held}
+use Rattle.totem_names.specs.Processes.{process_text}
 use Rattle.totem_evs.specs.RunText.{members_text}
 use Rattle.totem_evs.proofs.writing.put_members.Given as goal
 

@@ -1,6 +1,6 @@
 use Rattle.std.proofs.Common.{◌≡◌, take}
 use Rattle.std.specs.String.{string_bytes}
-use Rattle.totem_ids.specs.Processes.{process_text}
+use Rattle.totem_names.specs.Processes.{process_text}
 use Rattle.totem_evs.specs.RunText.{members_text}
 use Rattle.totem_explain.proofs.event.spaced.Given as goal
 

@@ -1,4 +1,4 @@
-use Rattle.totem_ids.specs.declared.conf.ConfId.TheVariants.{Regular}
+use Rattle.totem_names.specs.declared.conf.ConfId.TheVariants.{Regular}
 use Rattle.totem_judge_run.proofs.LogEnds.{NoChangeBefore}
 use Rattle.totem_pass_ab.proofs.unsent_1_3.first_change.Given as goal
 

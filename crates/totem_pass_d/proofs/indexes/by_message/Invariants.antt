@@ -1,5 +1,5 @@
 use Rattle.std.specs.BTreeMap as tree
-use Rattle.totem_ids.specs.contracts.message.MsgIdOrd.TheImpl as message
+use Rattle.totem_names.specs.contracts.message.MsgIdOrd.TheImpl as message
 use Rattle.totem_pass_d.specs.Indexes.{Tells}
 use Rattle.totem_pass_d.proofs.indexes.by_message.Given as goal
 

@@ -1,5 +1,5 @@
 use Rattle.std.proofs.Common.{◌-◌}
-use Rattle.totem_ids.specs.contracts.message.MsgIdOrd.TheImpl as message
+use Rattle.totem_names.specs.contracts.message.MsgIdOrd.TheImpl as message
 use Rattle.totem_pass_d.proofs.CausalityFaults.{SoFar}
 use Rattle.totem_pass_d.proofs.suspects.note_pair.Given as goal
 

@@ -1,4 +1,4 @@
-use Rattle.totem_ids.specs.contracts.message.MsgIdOrd.TheImpl as message
+use Rattle.totem_names.specs.contracts.message.MsgIdOrd.TheImpl as message
 use Rattle.totem_pass_d.specs.Suspects.{AreSuspects}
 use Rattle.totem_pass_d.proofs.suspects.suspects_of.Given as goal
 

@@ -1,6 +1,6 @@
 use Rattle.std.proofs.Common.{take}
 use Rattle.std.specs.List.{flat_map}
-use Rattle.totem_ids.specs.Writing.{Wrote, held}
+use Rattle.totem_names.specs.Writing.{Wrote, held}
 use Rattle.totem_verdicts.specs.Report.{waiting_line}
 use Rattle.totem_verdicts.proofs.left_open.put_each_waiting.Given as goal
 

@@ -1,4 +1,4 @@
-use Rattle.totem_ids.proofs.Writers.{wrote_then, wrote_both}
+use Rattle.totem_names.proofs.Writers.{wrote_then, wrote_both}
 use Rattle.totem_verdicts.specs.Report.{waiting_line}
 use Rattle.totem_verdicts.proofs.left_open.put_waiting.Goals as goal
 

@@ -1,4 +1,4 @@
-use Rattle.totem_ids.proofs.Writers.{wrote_then}
+use Rattle.totem_names.proofs.Writers.{wrote_then}
 use Rattle.totem_verdicts.proofs.report.put_accepted.Goals as goal
 
 pub returns : goal.returns

@@ -1,4 +1,4 @@
-use Rattle.totem_ids.proofs.Writers.{wrote_then}
+use Rattle.totem_names.proofs.Writers.{wrote_then}
 use Rattle.totem_verdicts.proofs.Lines.{cert_not_read}
 use Rattle.totem_verdicts.proofs.telling.put_cert_fault.Goals as goal
 

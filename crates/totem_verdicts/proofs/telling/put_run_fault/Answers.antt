@@ -1,4 +1,4 @@
-use Rattle.totem_ids.proofs.Writers.{wrote_then, wrote_both}
+use Rattle.totem_names.proofs.Writers.{wrote_then, wrote_both}
 use Rattle.totem_verdicts.proofs.Lines.{run_not_read}
 use Rattle.totem_verdicts.proofs.telling.put_run_fault.Goals as goal
 

@@ -1,4 +1,4 @@
-use Rattle.totem_ids.proofs.Each.{each_more, each_whole}
+use Rattle.totem_names.proofs.Each.{each_more, each_whole}
 use Rattle.totem_weave.specs.Woven.{IsOfMember}
 use Rattle.totem_weave.proofs.membership.are_of_members.Goals as goal
 

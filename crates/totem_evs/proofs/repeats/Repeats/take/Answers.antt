@@ -1,5 +1,5 @@
 use Rattle.std.proofs.Common.{refl}
-use Rattle.totem_ids.proofs.AtHand.{skipped_value}
+use Rattle.totem_names.proofs.AtHand.{skipped_value}
 use Rattle.totem_evs.proofs.repeats.Repeats.take.Goals as goal
 
 pub returns-clause-taken : goal.returns-clause-taken

@@ -1,5 +1,5 @@
-use Rattle.totem_ids.specs.contracts.life.ProcOrd.TheImpl as life
-use Rattle.totem_ids.specs.contracts.life.ProcOrd.TheImpl.Laws.{total-law}
+use Rattle.totem_names.specs.contracts.life.ProcOrd.TheImpl as life
+use Rattle.totem_names.specs.contracts.life.ProcOrd.TheImpl.Laws.{total-law}
 use Rattle.totem_evs.proofs.ProcOrder.{exact_proc}
 use Rattle.totem_evs.proofs.Sets.{added}
 use Rattle.totem_evs.proofs.unlogged.Unlogged.add.Goals as goal

@@ -1,4 +1,4 @@
-use Rattle.totem_ids.specs.contracts.conf.ConfIdOrd.TheImpl.Laws as conf
+use Rattle.totem_names.specs.contracts.conf.ConfIdOrd.TheImpl.Laws as conf
 use Rattle.totem_table.specs.contracts.keys.ChangeOrd.TheImpl.Laws as change
 use Rattle.totem_pass_ab.proofs.Forming.{keeps_changes}
 use Rattle.totem_pass_ab.proofs.configuration_2_3.FormsChangeRegister.enter_change.Goals as goal

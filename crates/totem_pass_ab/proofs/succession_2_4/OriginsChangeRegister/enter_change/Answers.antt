@@ -1,4 +1,4 @@
-use Rattle.totem_ids.specs.contracts.conf.ConfIdOrd.TheImpl.Laws as conf
+use Rattle.totem_names.specs.contracts.conf.ConfIdOrd.TheImpl.Laws as conf
 use Rattle.totem_pass_ab.proofs.Turning.{keeps_origins, enters_origin}
 use Rattle.totem_pass_ab.proofs.succession_2_4.OriginsChangeRegister.enter_change.Goals as goal
 

@@ -1,6 +1,6 @@
 use Rattle.std.proofs.Common.{refl, subst}
 use Rattle.std.proofs.lemmas.Option.{slice_get_read}
-use Rattle.totem_ids.specs.declared.ring.RingId.{RingId}
+use Rattle.totem_names.specs.declared.ring.RingId.{RingId}
 use Rattle.totem_judge_traffic.specs.Traffics.{IsTrafficOf}
 use Rattle.totem_pass_d.proofs.jobs.Jobs.traffic.Goals as goal
 

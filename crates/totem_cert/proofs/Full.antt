@@ -1,0 +1,72 @@
+-- If each entry has a number, the lines are the run's certificate.
+use Rattle.std.proofs.Common.{◌≡◌, suc, ◌<◌, inl, inr, List, [], ◌∷◌, length, get_or, Some, refl, sym, ◌∙◌, arith}
+use Rattle.std.specs.Prelude.{All}
+use Rattle.std.proofs.lemmas.Option.{slice_get_within, slice_get-get_or}
+use Rattle.totem_names.specs.declared.place.Place.{Place}
+use Rattle.totem_evs.specs.declared.entry.Entry.TheVariants.{Deliver}
+use Rattle.totem_evs.specs.declared.log.Log.{Log}
+use Rattle.totem_evs.specs.Events.{IsEvent}
+use Rattle.totem_evs.specs.Steps.{SameClass}
+use Rattle.totem_evs.specs.Certificates.{Numbering, number_at, IsBelow, Matches}
+use Rattle.totem_evs.proofs.LogOf.{Rising}
+use Rattle.totem_cert.specs.Search.{place}
+use Rattle.totem_evs.specs.Classes.{WaitsFor}
+use Rattle.totem_evs.specs.Positions.{IsPositions}
+use Rattle.totem_cert.specs.Progress.{Fits, IsSound, IsFull, IsNumbered}
+use Rattle.totem_cert.proofs.LineFacts.{line_of_at, line_in, event_at, within_numbered, fits_tail}
+use Rattle.totem_cert.proofs.Lists.{at_index}
+
+matches : (run : List Log) (lines : List Numbering) → Fits run lines → IsFull run lines → Matches run lines
+matches [] [] fits full = refl
+matches [] (line ∷ lines) fits full = absurd (let h = fits.count in omega arith)
+matches (log ∷ logs) [] fits full = absurd (let h = fits.count in omega arith)
+matches (log ∷ logs) (line ∷ lines) fits full =
+    let rest = matches logs lines (fits_tail log logs line lines fits) (record { full = λ j l n at_l at_n. full.full (suc j) l n at_l at_n }) in
+    let proc : line.proc ≡ log.proc = fits.proc 0 log line refl refl in
+    let le = fits.short 0 log line refl refl in
+    let ge = full.full 0 log line refl refl in
+    let len : length line.numbers ≡ length log.entries = omega arith in
+    rw (proc, len, rest) refl
+
+module _ (run : List Log) (lines : List Numbering) (rising : Rising run) (sound : IsSound run lines) (full : IsFull run lines) where
+  numbered : (e : Place) → IsEvent run e → IsNumbered lines e
+  numbered e (x, at) =
+      let (k, i, a, is) = event_at run e x at in
+      let s = line_in run lines k a.log rising sound.fits a.is_log in
+      let all = full.full k a.log s.0 a.is_log s.1 in
+      let lt = slice_get_within a.log.entries i x a.is_entry in
+      rw is (within_numbered lines a.log.proc i (rw s.2 (omega arith)))
+
+  below : (e f : Place) → IsEvent run f → WaitsFor run f e → IsBelow lines e f
+  below e f event waits =
+      let n = numbered f event in
+      let b = (sound.sound.waits f n.number n.given).each e waits in
+      (b.number, n.number, b.given, n.given, b.below)
+
+  positive : All (λ line. All (λ n. 0 < n) line.numbers) lines
+  positive = λ k d lt i e within.
+      let (log, log_at) = at_index run k (let c = sound.fits.count in omega arith) in
+      let s = line_of_at run lines k log (get_or lines k d) rising sound.fits log_at (slice_get-get_or lines k d lt) in
+      let given : number_at lines (place log.proc i) ≡ Some (get_or (get_or lines k d).numbers i e) = rw s (slice_get-get_or (get_or lines k d).numbers i e within) in
+      sound.sound.positive (place log.proc i) (get_or (get_or lines k d).numbers i e) given
+
+  pub full_positions : IsPositions run lines
+  full_positions = record {
+    certified = record {
+      matches = matches run lines sound.fits full;
+      positive = positive;
+      rises = λ e f is_e is_f before. below e f is_f (record { member = f; shares = inl (is_f, refl); step = inl (is_e, is_f, before) });
+      sent = λ e f m x sends delivers. (let is_f : IsEvent run f = (Deliver m delivers.0, delivers.1) in below e f is_f (record { member = f; shares = inl (is_f, refl); step = inr (m, x, sends, delivers) }));
+      shared = λ e f same. shared e f same (event e f same);
+      apart = λ e f is_e is_f same. (let n = numbered e is_e in let in_class = sound.sound.apart e f n.number n.given (sym same ∙ n.given) in elim in_class [ inl (_, is) ↦ inl is | inr s ↦ inr s ]);
+    };
+    dense = λ e j k at pos le. (let most = sound.sound.few e k at in sound.sound.dense j pos (omega arith));
+    least = λ e f k l at_e at_f lt waits. sound.sound.least e f k at_e (sound.sound.only f l at_f) waits (record { none = λ m at_m. (let same : l ≡ m = cc in omega arith) });
+  }
+    where
+      event : (e f : Place) → SameClass run e f → IsEvent run e
+      event e f (inl (x, (ms, a), b)) = (_, a)
+      event e f (inr (m, (x, a), b)) = (_, a)
+
+      shared : (e f : Place) → SameClass run e f → IsEvent run e → number_at lines e ≡ number_at lines f
+      shared e f same is_e = let n = numbered e is_e in n.given ∙ sym (sound.sound.shared e f n.number n.given (inr same))

@@ -1,0 +1,6 @@
+use Rattle.std.proofs.Common.{◌≡◌}
+use Rattle.totem_table.proofs.Checking.{HoldsTo}
+use Rattle.totem_cert.proofs.step.index_of_log.Given as goal
+
+abbrev pub invariant-loop-k : goal.invariant-loop-k
+invariant-loop-k l = HoldsTo (λ j log. log.proc ≡ l.proc → ⊥) l.log-items l.k

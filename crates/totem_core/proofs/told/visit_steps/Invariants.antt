@@ -1,0 +1,6 @@
+use Rattle.std.proofs.Common.{◌≡◌, take}
+use Rattle.totem_core.specs.Visiting.{submits}
+use Rattle.totem_core.proofs.told.visit_steps.Given as goal
+
+abbrev pub invariant-loop-body : goal.invariant-loop-body
+invariant-loop-body l = l.steps.items ≡ submits l.ring (take l.body-index l.bodies)

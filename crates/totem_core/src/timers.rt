@@ -1,0 +1,102 @@
+//! Decides whether a timer is refused, and takes one that is not (docs/PROTOCOL.md, "The node").
+ghost use Rattle.std.specs.Prelude.{◌≡◌, IfOk};
+ghost use Rattle.totem_core.specs.Table.{late, is_quiet, on_timer};
+ghost use Rattle.totem_core.specs.Refusals.{IsTaken, timer_at_the_end, Tells};
+ghost use Rattle.totem_core.specs.Transitions.{IsTransition, IsTimerTransition, IsCounting};
+ghost use Rattle.totem_core.specs.Answers.{IsStep};
+
+use crate::fault::NodeFault;
+use crate::gathering::join_broadcast;
+use crate::node_core::NodeCore;
+use crate::outcome::StepOut;
+use crate::state::State;
+use crate::tokens::resend;
+use crate::transition::Transition;
+use std::alloc::Global;
+use totem_member::Gather;
+
+/// The number of timers that are only counted before the next one makes the node gather.
+const QUIET: u8 = 2;
+
+/// The number of timers that are only counted before a gathering gives up those that don't agree.
+const PATIENCE: u8 = 1;
+
+impl NodeCore {
+    /// Returns whether so many timers were counted that the next one makes the node gather, unless it gathers already.
+    fn is_quiet(&self) -> bool
+        ensures { result ≡ is_quiet self.now }
+    {
+        self.quiet >= QUIET
+    }
+
+    /// Returns why the node would refuse a timer, of which only one that makes it gather may be refused.
+    #[tactic(auto, using(crate::proofs::Foretelling::gathers_on))]
+    pub(crate) fn timer_refusal(&self) -> Option<NodeFault>
+        ensures { Tells result (timer_at_the_end self.now self.now.state) (on_timer self.now self.now.state) }
+    {
+        if let State::Gathering(_) = &self.state {
+            return None;
+        }
+        if !self.is_quiet() {
+            return None;
+        }
+        self.gather_refusal(&[], None)
+    }
+
+    /// Returns the transition in which a gathering gives up those that did not agree in time.
+    fn late(&self, alloc: Global, gather: &Gather) -> Result<Transition, NodeFault>
+        ensures { IsTransition result self.now (late self.now gather.now) }
+    {
+        let mut next = gather.try_clone(alloc)?;
+        let out = next.on_timeout(alloc)?;
+        let mut packets = Vec::new(alloc);
+        packets.push(join_broadcast(alloc, &next)?)?;
+        self.look_at_consensus(alloc, 0, next, out.members, packets)
+    }
+
+    /// Returns the transition that this timer causes, which is not refused, or `None` if it is only counted.
+    fn timer_transition(&self, alloc: Global) -> Result<Option<Transition>, NodeFault>
+        requires { IsTaken (timer_at_the_end self.now self.now.state) (on_timer self.now self.now.state) }
+        ensures { IsTimerTransition result self.now }
+    {
+        if let State::Gathering(gather) = &self.state {
+            if self.quiet < PATIENCE {
+                return Ok(None);
+            }
+            return Ok(Some(self.late(alloc, gather)?));
+        }
+        if !self.is_quiet() {
+            return Ok(None);
+        }
+        Ok(Some(self.to_gather(alloc, &[], None)?))
+    }
+
+    /// Returns what is sent when a timer is only counted.
+    fn sent_again(&self, alloc: Global) -> Result<StepOut, NodeFault>
+        ensures { IsCounting result self.now }
+    {
+        match &self.state {
+            State::Operational => resend(alloc, &self.installed),
+            State::Gathering(gather) => {
+                let mut packets = Vec::new(alloc);
+                packets.push(join_broadcast(alloc, gather)?)?;
+                Ok(StepOut::sending(alloc, packets))
+            }
+            State::Committing(_) => Ok(StepOut::sending(alloc, Vec::new(alloc))),
+            State::InRecovery(x) => resend(alloc, &x.ring),
+        }
+    }
+
+    /// Takes a timer that has run out and is not refused.
+    pub(crate) fn on_timer(&mut self, alloc: Global) -> Result<StepOut, NodeFault>
+        requires { IsTaken (timer_at_the_end self.old self.old.state) (on_timer self.old self.old.state) }
+        ensures { IsStep self.old self.new result (on_timer self.old self.old.state) }
+    {
+        if let Some(transition) = self.timer_transition(alloc)? {
+            return Ok(self.apply(alloc, transition));
+        }
+        let told = self.sent_again(alloc)?;
+        self.quiet += 1;
+        Ok(told)
+    }
+}

@@ -1,7 +1,0 @@
--- The buffer keeps its length, and a read that failed took nothing.
-use Rattle.std.proofs.Common.{◌≡◌, length}
-use Rattle.std.specs.Io.KnownBytes.{Keeps}
-use Rattle.totem_ids.proofs.retry.read_retrying.Given as goal
-
-abbrev pub invariant-tries : goal.invariant-tries
-invariant-tries g l = (length l.buffer ≡ length l.initial.buffer) × Keeps (g.R.Read.remaining l.initial.reader) (g.R.Read.remaining l.reader)

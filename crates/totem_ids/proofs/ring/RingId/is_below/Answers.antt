@@ -1,5 +1,0 @@
-use Rattle.std.proofs.Common.{rules}
-use Rattle.totem_ids.proofs.ring.RingId.is_below.Goals as goal
-
-pub returns : goal.returns
-returns c = search rules

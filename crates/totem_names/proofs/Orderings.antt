@@ -1,0 +1,106 @@
+-- The orders of names are strict and total.
+use Rattle.std.specs.Prelude.{◌⊎◌}
+use Rattle.std.proofs.Common.{◌≡◌, ℕ, ◌<◌, ◌≤◌, inl, inr, refl, sym, ap, subst, ◌∙◌, arith}
+use Rattle.std.proofs.lemmas.Bool.{cases_lt}
+use Rattle.totem_names.specs.declared.conf.ConfId.{ConfId}
+use Rattle.totem_names.specs.declared.conf.ConfId.TheVariants.{Regular, Transitional}
+use Rattle.totem_names.specs.Names.{RingName, MessageName, PlaceName}
+use Rattle.totem_names.specs.Orders.{RingBelow, MessageBelow, PlaceBelow, ConfBelow, IsStrictOrder}
+
+pub numbers : IsStrictOrder (λ (a b : ℕ). a < b)
+numbers = record {
+  strict = λ a h. omega arith;
+  goes_on = λ a b c h k. omega arith;
+  total = λ a b. elim (cases_lt a b) [ inl low ↦ inl low | inr high ↦ from a b (cases_lt b a) high ];
+}
+  where
+    from : (a b : ℕ) → (b < a) ⊎ (a ≤ b) → b ≤ a → (a < b) ⊎ ((a ≡ b) ⊎ (b < a))
+    from a b (inl above) high = inr (inr above)
+    from a b (inr low) high = inr (inl (omega arith))
+
+-- by one part, and then by another
+by_parts : {Y A B : Type 0} (R : A → A → Type 0) (S : B → B → Type 0) (f : Y → A) (g : Y → B) → IsStrictOrder R → IsStrictOrder S
+    → ((a b : Y) → f a ≡ f b → g a ≡ g b → a ≡ b) → IsStrictOrder (λ (a b : Y). R (f a) (f b) ⊎ ((f a ≡ f b) × S (g a) (g b)))
+by_parts {Y = Y} {A = A} R S f g first second same = record { strict = strict; goes_on = goes_on; total = λ a b. total a b (first.total (f a) (f b)) }
+  where
+    strict : (a : Y) → R (f a) (f a) ⊎ ((f a ≡ f a) × S (g a) (g a)) → ⊥
+    strict a (inl h) = first.strict (f a) h
+    strict a (inr h) = second.strict (g a) h.1
+
+    goes_on : (a b c : Y) → R (f a) (f b) ⊎ ((f a ≡ f b) × S (g a) (g b)) → R (f b) (f c) ⊎ ((f b ≡ f c) × S (g b) (g c)) → R (f a) (f c) ⊎ ((f a ≡ f c) × S (g a) (g c))
+    goes_on a b c (inl h) (inl k) = inl (first.goes_on (f a) (f b) (f c) h k)
+    goes_on a b c (inl h) (inr k) = inl (subst (λ (x : A). R (f a) x) k.0 h)
+    goes_on a b c (inr h) (inl k) = inl (subst (λ (x : A). R x (f c)) (sym h.0) k)
+    goes_on a b c (inr h) (inr k) = inr (h.0 ∙ k.0, second.goes_on (g a) (g b) (g c) h.1 k.1)
+
+    total : (a b : Y) → R (f a) (f b) ⊎ ((f a ≡ f b) ⊎ R (f b) (f a))
+        → (R (f a) (f b) ⊎ ((f a ≡ f b) × S (g a) (g b))) ⊎ ((a ≡ b) ⊎ (R (f b) (f a) ⊎ ((f b ≡ f a) × S (g b) (g a))))
+    total a b (inl h) = inl (inl h)
+    total a b (inr (inr h)) = inr (inr (inl h))
+    total a b (inr (inl e)) = elim (second.total (g a) (g b)) [
+      | inl h ↦ inl (inr (e, h))
+      | inr rest ↦ elim rest [ inl k ↦ inr (inl (same a b e k)) | inr h ↦ inr (inr (inr (sym e, h))) ]
+    ]
+
+abbrev ring_of : ℕ → ℕ → RingName
+ring_of x y = record { seq = x; rep = y }
+
+same_ring : (a b : RingName) → a.seq ≡ b.seq → a.rep ≡ b.rep → a ≡ b
+same_ring a b e k = ap (λ (x : ℕ). ring_of x a.rep) e ∙ ap (ring_of b.seq) k
+
+pub ring_strict : IsStrictOrder RingBelow
+ring_strict = by_parts (λ (a b : ℕ). a < b) (λ (a b : ℕ). a < b) (λ (c : RingName). c.seq) (λ (c : RingName). c.rep) numbers numbers same_ring
+
+abbrev message_of : RingName → ℕ → MessageName
+message_of x y = record { ring = x; number = y }
+
+same_message : (a b : MessageName) → a.ring ≡ b.ring → a.number ≡ b.number → a ≡ b
+same_message a b e k = ap (λ (x : RingName). message_of x a.number) e ∙ ap (message_of b.ring) k
+
+pub message_strict : IsStrictOrder MessageBelow
+message_strict = by_parts RingBelow (λ (a b : ℕ). a < b) (λ (m : MessageName). m.ring) (λ (m : MessageName). m.number) ring_strict numbers same_message
+
+abbrev place_of : ℕ → ℕ → PlaceName
+place_of x y = record { proc = x; at = y }
+
+same_place : (a b : PlaceName) → a.proc ≡ b.proc → a.at ≡ b.at → a ≡ b
+same_place a b e k = ap (λ (x : ℕ). place_of x a.at) e ∙ ap (place_of b.proc) k
+
+pub place_strict : IsStrictOrder PlaceBelow
+place_strict = by_parts (λ (a b : ℕ). a < b) (λ (a b : ℕ). a < b) (λ (e : PlaceName). e.proc) (λ (e : PlaceName). e.at) numbers numbers same_place
+
+-- a ring and a process, as of transitional configurations
+pairs : IsStrictOrder (λ (a b : RingName × ℕ). RingBelow a.0 b.0 ⊎ ((a.0 ≡ b.0) × (a.1 < b.1)))
+pairs = by_parts RingBelow (λ (a b : ℕ). a < b) (λ (x : RingName × ℕ). x.0) (λ (x : RingName × ℕ). x.1) ring_strict numbers (λ a b e k. both a b e k)
+  where
+    both : (a b : RingName × ℕ) → a.0 ≡ b.0 → a.1 ≡ b.1 → a ≡ b
+    both (c, p) (d, q) e k = rw (e, k) refl
+
+pub conf_strict : IsStrictOrder ConfBelow
+conf_strict = record { strict = strict; goes_on = goes_on; total = total }
+  where
+    strict : (a : ConfId) → ConfBelow a a → ⊥
+    strict (Regular a) h = ring_strict.strict a h
+    strict (Transitional least next) (inl h) = ring_strict.strict next h
+    strict (Transitional least next) (inr h) = numbers.strict least h.1
+
+    goes_on : (a b c : ConfId) → ConfBelow a b → ConfBelow b c → ConfBelow a c
+    goes_on (Regular a) (Regular b) (Regular c) h k = ring_strict.goes_on a b c h k
+    goes_on (Regular a) (Regular b) (Transitional least next) h k = tt
+    goes_on (Regular a) (Transitional least next) (Regular c) h k = absurd k
+    goes_on (Regular a) (Transitional least next) (Transitional other later) h k = tt
+    goes_on (Transitional least next) (Regular b) c h k = absurd h
+    goes_on (Transitional least next) (Transitional other later) (Regular c) h k = absurd k
+    goes_on (Transitional p a) (Transitional q b) (Transitional r c) h k = (pairs.goes_on (a, p) (b, q) (c, r) h k)
+
+    total : (a b : ConfId) → ConfBelow a b ⊎ ((a ≡ b) ⊎ ConfBelow b a)
+    total (Regular a) (Regular b) = elim (ring_strict.total a b) [
+      | inl h ↦ inl h
+      | inr rest ↦ elim rest [ inl e ↦ inr (inl (ap (λ (c : RingName). Regular c) e)) | inr h ↦ inr (inr h) ]
+    ]
+    total (Regular a) (Transitional least next) = inl tt
+    total (Transitional least next) (Regular b) = inr (inr tt)
+    total (Transitional p a) (Transitional q b) = elim (pairs.total (a, p) (b, q)) [
+      | inl h ↦ inl h
+      | inr rest ↦ elim rest [ inl e ↦ inr (inl (ap (λ (x : RingName × ℕ). Transitional x.1 x.0) e)) | inr h ↦ inr (inr h) ]
+    ]

@@ -1,6 +1,0 @@
-use Rattle.std.proofs.Common.{◌≡◌, take}
-use Rattle.totem_node.specs.Visiting.{submits}
-use Rattle.totem_node.proofs.told.visit_steps.Given as goal
-
-abbrev pub invariant-loop-body : goal.invariant-loop-body
-invariant-loop-body l = l.steps.items ≡ submits l.ring (take l.body-index l.bodies)
