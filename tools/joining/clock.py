@@ -68,6 +68,10 @@ class Clock:
                         self.refuse(note.line, 'life %d:%d %s before life %d:%d has started and ended' % (
                             process, life, verb, other, earlier))
 
+    def processes(self):
+        """The processes whose lives the file names."""
+        return sorted({process for process, _ in [*self.starts, *self.ends]})
+
     def lives_of(self, process):
         """The lives of a process that the file names."""
         return {life for other, life in [*self.starts, *self.ends] if other == process}

@@ -235,7 +235,7 @@ def trim(logs, life_of, changes):
         if cut.entries[index]:
             trimmed.append(_trimmed(log, cut, index, changes))
         else:
-            tell('%s: begins after %s, and is left out' % (log.name, cut.configuration.decode()))
+            tell('%s: is taken to begin after %s, and is left out' % (log.name, cut.configuration.decode()))
             changes.add('%s: left out' % log.name)
         if cut.entries[index] < log.entries:
             begin = trimmed[-1].size if cut.entries[index] else 0

@@ -60,13 +60,13 @@ class Lives:
         self._tell_came()
 
     def _possible_lives(self, absent):
-        """For each process that has a log, the lives that a member may be: all from 1 to the greatest that there is, but for those that are said
-        to be absent."""
+        """For each process that has a log or is in the clock file, the lives that a member may be: all from 1 to the greatest that there is, but
+        for those that are said to be absent."""
         possible, absent = {}, set(absent)
-        for log in self.files:
-            there = self._lives_of(log.process)
-            greatest = max(there | (self.clock.lives_of(log.process) if self.clock else set()))
-            possible[log.process] = [life for life in range(1, greatest + 1) if life in there or (log.process, life) not in absent]
+        for process in dict.fromkeys([*(log.process for log in self.files), *(self.clock.processes() if self.clock else ())]):
+            there = self._lives_of(process)
+            greatest = max(there | (self.clock.lives_of(process) if self.clock else set()))
+            possible[process] = [life for life in range(1, greatest + 1) if life in there or (process, life) not in absent]
         for process, life in absent:
             if life is None:
                 raise Refused('--absent %d: say which life of it, such as %d:1' % (process, process))
@@ -80,7 +80,7 @@ class Lives:
 
     def _tell_came(self):
         """Reports the lives that come from logs which change to the configurations, and lives without a log."""
-        single = [str(process) for process, lives in self.possible.items() if lives == [1]]
+        single = [str(process) for process, lives in self.possible.items() if lives == [1] and self._lives_of(process)]
         if single:
             tell('life 1 is added to the members %s: no log is of another life of theirs' % ', '.join(single))
         twice = []
@@ -128,7 +128,8 @@ class Lives:
     def _only_lives(self):
         """Takes the only life that is possible."""
         tell_each([self._learn(configuration, process, self.possible[process][0], 'no log is of another life')
-                   for configuration, process in list(self.unknown) if len(self.possible.get(process, ())) == 1])
+                   for configuration, process in list(self.unknown)
+                   if self._lives_of(process) and len(self.possible[process]) == 1])
 
     def _neighbours(self):
         """Takes over lives from neighbouring configurations: a process that goes on from one to the next is the same life in both. Where the
@@ -176,8 +177,7 @@ class Lives:
         self._tell_contradictions()
         lines = []
         for configuration, process in list(self.unknown):
-            possible = self.possible.get(process) or sorted(self.clock.lives_of(process))
-            lives = self._have_run(process, possible, configuration)
+            lives = self._have_run(process, self.possible.get(process, ()), configuration)
             if len(lives) == 1:
                 lines.append(self._learn(configuration, process, lives[0], 'by the clock'))
         tell_each(lines)
@@ -203,7 +203,7 @@ class Lives:
         """Asks for the lives that are not known."""
         lines = []
         for (configuration, process), (log, change) in self.unknown.items():
-            lives = _listed(process, self.possible.get(process, ())) or 'there is no log of it'
+            lives = _listed(process, self.possible.get(process, ())) if self._lives_of(process) else 'there is no log of it'
             lines.append('%s, line %d: which life of %d is a member of %s? No log of it changes there: %s' % (
                 log.name, change.before + 1, process, configuration.decode(), lives))
         lines[MOST_ASKED:] = ['.. and %d more' % (len(lines) - MOST_ASKED)] if len(lines) > MOST_ASKED else []

@@ -117,6 +117,9 @@ UNKNOWN = {
     'a life whose log has no entry': (
         '--lives', {'1.log': 'conf r4.1 1 2\n', '2.1.log': 'conf r5.2 2\n', '2.2.log': ''},
         'which life of 2 is a member of r4.1? No log of it changes there: 2:1 or 2:2\n'),
+    'a life without a log that the clock names and the call says is absent': (
+        '--lives --absent 2:1 --clock FOLDER/times', {'1.log': 'conf r4.1 1 2\n', 'times': '1 start 2:1\n2 conf r4.1\n'},
+        'which life of 2 is a member of r4.1? No log of it changes there: there is no log of it\n'),
     'two lives in the configuration before': (
         '--lives', {'1.log': 'conf r4.1 1 2\nconf t8.1/1 1 2\n', '2.1.log': 'conf r4.1 1 2\n', '2.2.log': 'conf r4.1 1 2\n'},
         'logs: 1.log, line 2: which life of 2 is a member of t8.1/1? No log of it changes there: 2:1 or 2:2\n'),
