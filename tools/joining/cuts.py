@@ -209,7 +209,7 @@ def _trimmed(log, cut, index, changes):
         last = (log.source or log).changes[cut.changes[index] - 1].before + 1
         changes.add('%s, after line %d: left out' % (log.name, last))
         trimmed.size = _end_of(log, cut.changes[index])
-    if trimmed.changes[-1].configuration == cut.configuration and log.ending != 'open':
+    if trimmed.changes and trimmed.changes[-1].configuration == cut.configuration and log.ending != 'open':
         tell('%s: is open after its change to %s, and no longer %s' % (log.name, name, log.ending))
         if log.added:
             changes.add('%s, end: left out: %s' % (log.name, log.added.decode().rstrip()))

@@ -74,6 +74,10 @@ TRIMMED = {
         'logs: 1.log: entries left out after its change to r8.1: 1\n'
         'logs: 1.log: sends 4.1#1 in the part that is left out, and a log does so in the part that stays: a name came again, and no part shows '
         'it\n'),
+    'a process that failed, and changes to nothing': (
+        '--trim', {'1.log': 'fail r4.1\n', '2.log': 'conf r4.1 1 2\nconf t8.2/2 2\nconf r8.2 2\ndlv r8.2 8.2#1\n'},
+        'totem-run 1\nlog 1\nfail r4.1\nfailed\nlog 2\nconf r4.1 1 2\nconf t8.2/2 2\nconf r8.2 2\nopen\nend\n',
+        'logs: 2.log: entries left out after its change to r8.2: 1\n'),
     'a process that failed is not waited for': (
         '--trim', {'1.log': 'conf r4.1 1 2\nconf t8.1/1 1\nconf r8.1 1\ndlv r8.1 8.1#1\n', '2.log': 'conf r4.1 1 2\nfail r4.1\n'},
         'totem-run 1\nlog 1\nconf r4.1 1 2\nconf t8.1/1 1\nconf r8.1 1\nopen\nlog 2\nconf r4.1 1 2\nfail r4.1\nfailed\nend\n',
