@@ -60,12 +60,19 @@ class File:
 
     def result(self):
         """The lines that come out."""
-        came = []
-        for number in filter(self.is_kept, range(1, len(self.lines) + 2)):
-            came += self.moved.get(number, [])
-            if number not in self.gone:
-                came += self.lines[number - 1:number]
-        return came + self.added
+        return self._lines_at(self.is_kept) + self.added
+
+    def left_behind(self):
+        """The lines that come after the last one that is kept, or are moved there."""
+        return self._lines_at(lambda number: not self.is_kept(number))
+
+    def _lines_at(self, is_meant):
+        """The lines at some places, and those that are moved to before them."""
+        lines = []
+        for number in filter(is_meant, range(1, len(self.lines) + 2)):
+            lines += self.moved.get(number, [])
+            lines += [] if number in self.gone else self.lines[number - 1:number]
+        return lines
 
 
 def read_file(name, text):

@@ -211,7 +211,8 @@ class Judged(NamedTuple):
 
     def shown(self, case, seed):
         """All of it, for a person."""
-        lines = ['WRONG: seed %s, case %d: tools/logs join %s' % (seed, case.number, ' '.join(case.words))]
+        verdict = 'WRONG' if self.wrongs else 'right'
+        lines = ['%s: seed %s, case %d: tools/logs join %s' % (verdict, seed, case.number, ' '.join(case.words))]
         lines += ['  (read in blocks of %d bytes)' % case.folder.block] if case.folder.block else []
         lines += ['  ' + what for what in self.wrongs]
         for name, text in sorted(case.folder.files.items()):

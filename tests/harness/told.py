@@ -193,9 +193,8 @@ def names_again(applied, errors):
     """Names in what is left out that are also in what is kept, of which standard error says nothing."""
     kept, gone = [], []
     for file in applied.files.values():
-        lines = entries_of(file)
-        for number, line in enumerate(lines, 1):
-            (kept if file.is_kept(number) and not file.is_left_out else gone).append(line)
+        kept += [] if file.is_left_out else file.result()
+        gone += file.left_behind() if not file.is_left_out else entries_of(file)
     for what, lines in (('changes to', [set(changes_of(kept)), set(changes_of(gone))]),
                         ('sends of', [{message_of(line) for line in part if is_send(line)} for part in (kept, gone)])):
         for name in sorted(set.intersection(*lines)):
