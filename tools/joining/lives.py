@@ -129,11 +129,16 @@ class Lives:
         """Takes the only life that is possible."""
         tell_each([self._learn(configuration, process, self.possible[process][0], 'no log is of another life')
                    for configuration, process in list(self.unknown)
-                   if self._lives_of(process) and len(self.possible[process]) == 1])
+                   if self._lives_of(process) and len(self.possible[process]) == 1
+                   and self._can_have_run(self.possible[process][0], configuration, process)])
+
+    def _can_have_run(self, life, configuration, process):
+        """Whether a life can have run when the logs changed to this configuration, as far as a clock file says."""
+        return not self.clock or bool(self._have_run(process, [life], configuration))
 
     def _neighbours(self):
         """Takes over lives from neighbouring configurations: a process that goes on from one to the next is the same life in both. Where the
-        neighbours of several unknown ones in a row say different lives, none is taken."""
+        neighbours of several unknown ones in a row say different lives, or the clock file contradicts them, none is taken."""
         beside = {}
         wanted = {configuration for configuration, _ in self.unknown}
         for log in self.logs:
@@ -147,9 +152,10 @@ class Lives:
             row, lives = self._row(next(iter(left)), beside)
             for key in row:
                 left.pop(key)
-                if len(lives) == 1:
-                    [(life, other)] = lives.items()
-                    lines.append(self._learn(*key, life, 'so it is in %s, before or after it' % other.decode()))
+            if len(lives) == 1:
+                [(life, other)] = lives.items()
+                how = 'so it is in %s, before or after it' % other.decode()
+                lines += [self._learn(*key, life, how) for key in row if all(self._can_have_run(life, *each) for each in row)]
         tell_each(lines)
 
     def _row(self, first, beside):
@@ -203,7 +209,10 @@ class Lives:
         """Asks for the lives that are not known."""
         lines = []
         for (configuration, process), (log, change) in self.unknown.items():
-            lives = _listed(process, self.possible.get(process, ())) if self._lives_of(process) else 'there is no log of it'
+            possible = self.possible.get(process, ())
+            lives = _listed(process, possible) if self._lives_of(process) else 'there is no log of it'
+            if self.clock and self._lives_of(process) and not self._have_run(process, possible, configuration):
+                lives += ', none of which ran then, by the clock'
             lines.append('%s, line %d: which life of %d is a member of %s? No log of it changes there: %s' % (
                 log.name, change.before + 1, process, configuration.decode(), lives))
         lines[MOST_ASKED:] = ['.. and %d more' % (len(lines) - MOST_ASKED)] if len(lines) > MOST_ASKED else []

@@ -63,13 +63,6 @@ LIVES = {
         '--lives --clock FOLDER/times', {'1.log': 'conf r4.1 1\n', 'times': '1 start 1:1\n2 conf r4.2\n3 conf r4.1\n2 conf r4.3\n'},
         'totem-run 2\nlog 1:1\nconf r4.1 1:1\nopen\nend\n',
         'logs: the clock file has times of configurations to which no log changes: 2 (r4.2, r4.3)\n' + ONE),
-    'a life that did not run then, by the clock': (
-        '--lives --clock FOLDER/times',
-        {'1.log': 'conf r4.1 1 2\n', '2.log': 'conf r2.2 2\nfail r2.2\n', 'times': '1 start 2:1\n2 end 2:1\n5 conf r4.1\n'},
-        'totem-run 2\nlog 1:1\nconf r4.1 1:1 2:1\nopen\nlog 2:1\nconf r2.2 2:1\nfail r2.2\nfailed\nend\n',
-        'logs: r4.1: member 2, which never came, is 2:1: no log is of another life\n'
-        'logs: r4.1: member 2 is taken for 2:1, which did not run then, by the clock\n'
-        'logs: life 1 is added to the members 1, 2: no log is of another life of theirs\n'),
     'a life that the call says, and that did not run then, by the clock': (
         '--lives --member r4.1=2:1 --clock FOLDER/times',
         {'1.log': 'conf r4.1 1 2\n', '2.2.log': 'conf r6.2 2\n', 'times': '0 start 1:1\n1 end 1:1\n2 start 2:1\n'},
@@ -120,6 +113,14 @@ UNKNOWN = {
     'a life without a log that the clock names and the call says is absent': (
         '--lives --absent 2:1 --clock FOLDER/times', {'1.log': 'conf r4.1 1 2\n', 'times': '1 start 2:1\n2 conf r4.1\n'},
         'which life of 2 is a member of r4.1? No log of it changes there: there is no log of it\n'),
+    'the only life of which there is a log, and that did not run then, by the clock': (
+        '--lives --clock FOLDER/times',
+        {'1.log': 'conf r4.1 1 2\n', '2.log': 'conf r2.2 2\nfail r2.2\n', 'times': '1 start 2:1\n2 end 2:1\n5 conf r4.1\n'},
+        'which life of 2 is a member of r4.1? No log of it changes there: 2:1, none of which ran then, by the clock\n'),
+    'a life that is a member of the next configuration, and did not run then, by the clock': (
+        '--lives --clock FOLDER/times',
+        {'1.log': 'conf r4.1 1 2\nconf t8.1/1 1 2\nconf r8.1 1 2\n', '2.2.log': 'conf r8.1 1 2\n', 'times': '5 start 2:2\n1 conf r4.1\n'},
+        'logs: 1.log, line 2: which life of 2 is a member of t8.1/1? No log of it changes there: 2:1 or 2:2\n'),
     'two lives in the configuration before': (
         '--lives', {'1.log': 'conf r4.1 1 2\nconf t8.1/1 1 2\n', '2.1.log': 'conf r4.1 1 2\n', '2.2.log': 'conf r4.1 1 2\n'},
         'logs: 1.log, line 2: which life of 2 is a member of t8.1/1? No log of it changes there: 2:1 or 2:2\n'),
