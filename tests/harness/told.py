@@ -139,24 +139,33 @@ class Lives:
         return {life for life, (first, last) in runs.items() if first <= end and begin <= last}
 
     def inferred(self):
-        """The life of each member that no log shows and that can be only one, in one of the ways that the tool may take."""
+        """The lives of each member: those whose logs change there, or else the only one that one of these ways leaves, in this order: what is
+        said, neighbours, possible lives, the clock."""
         known = {key: set(lives) for key, lives in self.came.items()}
         known.update({key: {life} for key, life in self.said.items() if key not in known})
-        unknown = [key for key in sorted(self.members) if key not in known]
-        for key in unknown:
-            ways = (self._possible(key[1]), self._by_clock(*key))
-            if any(len(lives) == 1 for lives in ways):
-                known[key] = set.union(*(lives for lives in ways if len(lives) == 1))
-        learned = True
-        while learned:
-            learned = False
-            for key in unknown:
-                near = [known[name, key[1]] for name in self.beside.get(key[0], ()) if (name, key[1]) in known]
-                lives = set.union(set(), *near)
-                if not lives <= known.get(key, set()) and (len(lives) == 1 or key in known):
-                    known[key] = known.get(key, set()) | lives
-                    learned = True
+        self._learn_from_neighbours(known)
+        for lives_of in (lambda key: self._possible(key[1]), lambda key: self._by_clock(*key)):
+            for key in self.members - set(known):
+                lives = lives_of(key)
+                if len(lives) == 1:
+                    known[key] = lives
         return known
+
+    def _learn_from_neighbours(self, known):
+        """Takes the lives of neighbouring configurations: all unknown ones that are joined get the life that is known around them, if it is
+        one."""
+        left = self.members - set(known)
+        while left:
+            row, todo, lives = set(), [left.pop()], set()
+            while todo:
+                key = todo.pop()
+                row.add(key)
+                near = {(name, key[1]) for name in self.beside.get(key[0], ())}
+                lives = lives.union(*(known[other] for other in near & set(known)))
+                todo += near & left
+                left -= near
+            if len(lives) == 1:
+                known.update({key: lives for key in row})
 
     def wrongs(self):
         """Members with a life that was not said and is not the only possible one."""
