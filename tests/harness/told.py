@@ -79,6 +79,35 @@ def untold(applied, errors):
             yield 'not told on standard error: %s' % found[0]
 
 
+def logs_of(run):
+    """The logs of a run's text: by process and life, the lines, with the one that closes the log."""
+    logs = {}
+    for line in run.decode().splitlines()[1:-1]:
+        if line.startswith('log '):
+            process, _, life = line[4:].partition(':')
+            lines = logs.setdefault((int(process), int(life or 1)), [])
+        else:
+            lines.append(line)
+    return logs
+
+
+def differences(recorded, written, files, errors):
+    """Logs that were written otherwise than they were recorded, and members with other lives, of which standard error says nothing. (This
+    looks at the two runs only, and not at the list of changes.)"""
+    names = {(file.process, file.life or 1): file.name for file in files.values()}
+    for who, lines in recorded.items():
+        others = written.get(who, [])
+        bare, other_bare = ([re.sub(r':\d+', '', line) for line in some] for some in (lines, others))
+        if bare != other_bare and not any(re.match(r'logs: %s[:, ]' % re.escape(names[who]), line) for line in errors):
+            yield '%s is written otherwise than it was recorded, and that is not told' % names[who]
+        if bare == other_bare:
+            for line, other in zip(lines, others):
+                for word in set(other.split(' ')[2:]) - set(line.split(' ')) if ':' in other else ():
+                    process = word.partition(':')[0]
+                    if not has_line(errors, 'member ' + process, word) and not has_line(errors, configuration_of(line), 'of process ' + process):
+                        yield '%s: member %s in place of %s, and that is not told' % (names[who], word, line)
+
+
 class Lives:
     """The lives that members can have, by the logs and by what the call says."""
 
