@@ -119,8 +119,7 @@ class Case:
         self.number = number
         draw = random.Random('%s run %d' % (seed, number // FOLDERS_OF_A_RUN))
         good = good_run(draw)
-        self.is_good = draw.randrange(3) == 0
-        self.run = good if self.is_good else broken_run(draw, good)
+        self.run = broken_run(draw, good) if draw.randrange(3) else good
         draw = random.Random('%s folder %d' % (seed, number))
         self.folder = Recording(draw, self.run).folder()
         self.folder.block = draw.choice(BLOCKS)
@@ -143,7 +142,7 @@ class Case:
         wrongs = list(self._of_status(made))
         if made.status == 0 and not wrongs:
             try:
-                wrongs = [*self._of_run(made, auditor), *self._of_verdicts(made, verdicts)]
+                wrongs = [*self._of_run(made, auditor), *self._of_verdict(verdicts['what was written'])]
             except Unfit as unfit:
                 wrongs = ['the list of changes does not fit: %s' % unfit]
         return Judged(made, verdicts, wrongs)
@@ -179,6 +178,8 @@ class Case:
         if '--cut' in self.words:
             yield from told.parts_again(applied, made.runs, errors)
             yield from self._of_cut(made, auditor.verdict(whole), auditor.of_parts(made.runs))
+        if '--renumber' not in self.words:
+            yield from told.differences(told.logs_of(self.recorded()), told.logs_of(whole), applied.files, errors)
         if not self.words and whole != self.recorded(not whole.startswith(b'totem-run 1\n')):
             yield 'a plain join writes another run than the folder has'
 
@@ -194,12 +195,9 @@ class Case:
             yield 'the whole run is %s, its parts are %s' % (whole, parts)
 
     @staticmethod
-    def _of_verdicts(made, verdicts):
-        came = verdicts['what was written']
-        if came[0] == 'refused' and not any(word in came[1] for word in MAY_BE_REFUSED):
+    def _of_verdict(verdict):
+        if verdict[0] == 'refused' and not all(any(word in why for word in MAY_BE_REFUSED) for why in verdict[1:]):
             yield 'the auditor refuses the run'
-        if came != verdicts['its folder'] and not made.errors:
-            yield 'another verdict than on the folder, and nothing is said'
 
 
 class Judged(NamedTuple):

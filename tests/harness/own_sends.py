@@ -98,8 +98,13 @@ class OwnSends:
 
     @staticmethod
     def _own(old, message):
-        """The place of the sender's own delivery of a message, or -1."""
-        return next((at for at, other in enumerate(old.others) if other.startswith('dlv ') and message_of(other) == message), -1)
+        """The place of the sender's own delivery of a message, before any failure; or -1."""
+        for at, other in enumerate(old.others):
+            if other.startswith('dlv ') and message_of(other) == message:
+                return at
+            if other.startswith('fail '):
+                break
+        return -1
 
     def _has_place(self, old, message, place, line):
         """Whether a send stands in the regular configuration that it names, before a failure, and its own delivery comes later: in a regular

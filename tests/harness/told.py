@@ -79,6 +79,35 @@ def untold(applied, errors):
             yield 'not told on standard error: %s' % found[0]
 
 
+def logs_of(run):
+    """The logs of a run's text: by process and life, the lines, with the one that closes the log."""
+    logs = {}
+    for line in run.decode().splitlines()[1:-1]:
+        if line.startswith('log '):
+            process, _, life = line[4:].partition(':')
+            lines = logs.setdefault((int(process), int(life or 1)), [])
+        else:
+            lines.append(line)
+    return logs
+
+
+def differences(recorded, written, files, errors):
+    """Logs that were written otherwise than they were recorded, and members with other lives, of which standard error says nothing. (This
+    looks at the two runs only, and not at the list of changes.)"""
+    names = {(file.process, file.life or 1): file.name for file in files.values()}
+    for who, lines in recorded.items():
+        others = written.get(who, [])
+        bare, other_bare = ([re.sub(r':\d+', '', line) for line in some] for some in (lines, others))
+        if bare != other_bare and not any(re.match(r'logs: %s[:, ]' % re.escape(names[who]), line) for line in errors):
+            yield '%s is written otherwise than it was recorded, and that is not told' % names[who]
+        if bare == other_bare:
+            for line, other in zip(lines, others):
+                for word in set(other.split(' ')[2:]) - set(line.split(' ')) if ':' in other else ():
+                    process = word.partition(':')[0]
+                    if not has_line(errors, 'member ' + process, word) and not has_line(errors, configuration_of(line), 'of process ' + process):
+                        yield '%s: member %s in place of %s, and that is not told' % (names[who], word, line)
+
+
 class Lives:
     """The lives that members can have, by the logs and by what the call says."""
 
@@ -139,24 +168,33 @@ class Lives:
         return {life for life, (first, last) in runs.items() if first <= end and begin <= last}
 
     def inferred(self):
-        """The life of each member that no log shows and that can be only one, in one of the ways that the tool may take."""
+        """The lives of each member: those whose logs change there, or else the only one that one of these ways leaves, in this order: what is
+        said, neighbours, possible lives, the clock."""
         known = {key: set(lives) for key, lives in self.came.items()}
         known.update({key: {life} for key, life in self.said.items() if key not in known})
-        unknown = [key for key in sorted(self.members) if key not in known]
-        for key in unknown:
-            ways = (self._possible(key[1]), self._by_clock(*key))
-            if any(len(lives) == 1 for lives in ways):
-                known[key] = set.union(*(lives for lives in ways if len(lives) == 1))
-        learned = True
-        while learned:
-            learned = False
-            for key in unknown:
-                near = [known[name, key[1]] for name in self.beside.get(key[0], ()) if (name, key[1]) in known]
-                lives = set.union(set(), *near)
-                if not lives <= known.get(key, set()) and (len(lives) == 1 or key in known):
-                    known[key] = known.get(key, set()) | lives
-                    learned = True
+        self._learn_from_neighbours(known)
+        for lives_of in (lambda key: self._possible(key[1]), lambda key: self._by_clock(*key)):
+            for key in self.members - set(known):
+                lives = lives_of(key)
+                if len(lives) == 1:
+                    known[key] = lives
         return known
+
+    def _learn_from_neighbours(self, known):
+        """Takes the lives of neighbouring configurations: all unknown ones that are joined get the life that is known around them, if it is
+        one."""
+        left = self.members - set(known)
+        while left:
+            row, todo, lives = set(), [left.pop()], set()
+            while todo:
+                key = todo.pop()
+                row.add(key)
+                near = {(name, key[1]) for name in self.beside.get(key[0], ())}
+                lives = lives.union(*(known[other] for other in near & set(known)))
+                todo += near & left
+                left -= near
+            if len(lives) == 1:
+                known.update({key: lives for key in row})
 
     def wrongs(self):
         """Members with a life that was not said and is not the only possible one."""
