@@ -93,8 +93,8 @@ class Lives:
             for name in names:
                 first = self.came[name][log.process]
                 if first != log.life:
-                    twice.append('%s: lives %d and %d of process %d change to it: a ring came again' % (
-                        name.decode(), first, log.life, log.process))
+                    twice.append('%s: lives %d and %d of process %d change to it: a ring came again; in other logs it is life %d' % (
+                        name.decode(), first, log.life, log.process, first))
         tell_each(twice)
         members = {life for lives in self.known.values() for life in lives.items()}
         for process, lost in self._lost():

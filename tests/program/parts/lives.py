@@ -82,7 +82,7 @@ LIVES = {
         'totem-run 2\nlog 1:1\nconf r4.1 1:1\nfail r4.1\nfailed\nlog 1:2\nconf r4.1 1:2\nopen\nend\n',
         'logs: 1.1.log: member 1 is 1:1 where this log changes to the configuration: 1 (r4.1)\n'
         'logs: 1.2.log: member 1 is 1:2 where this log changes to the configuration: 1 (r4.1)\n'
-        'logs: r4.1: lives 1 and 2 of process 1 change to it: a ring came again\n'),
+        'logs: r4.1: lives 1 and 2 of process 1 change to it: a ring came again; in other logs it is life 1\n'),
 }
 TWO_LIVES = {'1.log': 'conf r3.1 1\nconf t4.1/1 1\nconf r4.1 1 2\n', '2.1.log': 'conf r5.2 2\n', '2.2.log': 'conf r6.2 2\n'}
 # The log of 2:1 is lost: r4.1 has it as a member, and 2:2 came to r12.1.

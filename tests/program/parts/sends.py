@@ -28,7 +28,8 @@ SENDS = {
     'a message that is delivered only after a failure': (
         '--own-sends', {'1.log': 'conf r4.1 1\nsend r4.1 a 4.1#1\nconf t8.1/1 1\nfail t8.1/1\ndlv t8.1/1 4.1#1\n'},
         'totem-run 1\nlog 1\nconf r4.1 1\nsend r4.1 a 4.1#1\nconf t8.1/1 1\nfail t8.1/1\ndlv t8.1/1 4.1#1\nopen\nend\n',
-        'logs: 1.log: sends that stay where they are, since the messages were delivered where none can have been sent before: 1 (4.1#1)\n'),
+        'logs: 1.log: sends that stay where they are, since the messages were delivered after a failure, or where none can have '
+        'been sent before: 1 (4.1#1)\n'),
     'a send that names another configuration stays': (
         '--own-sends', {'1.log': 'conf r4.1 1\nsend r8.1 a 4.1#1\ndlv r4.1 4.1#1\n'},
         'totem-run 1\nlog 1\nconf r4.1 1\nsend r8.1 a 4.1#1\ndlv r4.1 4.1#1\nopen\nend\n',
