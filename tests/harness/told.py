@@ -91,6 +91,12 @@ def logs_of(run):
     return logs
 
 
+def gets_life_1(errors, process):
+    """Whether a line says that a process gets life 1 in all configurations."""
+    found = [re.match(r'logs: life 1 is added to the members ([0-9, ]+):', line) for line in errors]
+    return any(process in it[1].split(', ') for it in found if it)
+
+
 def differences(recorded, written, files, errors):
     """Logs that were written otherwise than they were recorded, and members with other lives, of which standard error says nothing. (This
     looks at the two runs only, and not at the list of changes.)"""
@@ -104,7 +110,8 @@ def differences(recorded, written, files, errors):
             for line, other in zip(lines, others):
                 for word in set(other.split(' ')[2:]) - set(line.split(' ')) if ':' in other else ():
                     process = word.partition(':')[0]
-                    if not has_line(errors, 'member ' + process, word) and not has_line(errors, configuration_of(line), 'of process ' + process):
+                    if not has_line(errors, 'member ' + process, word) and not gets_life_1(errors, process) \
+                            and not has_line(errors, configuration_of(line), 'of process ' + process):
                         yield '%s: member %s in place of %s, and that is not told' % (names[who], word, line)
 
 

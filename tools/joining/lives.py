@@ -45,6 +45,8 @@ class Lives:
         self.clock = Clock(asked.clock) if asked.clock else None
         self.possible = self._possible_lives(endings.read_list(asked.absent, may_be_ranges=True) if asked.absent else [])
         self.unknown = {}
+        # Unknown members whose neighbours say a life that did not run then by the clock file.
+        self.disputed = set()
         for log in logs:
             for change in log.changes:
                 for process, _ in change.members:
@@ -155,7 +157,10 @@ class Lives:
             if len(lives) == 1:
                 [(life, other)] = lives.items()
                 how = 'so it is in %s, before or after it' % other.decode()
-                lines += [self._learn(*key, life, how) for key in row if all(self._can_have_run(life, *each) for each in row)]
+                if all(self._can_have_run(life, *key) for key in row):
+                    lines += [self._learn(*key, life, how) for key in row]
+                else:
+                    self.disputed.update(row)
         tell_each(lines)
 
     def _row(self, first, beside):
@@ -182,7 +187,7 @@ class Lives:
                 self.clock.check_change(configuration, life)
         self._tell_contradictions()
         lines = []
-        for configuration, process in list(self.unknown):
+        for configuration, process in [key for key in self.unknown if key not in self.disputed]:
             lives = self._have_run(process, self.possible.get(process, ()), configuration)
             if len(lives) == 1:
                 lines.append(self._learn(configuration, process, lives[0], 'by the clock'))

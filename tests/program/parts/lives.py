@@ -120,7 +120,8 @@ UNKNOWN = {
     'a life that is a member of the next configuration, and did not run then, by the clock': (
         '--lives --clock FOLDER/times',
         {'1.log': 'conf r4.1 1 2\nconf t8.1/1 1 2\nconf r8.1 1 2\n', '2.2.log': 'conf r8.1 1 2\n', 'times': '5 start 2:2\n1 conf r4.1\n'},
-        'logs: 1.log, line 2: which life of 2 is a member of t8.1/1? No log of it changes there: 2:1 or 2:2\n'),
+        'logs: 1.log, line 1: which life of 2 is a member of r4.1? No log of it changes there: 2:1 or 2:2\n'
+        '  1.log, line 2: which life of 2 is a member of t8.1/1? No log of it changes there: 2:1 or 2:2\n'),
     'two lives in the configuration before': (
         '--lives', {'1.log': 'conf r4.1 1 2\nconf t8.1/1 1 2\n', '2.1.log': 'conf r4.1 1 2\n', '2.2.log': 'conf r4.1 1 2\n'},
         'logs: 1.log, line 2: which life of 2 is a member of t8.1/1? No log of it changes there: 2:1 or 2:2\n'),
