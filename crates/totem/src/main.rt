@@ -1,7 +1,7 @@
 //! The command `totem`: calls the program with its arguments and the standard streams.
 //!
 //! It claims nothing of its own: what it reads, writes and returns is by the contract of `totem_cluster::program_with_progress`
-//! (`Ends`, specs/Endings). The one thing that it adds is a line of progress on a terminal, for runs in threads.
+//! (`Ends`, specs/Endings). What it adds is for runs in threads: a line of progress on a terminal, and a line that says what came of a run.
 #![tactic(auto)]
 
 mod progress_line;
@@ -31,8 +31,8 @@ fn main(rt: HostRuntime) -> ExitCode {
         return out_of_memory(&mut errors);
     };
     let mut output = ToWrite::new(rt.stdout());
-    let terminal = rt.stderr().is_terminal().then(|| ToWrite::new(rt.stderr()));
-    let mut progress = ProgressLine::new(&rt, alloc, terminal);
+    let is_terminal = rt.stderr().is_terminal();
+    let mut progress = ProgressLine::new(&rt, alloc, ToWrite::new(rt.stderr()), is_terminal);
     let status = program_with_progress(
         &rt,
         alloc,

@@ -1,7 +1,7 @@
-//! The progress line of a run on a terminal.
+//! What a run reports on standard error.
 use std::alloc::{AllocError, Global};
 use std::time::{Clock, Duration};
-use totem_cluster::{Logged, Progress};
+use totem_cluster::{Logged, Progress, Tally, Traffic};
 use totem_names::Sink;
 
 /// The least time in milliseconds for which a line is shown.
@@ -10,16 +10,19 @@ const STANDS: u64 = 100;
 /// Bytes at which a terminal goes to the beginning of the line and erases it.
 const WIPE: &str = "\r\x1b[K";
 
-/// Shows the progress of a run in one line, which is updated at most ten times a second and erased at the end. Without
-/// memory for the line, or without a clock, it shows none.
+/// Shows on a terminal the progress of a run in one line, which is updated at most ten times a second and erased at the end; and writes
+/// in the end, on a terminal or not, a line that says what came of the run. Without memory for a line it is left out, and without a clock
+/// no progress is shown.
 #[derive(Drop)]
 pub struct ProgressLine<'a, C, S> {
     clock: &'a C,
     alloc: Global,
-    terminal: Option<S>,
+    errors: S,
+    is_terminal: bool,
     /// When the line was last written, or when the first tick was.
     since: Option<Duration>,
     is_shown: bool,
+    traffic: Option<Traffic>,
 }
 
 fn line_of(alloc: Global, passed: u32, ticks: u32, logged: Logged) -> Result<String, AllocError> {
@@ -32,15 +35,41 @@ fn line_of(alloc: Global, passed: u32, ticks: u32, logged: Logged) -> Result<Str
     )
 }
 
+/// Returns the line that says what came of a run.
+fn summary_of(alloc: Global, made: Tally, traffic: Traffic) -> Result<String, AllocError> {
+    let Tally {
+        sent,
+        delivered_by_all,
+        rings,
+    } = made;
+    let Traffic {
+        sent: packets,
+        lost,
+        repeated,
+        ..
+    } = traffic;
+    let rest = traffic.on_their_way();
+    format!(in alloc;
+        "totem: messages: {sent} sent, {delivered_by_all} delivered by every node; rings formed: {rings}; packets: {packets} sent, {lost} lost and {repeated} duplicated by the plan, {rest} on their way at the end\n"
+    )
+}
+
 impl<'a, C: Clock, S: Sink> ProgressLine<'a, C, S> {
-    /// Returns a progress line on this terminal, if there is one.
-    pub fn new(clock: &'a C, alloc: Global, terminal: Option<S>) -> ProgressLine<'a, C, S> {
+    /// Returns a progress line on standard error, which may be a terminal.
+    pub fn new(
+        clock: &'a C,
+        alloc: Global,
+        errors: S,
+        is_terminal: bool,
+    ) -> ProgressLine<'a, C, S> {
         ProgressLine {
             clock,
             alloc,
-            terminal,
+            errors,
+            is_terminal,
             since: None,
             is_shown: false,
+            traffic: None,
         }
     }
 
@@ -61,15 +90,13 @@ impl<'a, C: Clock, S: Sink> ProgressLine<'a, C, S> {
     }
 
     fn put(&mut self, text: &str) {
-        if let Some(terminal) = &mut self.terminal {
-            let _ = terminal.put(text.as_bytes());
-        }
+        let _ = self.errors.put(text.as_bytes());
     }
 }
 
 impl<'a, C: Clock, S: Sink> Progress for ProgressLine<'a, C, S> {
     fn ticked(&mut self, passed: u32, ticks: u32, logged: Logged) {
-        if self.terminal.is_none() || !self.is_due() {
+        if !self.is_terminal || !self.is_due() {
             return;
         }
         if let Ok(line) = line_of(self.alloc, passed, ticks, logged) {
@@ -78,10 +105,20 @@ impl<'a, C: Clock, S: Sink> Progress for ProgressLine<'a, C, S> {
         }
     }
 
-    fn ended(&mut self) {
+    fn carried(&mut self, traffic: Traffic) {
+        self.traffic = Some(traffic);
+    }
+
+    fn ended(&mut self, made: Option<Tally>) {
         if self.is_shown {
             self.put(WIPE);
             self.is_shown = false;
+        }
+        let (Some(made), Some(traffic)) = (made, self.traffic) else {
+            return;
+        };
+        if let Ok(line) = summary_of(self.alloc, made, traffic) {
+            self.put(line.as_str());
         }
     }
 }

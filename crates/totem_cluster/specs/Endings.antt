@@ -1,4 +1,4 @@
--- How the program ends: its status, and what it prints (docs/SPECIFICATIONS.md, "The program").
+-- How the program ends: its status, and what it prints (docs/PROGRAM.md).
 use Rattle.std.specs.Prelude.{◌≡◌, ℕ, List, ◌++◌, codes, Ok, Err}
 use Rattle.clap.specs.declared.error.kind.ErrorKind.{ErrorKind}
 use Rattle.totem_names.specs.Sources.{Seen}

@@ -1,5 +1,5 @@
 //! The program over any three streams: gives the verdicts of totem_verdicts, and makes runs from scripts or with nodes in threads
-//! (docs/SPECIFICATIONS.md, "The program").
+//! (docs/PROGRAM.md).
 //!
 //! What may be relied on:
 //! - `audit_io` and `check_io` are those of totem_verdicts, with their faults among this crate's (`Gives`,
@@ -21,6 +21,7 @@ mod recording;
 mod script_words;
 mod shell;
 mod simulating;
+mod tally;
 mod telling;
 mod weaving;
 
@@ -31,7 +32,7 @@ pub use shell::{program, program_with_progress};
 pub use simulating::{Unmade, follow_io, sim_io};
 pub use telling::tell_fault;
 pub use totem_audit::Workers;
-pub use totem_net::{Logged, Progress};
+pub use totem_net::{Logged, Progress, Tally, Traffic};
 pub use totem_threads::{BookTrouble, RunPlan};
 pub use totem_verdicts::Outcome;
 pub use totem_weave::{RingMove, WeaveFault, Woven, weave};

@@ -8,6 +8,7 @@ ghost use Rattle.totem_threads.specs.Books.{IsRunOf};
 ghost use Rattle.totem_cluster.specs.RunIo.{Records, IsOfThreads};
 
 use crate::io_fault::IoFault;
+use crate::tally::tally_of;
 use std::alloc::Global;
 use std::sync::Wait;
 use std::thread::Threads;
@@ -37,7 +38,7 @@ pub fn run_threads<S: Start, R: Threads + Wait + Sync>(
     run_watched(rt, alloc, plan, start, &mut Unwatched)
 }
 
-/// Does the same as `run_threads`, and reports the progress at each tick.
+/// Does the same as `run_threads`, and reports the progress at each tick, and in the end what came of the run.
 pub(crate) fn run_watched<S: Start, R: Threads + Wait + Sync, P: Progress>(
     rt: &R,
     alloc: Global,
@@ -51,10 +52,19 @@ pub(crate) fn run_watched<S: Start, R: Threads + Wait + Sync, P: Progress>(
     ensures lives { IfOk result (λ made. All HasFirstLives made.0.logs) }
     ensures faults { IfErr result IsOfThreads }
 {
-    Ok(run_nodes(rt, alloc, plan, start, progress)?)
+    match run_nodes(rt, alloc, plan, start, progress) {
+        Ok(made) => {
+            progress.ended(tally_of(alloc, &made.0).ok());
+            Ok(made)
+        }
+        Err(fault) => {
+            progress.ended(None);
+            Err(IoFault::from(fault))
+        }
+    }
 }
 
-/// Runs nodes in threads, and writes the run that they record. Reports the progress at each tick, and the end of the run before it is
+/// Runs nodes in threads, and writes the run that they record. Reports the progress at each tick, and what came of the run before it is
 /// written.
 pub fn run_io<R: Threads + Wait + Sync, W: Sink, P: Progress>(
     rt: &R,
@@ -66,12 +76,7 @@ pub fn run_io<R: Threads + Wait + Sync, W: Sink, P: Progress>(
     requires { IsInRange plan }
     ensures { Records plan.nodes (held W.contents W.failures [] output.old) (held W.contents W.failures [] output.new) result }
 {
-    let ended = run_watched(rt, alloc, plan, &Quiet, progress);
-    progress.ended();
-    let (run, _) = match ended {
-        Ok(made) => made,
-        Err(fault) => return Err(fault),
-    };
+    let (run, _) = run_watched(rt, alloc, plan, &Quiet, progress)?;
     write_run(alloc, &run, output)?;
     Ok(Outcome::Made)
 }

@@ -1,4 +1,4 @@
-//! The program (docs/SPECIFICATIONS.md, "The program").
+//! The program (docs/PROGRAM.md).
 ghost use Rattle.std.specs.Prelude.{◌≡◌, []};
 ghost use Rattle.totem_names.specs.Sources.{seen};
 ghost use Rattle.totem_names.specs.Writing.{held};

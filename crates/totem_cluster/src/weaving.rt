@@ -190,7 +190,7 @@ fn write_weave<S: Sink>(alloc: Global, books: &[ClosedBook], sink: &mut S) -> Re
 }
 
 /// Runs nodes in threads, weaves ring 4.1 of their books, and writes the woven ring or the call that fits no schedule
-/// (docs/PROTOCOL.md, "The woven ring"). Reports the progress, and when the run has ended.
+/// (docs/PROTOCOL.md, "The woven ring"). Reports the progress, and what came of the run.
 pub fn weave_io<R: Threads + Wait + Sync, W: Sink, P: Progress>(
     rt: &R,
     alloc: Global,
@@ -201,11 +201,6 @@ pub fn weave_io<R: Threads + Wait + Sync, W: Sink, P: Progress>(
     requires { IsInRange plan }
     ensures { WeavesRun plan.nodes (held W.contents W.failures [] output.old) (held W.contents W.failures [] output.new) result }
 {
-    let ended = run_watched(rt, alloc, plan, &Quiet, progress);
-    progress.ended();
-    let (_, books) = match ended {
-        Ok(made) => made,
-        Err(fault) => return Err(fault),
-    };
+    let (_, books) = run_watched(rt, alloc, plan, &Quiet, progress)?;
     write_weave(alloc, &books, output)
 }

@@ -4,7 +4,7 @@ use std::alloc::Global;
 use std::sync::Wait;
 use std::test::Fail;
 use std::thread::Threads;
-use totem_cluster::{Logged, Progress, program_with_progress};
+use totem_cluster::{Logged, Progress, Tally, Traffic, program_with_progress};
 use totem_names::{Buffered, ToWrite};
 
 /// Counts the reports, and keeps the last one.
@@ -16,6 +16,8 @@ struct Told {
     ticks: u32,
     deliveries: u64,
     configurations: u64,
+    traffic: Option<Traffic>,
+    made: Option<Tally>,
 }
 
 impl Progress for Told {
@@ -27,8 +29,13 @@ impl Progress for Told {
         self.configurations = logged.configurations;
     }
 
-    fn ended(&mut self) {
+    fn carried(&mut self, traffic: Traffic) {
+        self.traffic = Some(traffic);
+    }
+
+    fn ended(&mut self, made: Option<Tally>) {
         self.ends = self.ends.saturating_add(1);
+        self.made = made;
     }
 }
 
@@ -49,6 +56,8 @@ fn run_told<T: Threads + Wait + Sync>(
         ticks: 0,
         deliveries: 0,
         configurations: 0,
+        traffic: None,
+        made: None,
     };
     program_with_progress(
         rt,
@@ -76,11 +85,29 @@ fn each_tick_tells_what_was_logged(rt: HostRuntime) -> Result<(), Fail> {
     Ok(())
 }
 
+/// A run reports in the end what came of it, and what the network did with packets.
+#[test]
+fn the_end_tells_what_came_of_the_run(rt: HostRuntime) -> Result<(), Fail> {
+    let (told, text) = run_told(&rt, rt.alloc(), "run --nodes 2 --ticks 800")?;
+    let sent = text
+        .lines()
+        .filter(|line| line.starts_with("send "))
+        .count() as u64;
+    let made = told.made.ok_or("nothing was counted")?;
+    assert_eq!(rt; (made.sent, made.rings), (sent, 0));
+    assert!(rt; made.delivered_by_all > 0 && made.delivered_by_all <= sent);
+    let traffic = told.traffic.ok_or("no traffic was reported")?;
+    assert_eq!(rt; (traffic.lost, traffic.repeated), (0, 0));
+    assert!(rt; traffic.forwarded > sent && traffic.on_their_way() <= 2);
+    Ok(())
+}
+
 /// With `--quiet` a run reports no progress.
 #[test]
 fn a_quiet_run_tells_nothing(rt: HostRuntime) -> Result<(), Fail> {
     let (told, text) = run_told(&rt, rt.alloc(), "run --nodes 2 --ticks 80 --quiet")?;
     assert_eq!(rt; (told.calls, told.ends), (0, 0));
+    assert!(rt; told.traffic.is_none() && told.made.is_none());
     assert!(rt; text.starts_with("totem-run 1\n"));
     Ok(())
 }

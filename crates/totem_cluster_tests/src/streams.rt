@@ -12,6 +12,7 @@ use totem_cluster::{
 use totem_evs::RunFault;
 use totem_names::{FromRead, Fused, ToWrite};
 use totem_script::ScriptFault;
+use totem_verdicts::VerdictFault;
 
 const GOOD: &str =
     "totem-run 1;log 1;conf r4.1 1 2;send r4.1 a 4.1#1;dlv r4.1 4.1#1;open;log 2;conf r4.1 1 2;dlv r4.1 4.1#1;open;end;";
@@ -189,7 +190,7 @@ fn push_script_fault(alloc: Global, text: &mut String, script: &[u8]) -> Result<
     Ok(())
 }
 
-/// The faults of calls from stream to stream have their numbers and names.
+/// The faults of calls from stream to stream have their numbers and names, and so have their copies.
 #[test]
 fn faults_have_numbers_and_names(rt: HostRuntime) -> Result<(), Fail> {
     let alloc = rt.alloc();
@@ -201,11 +202,29 @@ fn faults_have_numbers_and_names(rt: HostRuntime) -> Result<(), Fail> {
         IoFault::Memory,
         IoFault::Write,
     ] {
-        write!(text, "{} {}; ", fault.number(), fault.name())?;
+        let copy = fault.try_clone(alloc)?;
+        write!(text, "{} {}; ", copy.number(), copy.name())?;
     }
     assert_eq!(rt;
         text.as_str(),
         "4 Script; 4 Script; 1 Run; 6 Memory; 7 Write; "
     );
+    Ok(())
+}
+
+/// The faults of a verdict have the numbers and names that they have among all faults, and so have their copies.
+#[test]
+fn faults_of_verdicts_have_numbers_and_names(rt: HostRuntime) -> Result<(), Fail> {
+    let alloc = rt.alloc();
+    let mut text = String::new(alloc);
+    for fault in &[
+        VerdictFault::Run(RunFault::Truncated),
+        VerdictFault::Memory,
+        VerdictFault::Write,
+    ] {
+        let copy = fault.try_clone(alloc)?;
+        write!(text, "{} {}; ", copy.number(), copy.name())?;
+    }
+    assert_eq!(rt; text.as_str(), "1 Run; 6 Memory; 7 Write; ");
     Ok(())
 }

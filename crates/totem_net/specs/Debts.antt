@@ -1,4 +1,4 @@
--- The channel messages that a node was given and still has to handle (docs/PROTOCOL.md, "The network").
+-- The channel messages that nodes were given and still have to handle (docs/PROTOCOL.md, "The network").
 use Rattle.std.specs.Prelude.{ℕ, Bool, ◌+◌, ◌-◌, ◌^◌, min, if◌then◌else◌}
 use Rattle.totem_net.specs.declared.debt.Debt.{Debt}
 
@@ -10,15 +10,15 @@ no_words = record { words = 0; of_turn = 0 }
 abbrev pub more : ℕ → ℕ → ℕ
 more count added = min (count + added) (2 ^ 64 - 1)
 
--- the node is given a packet
+-- a node is given a packet
 abbrev pub with_packet : Debt → Debt
 with_packet debt = record debt { words = more debt.words 1 }
 
--- the node is given the two channel messages of a turn
+-- a node is given the two channel messages of a turn
 abbrev pub with_turn : Debt → Debt
 with_turn debt = record { words = more debt.words 2; of_turn = more debt.of_turn 2 }
 
--- the node has handled one channel message, which may be of a turn
+-- a node has handled one channel message, which may be of a turn
 abbrev pub one_less : Debt → Bool → Debt
 one_less debt of_turn = record {
   words = debt.words - 1;

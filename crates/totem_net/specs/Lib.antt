@@ -9,4 +9,5 @@ pub mod Ways
 pub mod Settling
 pub mod Turns
 pub mod Debts
+pub mod Drawn
 pub mod Logged

@@ -1,18 +1,18 @@
-//! The channel messages that a node still has to handle.
-ghost use Rattle.std.specs.Prelude.{◌≡◌};
+//! The channel messages that nodes still have to handle.
+ghost use Rattle.std.specs.Prelude.{◌≡◌, ◌-◌};
 ghost use Rattle.totem_net.specs.Debts.{no_words, with_packet, with_turn, one_less};
 
-/// The channel messages that a node was given and still has to handle.
+/// The channel messages that nodes were given and still have to handle.
 #[derive(Clone, Copy, PartialEq, Eq)]
 pub struct Debt {
     /// How many there are.
     pub words: u64,
-    /// How many of them are for its turns.
+    /// How many of them are for turns.
     pub of_turn: u64,
 }
 
 impl Debt {
-    /// Returns the debt of a node that was given nothing.
+    /// Returns the debt before any node was given anything.
     pub fn new() -> Debt
         ensures { result ≡ no_words }
     {
@@ -22,7 +22,7 @@ impl Debt {
         }
     }
 
-    /// Returns the debt of a node that is given one more packet.
+    /// Returns the debt after a node was given one more packet.
     pub fn with_packet(self) -> Debt
         ensures { result ≡ with_packet self }
     {
@@ -32,7 +32,7 @@ impl Debt {
         }
     }
 
-    /// Returns the debt of a node that is given the two channel messages of its turn.
+    /// Returns the debt after a node was given the two channel messages of its turn.
     pub fn with_turn(self) -> Debt
         ensures { result ≡ with_turn self }
     {
@@ -42,7 +42,7 @@ impl Debt {
         }
     }
 
-    /// Returns the debt of a node that has handled one channel message, of its turn or with a packet.
+    /// Returns the debt after a node has handled one channel message, of its turn or with a packet.
     pub fn less_one(self, of_turn: bool) -> Debt
         ensures { result ≡ one_less self of_turn }
     {
@@ -50,5 +50,12 @@ impl Debt {
             words: self.words.saturating_sub(1),
             of_turn: self.of_turn.saturating_sub(u64::from(of_turn)),
         }
+    }
+
+    /// Returns how many of the channel messages are packets.
+    pub fn packets(self) -> u64
+        ensures { result ≡ self.words - self.of_turn }
+    {
+        self.words.saturating_sub(self.of_turn)
     }
 }

@@ -58,7 +58,6 @@ impl Outlet {
     /// send the packets that resulted.
     pub fn tell_done<R: Wait>(&self, rt: &R, logged: Logged) -> Result<(), AllocError> {
         let done = Inbound::Done {
-            node: self.node,
             of_turn: self.of_turn,
             logged,
         };

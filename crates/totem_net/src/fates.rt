@@ -5,6 +5,7 @@ ghost use Rattle.totem_net.specs.Fates.{fate_of};
 ghost use Rattle.totem_net.specs.Words.{begun_with, word_at};
 
 use crate::copies::Fate;
+use crate::drawn::Drawn;
 use crate::formula::fate;
 use crate::plan::Plan;
 use rand_core::SeedableRng;
@@ -13,11 +14,13 @@ use rand_pcg::Pcg32;
 use std::alloc::AllocError;
 use std::marker::Model;
 
-/// The fates given by the words of a random generator, one after another.
+/// The fates given by the words of a random generator, one after another. Contracts see the fates to come, and not the counts of those
+/// that were drawn.
 #[derive(Debug, Drop)]
 pub struct Fates {
     words: Pcg32,
     plan: Plan,
+    drawn: Drawn,
 }
 
 impl Model for Fates {
@@ -37,16 +40,18 @@ impl Fates {
         Fates {
             words: Pcg32::seed_from_u64(seed),
             plan,
+            drawn: Drawn::nothing(),
         }
     }
 
-    /// Copies the fates. The copy draws the same ones.
+    /// Copies the fates and the counts. The copy draws the same ones.
     pub fn try_clone(&self) -> Result<Fates, AllocError>
         ensures { IfOk result (λ copy. copy ≡ self.now) }
     {
         Ok(Fates {
             words: self.words.clone()?,
             plan: self.plan,
+            drawn: self.drawn,
         })
     }
 
@@ -56,7 +61,14 @@ impl Fates {
         ensures words { self.new.generator ≡ (pcg32 self.old.generator).1 }
         ensures plan { self.new.plan ≡ self.old.plan }
     {
-        fate(self.words.next_word(), self.plan)
+        let fate = fate(self.words.next_word(), self.plan);
+        self.drawn = self.drawn.with(fate);
+        fate
+    }
+
+    /// Returns how many fates were drawn, and what they were.
+    pub fn drawn(&self) -> Drawn {
+        self.drawn
     }
 
     /// Returns the fate that follows `before` others, by drawing them all. The n-th fate is given by the generator's n-th word.

@@ -6,6 +6,7 @@ use crate::ends::NodeEnds;
 use crate::fates::Fates;
 use crate::pacer::Pacer;
 use crate::port::Port;
+use crate::ports::Ports;
 use crate::progress::Logged;
 use crate::switch::Switch;
 use crate::turns::Turns;
@@ -55,7 +56,7 @@ impl Network {
             switch: Switch {
                 inbound,
                 paces,
-                ports,
+                ports: Ports::new(ports),
                 ways: Ways::new(alloc, nodes, fates)?,
                 turns: Turns::new(nodes, ticks),
                 asked: false,

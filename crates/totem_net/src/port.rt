@@ -1,23 +1,24 @@
 //! The switch's side of one node.
 ghost use Rattle.std.specs.Prelude.{◌≡◌, IfOk};
 
-use crate::debt::Debt;
 use crate::ends::{NodeEnds, Outlet, ThreadEnd};
 use crate::sending::give;
 use crate::words::{ClientWord, Inbound, PacketWord, TimerWord};
 use bytes::Bytes;
 use crossbeam_channel::{Sender, unbounded};
 use std::alloc::{AllocError, Global};
+use std::collections::VecDeque;
 use std::sync::Wait;
 use totem_names::{ProcId, Service};
 
-/// The channels to a node's threads, and the channel messages that the node was given and still has to handle.
+/// The channels to a node's threads, and the packets that wait to be forwarded to the node.
 #[derive(Drop)]
 pub struct Port {
     packets: Sender<PacketWord>,
     timer: Sender<TimerWord>,
     client: Sender<ClientWord>,
-    debt: Debt,
+    /// In the order in which they arrived.
+    waiting: VecDeque<Bytes>,
 }
 
 impl Port {
@@ -51,37 +52,39 @@ impl Port {
             packets,
             timer,
             client,
-            debt: Debt::new(),
+            waiting: VecDeque::new(alloc),
         };
         Ok((port, ends))
     }
 
-    /// Forwards a packet to the receiving thread.
-    pub fn hand_on<R: Wait>(&mut self, rt: &R, packet: Bytes) -> Result<(), AllocError> {
-        self.debt = self.debt.with_packet();
-        give(rt, &self.packets, PacketWord::Packet(packet))
+    /// Takes a packet that arrives for the node. It waits until `hand_on` forwards it.
+    pub fn take(&mut self, packet: Bytes) -> Result<(), AllocError> {
+        self.waiting.push_back(packet)?;
+        Ok(())
+    }
+
+    /// Returns how many packets wait.
+    pub fn waiting(&self) -> usize {
+        self.waiting.len()
+    }
+
+    /// Returns whether any packet waits.
+    pub fn has_waiting(&self) -> bool {
+        !self.waiting.is_empty()
+    }
+
+    /// Forwards the packet that has waited longest, if there is one, to the receiving thread.
+    pub fn hand_on<R: Wait>(&mut self, rt: &R) -> Result<(), AllocError> {
+        match self.waiting.pop_front() {
+            Some(packet) => give(rt, &self.packets, PacketWord::Packet(packet)),
+            None => Ok(()),
+        }
     }
 
     /// Gives the node its turn: a channel message for its timer thread, and one for its client thread.
     pub fn take_turn<R: Wait>(&mut self, rt: &R, service: Service) -> Result<(), AllocError> {
-        self.debt = self.debt.with_turn();
         give(rt, &self.timer, TimerWord::Timer)?;
         give(rt, &self.client, ClientWord::Submit(service))
-    }
-
-    /// Returns how many channel messages the node still has to handle.
-    pub fn left(&self) -> u64 {
-        self.debt.words
-    }
-
-    /// Returns whether any of them are for a turn.
-    pub fn has_turn(&self) -> bool {
-        self.debt.of_turn > 0
-    }
-
-    /// Notes that the node has handled one channel message.
-    pub fn done(&mut self, of_turn: bool) {
-        self.debt = self.debt.less_one(of_turn);
     }
 
     /// Sends each thread a stop message. If memory for it is refused, the thread sees its channel end instead.

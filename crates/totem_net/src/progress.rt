@@ -33,13 +33,50 @@ impl Logged {
     }
 }
 
+/// What the network of a run did with packets. A packet counts once for each of its receivers.
+#[derive(Clone, Copy, Debug, PartialEq, Eq)]
+pub struct Traffic {
+    /// How many packets were sent, the first token among them.
+    pub sent: u64,
+    /// How many were lost by their fate.
+    pub lost: u64,
+    /// How many were duplicated by their fate.
+    pub repeated: u64,
+    /// How many copies were forwarded to their receivers.
+    pub forwarded: u64,
+}
+
+impl Traffic {
+    /// Returns how many copies were still on their way: held back, or waiting to be forwarded.
+    pub fn on_their_way(&self) -> u64 {
+        let copies = self.sent.saturating_sub(self.lost);
+        let copies = copies.saturating_add(self.repeated);
+        copies.saturating_sub(self.forwarded)
+    }
+}
+
+/// What came of a run.
+#[derive(Clone, Copy, Debug, PartialEq, Eq)]
+pub struct Tally {
+    /// How many messages the nodes sent.
+    pub sent: u64,
+    /// How many messages every node delivered.
+    pub delivered_by_all: u64,
+    /// How many rings were formed: regular configurations that a node installed after its first.
+    pub rings: u64,
+}
+
 /// Receives reports of the progress of a run, on the thread that runs the switch.
 pub trait Progress {
     /// Called at each tick: how many of the ticks have passed, and what the nodes have logged so far.
     fn ticked(&mut self, passed: u32, ticks: u32, logged: Logged);
 
-    /// Called once, when the run has ended and nothing of it has been written yet.
-    fn ended(&mut self);
+    /// Called once, when the switch has ended: what it did with packets.
+    fn carried(&mut self, traffic: Traffic);
+
+    /// Called once, when the run has ended and nothing of it has been written yet: what came of it, or `None` if there is no run, or too
+    /// little memory to count.
+    fn ended(&mut self, made: Option<Tally>);
 }
 
 /// A `Progress` that does nothing.
@@ -49,5 +86,7 @@ pub struct Unwatched;
 impl Progress for Unwatched {
     fn ticked(&mut self, _passed: u32, _ticks: u32, _logged: Logged) {}
 
-    fn ended(&mut self) {}
+    fn carried(&mut self, _traffic: Traffic) {}
+
+    fn ended(&mut self, _made: Option<Tally>) {}
 }

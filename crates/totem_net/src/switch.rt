@@ -1,10 +1,9 @@
 //! The switch, through which all packets go.
 use crate::address::Address;
 use crate::delivery::Delivery;
-use crate::port::Port;
-use crate::progress::{Logged, Progress};
+use crate::ports::Ports;
+use crate::progress::{Logged, Progress, Traffic};
 use crate::sending::give;
-use crate::turn::Turn;
 use crate::turns::Turns;
 use crate::ways::Ways;
 use crate::words::{Inbound, Pace};
@@ -20,8 +19,7 @@ use totem_names::ProcId;
 pub struct Switch {
     pub(crate) inbound: Receiver<Inbound>,
     pub(crate) paces: Sender<Pace>,
-    /// The ports of the nodes, in ascending order.
-    pub(crate) ports: Vec<Port>,
+    pub(crate) ports: Ports,
     pub(crate) ways: Ways,
     pub(crate) turns: Turns,
     /// Whether the pacing thread waits for an answer.
@@ -34,17 +32,14 @@ pub struct Switch {
     pub(crate) first: Bytes,
 }
 
-/// How many channel messages a node may have to handle. A packet for a node that already has this many is lost.
-const ROOM: u64 = 64;
-
 impl Switch {
     /// Forwards packets and gives turns, until the ticks are used up, a node ends at a fault, or there is no sender any more. Then it
     /// sends each thread a stop message. If memory is refused, it stops the threads at once.
     ///
-    /// Keeps pace with the nodes (docs/PROTOCOL.md, "The network"): a tick passes once they have handled the number of channel messages
-    /// that they had left at the tick before, but at most as many as there are nodes, and all messages of a turn. Each thread of a
-    /// node has to report each channel message that it has handled, and that its node is gone if it ends at a fault. At each
-    /// tick the progress of the run is reported.
+    /// Keeps pace with the nodes (docs/PROTOCOL.md, "The network"): the pacing thread's tick passes once they have handled as many
+    /// channel messages as were outstanding at the tick before, but at most as many as there are nodes, and all messages of a turn.
+    /// Each thread of a node has to report each channel message that it has handled, and that its node is gone if it ends at a fault.
+    /// The progress of the run is reported at each tick, and the traffic at the end.
     pub fn run_in_pace<R: Wait, P: Progress>(
         mut self,
         rt: &R,
@@ -52,9 +47,8 @@ impl Switch {
         progress: &mut P,
     ) -> Result<(), AllocError> {
         let ended = self.serve(rt, alloc, progress);
-        for port in self.ports {
-            port.stop(rt);
-        }
+        progress.carried(self.traffic());
+        self.ports.stop(rt);
         ended
     }
 
@@ -72,9 +66,10 @@ impl Switch {
             let Ok(word) = self.inbound.recv(rt) else {
                 break;
             };
-            if !self.take(rt, alloc, &word)? {
+            if !self.take(alloc, &word)? {
                 break;
             }
+            self.ports.hand_on(rt)?;
             if self.is_due() {
                 self.tick(rt)?;
                 progress.ticked(self.turns.passed(), self.turns.ticks(), self.logged);
@@ -84,15 +79,11 @@ impl Switch {
     }
 
     /// Handles a channel message. Returns whether the run continues.
-    fn take<R: Wait>(&mut self, rt: &R, alloc: Global, word: &Inbound) -> Result<bool, AllocError> {
+    fn take(&mut self, alloc: Global, word: &Inbound) -> Result<bool, AllocError> {
         match word {
-            Inbound::Packet { address, packet } => self.carry(rt, alloc, address, packet)?,
+            Inbound::Packet { address, packet } => self.carry(alloc, address, packet)?,
             Inbound::Tick => self.asked = true,
-            Inbound::Done {
-                node,
-                of_turn,
-                logged,
-            } => self.note_done(*node, *of_turn, *logged),
+            Inbound::Done { of_turn, logged } => self.note_done(*of_turn, *logged),
             Inbound::Gone => return Ok(false),
         }
         Ok(true)
@@ -100,69 +91,42 @@ impl Switch {
 
     /// Forwards the first packet, without a fate.
     fn begin<R: Wait>(&mut self, rt: &R) -> Result<(), AllocError> {
-        let first = self.first.clone()?;
-        match self.ports.first_mut() {
-            Some(port) => port.hand_on(rt, first),
-            None => Ok(()),
-        }
+        let packet = self.first.clone()?;
+        let to = ProcId::of(1);
+        self.ports.take(Delivery { to, packet })?;
+        self.ports.hand_on(rt)
     }
 
-    /// Takes a packet, and forwards what the ways make of it to the receiving threads.
-    fn carry<R: Wait>(
+    /// Takes a packet, and lets what the ways make of it wait for its receivers.
+    fn carry(
         &mut self,
-        rt: &R,
         alloc: Global,
         address: &Address,
         packet: &Bytes,
     ) -> Result<(), AllocError> {
         for delivery in self.ways.carry(alloc, address, packet)? {
-            self.hand_on(rt, delivery)?;
+            self.ports.take(delivery)?;
         }
         Ok(())
     }
 
-    /// Forwards a packet. A packet for a node that has no space for it is lost.
-    fn hand_on<R: Wait>(&mut self, rt: &R, delivery: Delivery) -> Result<(), AllocError> {
-        match self.port(delivery.to) {
-            Some(port) if port.left() < ROOM => port.hand_on(rt, delivery.packet),
-            _ => Ok(()),
-        }
-    }
-
-    fn port(&mut self, node: ProcId) -> Option<&mut Port> {
-        self.ports.get_mut(usize::from(node.number() - 1))
-    }
-
-    /// Returns whether a tick passes now. If the nodes have nothing left to handle, it passes once the pacing thread has sent it.
+    /// Returns whether a tick passes now.
     fn is_due(&self) -> bool {
-        self.awaited == 0 && !self.has_turn() && (self.asked || self.left() > 0)
-    }
-
-    /// Returns whether a node still has to handle channel messages of its turn.
-    fn has_turn(&self) -> bool {
-        self.ports.iter().any(|port| port.has_turn())
+        self.asked && self.awaited == 0 && !self.ports.have_turn()
     }
 
     /// Lets a tick pass: gives a node the turn of this tick, if any, and answers the pacing thread.
     fn tick<R: Wait>(&mut self, rt: &R) -> Result<(), AllocError> {
         if let Some(turn) = self.turns.tick() {
-            self.give_turn(rt, turn)?;
+            self.ports.give_turn(rt, turn)?;
         }
-        self.awaited = self.left().min(self.ports.len() as u64);
+        self.awaited = self.ports.outstanding().min(self.ports.count());
         self.answer(rt)
     }
 
-    /// Returns how many channel messages the nodes still have to handle.
-    fn left(&self) -> u64 {
-        let ports = self.ports.iter();
-        ports.fold(0u64, |left, port| left.saturating_add(port.left()))
-    }
-
     /// Notes that a node has handled a channel message, and what it has logged.
-    fn note_done(&mut self, node: ProcId, of_turn: bool, logged: Logged) {
-        if let Some(port) = self.port(node) {
-            port.done(of_turn);
-        }
+    fn note_done(&mut self, of_turn: bool, logged: Logged) {
+        self.ports.note_done(of_turn);
         self.awaited = self.awaited.saturating_sub(1);
         self.logged = self.logged.and(logged);
     }
@@ -181,10 +145,14 @@ impl Switch {
         give(rt, &self.paces, pace)
     }
 
-    fn give_turn<R: Wait>(&mut self, rt: &R, turn: Turn) -> Result<(), AllocError> {
-        match self.port(turn.node) {
-            Some(port) => port.take_turn(rt, turn.service),
-            None => Ok(()),
+    /// Returns what was done with packets. The first token has no fate.
+    fn traffic(&self) -> Traffic {
+        let drawn = self.ways.drawn();
+        Traffic {
+            sent: drawn.fates.saturating_add(1),
+            lost: drawn.lost,
+            repeated: drawn.repeated,
+            forwarded: self.ports.forwarded(),
         }
     }
 }

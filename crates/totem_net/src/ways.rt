@@ -5,6 +5,7 @@ ghost use Rattle.totem_net.specs.Settling.{changed_at, all_changed, settled};
 
 use crate::address::Address;
 use crate::delivery::Delivery;
+use crate::drawn::Drawn;
 use crate::fates::Fates;
 use crate::wire::Wire;
 use bytes::Bytes;
@@ -83,6 +84,11 @@ impl Ways {
             wires.push(Wire::new(alloc))?;
         }
         Ok(Ways { wires, fates })
+    }
+
+    /// Returns how many fates were drawn, and what they were.
+    pub fn drawn(&self) -> Drawn {
+        self.fates.drawn()
     }
 
     #[tactic(auto, using(crate::proofs::Walking::handed_more, crate::proofs::Walking::changed_more, crate::proofs::Walking::past_more))]

@@ -2,24 +2,17 @@
 use crate::address::Address;
 use crate::progress::Logged;
 use bytes::Bytes;
-use totem_names::{ProcId, Service};
+use totem_names::Service;
 
 /// The channel messages that the switch receives, all through one channel.
 #[derive(Debug, Drop)]
 pub enum Inbound {
     /// An encoded packet that a node sends.
-    Packet {
-        address: Address,
-        packet: Bytes,
-    },
+    Packet { address: Address, packet: Bytes },
     /// A tick of the pacing thread, which the switch answers with a `Pace`.
     Tick,
-    /// This node has handled a channel message, of its turn or with a packet, has sent what resulted, and has logged this at it.
-    Done {
-        node: ProcId,
-        of_turn: bool,
-        logged: Logged,
-    },
+    /// A node has handled a channel message, of its turn or with a packet, has sent what resulted, and has logged this at it.
+    Done { of_turn: bool, logged: Logged },
     /// A thread of a node has ended at a fault, so there will be no run.
     Gone,
 }

@@ -5,7 +5,7 @@ use std::sync::Wait;
 use std::test::Fail;
 use std::thread;
 use std::thread::Threads;
-use totem_names::Service;
+use totem_names::{ProcId, Service};
 use totem_net::{
     ClientWord, Fates, Logged, Network, NodeEnds, Outlet, Pacer, PacketWord, Plan, Switch,
     ThreadEnd, TimerWord, Unwatched,
@@ -90,8 +90,9 @@ fn asked<R: Wait>(
     Ok(())
 }
 
-fn network(alloc: Global, ticks: u32) -> Result<Network, Fail> {
-    let plan = Plan::new(0, 0, 0).ok_or("a plan")?;
+/// Returns a network of three nodes that loses and repeats nothing.
+fn network(alloc: Global, ticks: u32, hold: u8) -> Result<Network, Fail> {
+    let plan = Plan::new(0, 0, hold).ok_or("a plan")?;
     let first = Bytes::from_static(b"1");
     Ok(Network::new(alloc, 3, ticks, Fates::new(1, plan), first)?)
 }
@@ -113,9 +114,19 @@ fn all_send<R: Wait>(
     alloc: Global,
     nodes: Vec<NodeEnds>,
 ) -> Result<Vec<Receiver<PacketWord>>, AllocError> {
+    for ends in &nodes {
+        send_some(rt, alloc, ends)?;
+    }
+    all_send_nothing(alloc, nodes)
+}
+
+/// Keeps the ends by which nodes receive packets, and drops those by which they could send.
+fn all_send_nothing(
+    alloc: Global,
+    nodes: Vec<NodeEnds>,
+) -> Result<Vec<Receiver<PacketWord>>, AllocError> {
     let mut words = Vec::new(alloc);
     for ends in nodes {
-        send_some(rt, alloc, &ends)?;
         let receiving = ends.receiving;
         words.push(receiving.words)?;
     }
@@ -140,7 +151,7 @@ fn all_switched<R: Wait>(rt: &R, alloc: Global) -> Result<Vec<u8>, Fail> {
         switch,
         pacer,
         nodes,
-    } = network(alloc, 8)?;
+    } = network(alloc, 8, 0)?;
     drop(pacer);
     let words = all_send(rt, alloc, nodes);
     switch.run_in_pace(rt, alloc, &mut Unwatched)?;
@@ -152,6 +163,67 @@ fn all_switched<R: Wait>(rt: &R, alloc: Global) -> Result<Vec<u8>, Fail> {
 fn packets_go_through_the_switch(rt: HostRuntime) -> Result<(), Fail> {
     let all = all_switched(&rt, rt.alloc())?;
     assert_eq!(rt; all.as_slice(), b"1\x02\x03.\x01t\x03.\x01\x02.".as_slice());
+    Ok(())
+}
+
+/// Sends these packets of one byte each to a node.
+fn send_each<R: Wait>(
+    rt: &R,
+    alloc: Global,
+    outlet: &Outlet,
+    to: ProcId,
+    packets: &[u8],
+) -> Result<(), AllocError> {
+    for packet in packets {
+        let packet = Bytes::copy_from_slice(alloc, std::slice::from_ref(packet))?;
+        outlet.send_to(rt, to, packet)?;
+    }
+    Ok(())
+}
+
+/// Sends these packets of one byte each from node 1 to node 2.
+fn send_to_second<R: Wait>(
+    rt: &R,
+    alloc: Global,
+    nodes: &[NodeEnds],
+    packets: &[u8],
+) -> Result<(), AllocError> {
+    let (Some(first), Some(second)) = (nodes.first(), ProcId::new(2)) else {
+        return Ok(());
+    };
+    send_each(rt, alloc, &first.receiving.outlet, second, packets)
+}
+
+/// Sends these packets to node 2, and then keeps the ends by which nodes receive packets.
+fn first_sends<R: Wait>(
+    rt: &R,
+    alloc: Global,
+    nodes: Vec<NodeEnds>,
+    packets: &[u8],
+) -> Result<Vec<Receiver<PacketWord>>, AllocError> {
+    send_to_second(rt, alloc, &nodes, packets)?;
+    all_send_nothing(alloc, nodes)
+}
+
+/// Returns the packets that node 2 receives over a network that holds copies back, if node 1 sent it eight before the switch runs.
+fn held_back<R: Wait>(rt: &R, alloc: Global) -> Result<Vec<u8>, Fail> {
+    let Network {
+        switch,
+        pacer,
+        nodes,
+    } = network(alloc, 8, 3)?;
+    drop(pacer);
+    let words = first_sends(rt, alloc, nodes, b"abcdefgh")?;
+    switch.run_in_pace(rt, alloc, &mut Unwatched)?;
+    Ok(all_received(rt, alloc, &words)?)
+}
+
+// From the seed 1 these packets are held for 3, 0, 0, 3, 2, 2, 1 and 1 further packets.
+/// The switch forwards a copy that is held back after as many further packets as its fate says. What is held at the end is lost.
+#[test]
+fn copies_are_held_back_by_the_switch(rt: HostRuntime) -> Result<(), Fail> {
+    let all = held_back(&rt, rt.alloc())?;
+    assert_eq!(rt; all.as_slice(), b"1.bcadefg..".as_slice());
     Ok(())
 }
 
@@ -235,23 +307,26 @@ fn run_all<R: Threads + Wait + Sync>(
     )
 }
 
+/// Runs a network whose node 1 sent these packets to node 2 before the switch runs.
 fn give_all<R: Threads + Wait + Sync>(
     rt: &R,
     alloc: Global,
+    before: &[u8],
     given: &mut [Given],
 ) -> Result<(), Fail> {
     let Network {
         switch,
         pacer,
         nodes,
-    } = network(alloc, 48)?;
+    } = network(alloc, 48, 0)?;
+    send_to_second(rt, alloc, &nodes, before)?;
     Ok(run_all(rt, alloc, switch, pacer, &nodes, given)?)
 }
 
 /// Returns what the client and timer threads of a network get, and the last bytes of what its receiving threads get.
 fn all_given<R: Threads + Wait + Sync>(rt: &R, alloc: Global) -> Result<Vec<u8>, Fail> {
     let mut given = nothing_given(alloc)?;
-    give_all(rt, alloc, &mut given)?;
+    give_all(rt, alloc, b"", &mut given)?;
     let mut all = Vec::new(alloc);
     for one in &given {
         all.extend_from_slice(one.told())?;
@@ -264,5 +339,29 @@ fn all_given<R: Threads + Wait + Sync>(rt: &R, alloc: Global) -> Result<Vec<u8>,
 fn each_thread_has_its_words(rt: HostRuntime) -> Result<(), Fail> {
     let all = all_given(&rt, rt.alloc())?;
     assert_eq!(rt; all.as_slice(), b"as.sa.as.tt.tt.tt....".as_slice());
+    Ok(())
+}
+
+/// Returns which of the packets that were sent to node 2 before the switch ran it received, if there were 65: the bytes from 128 on.
+fn received_of_many<R: Threads + Wait + Sync>(rt: &R, alloc: Global) -> Result<Vec<u8>, Fail> {
+    let mut before = Vec::new(alloc);
+    before.extend(128..=192u8)?;
+    let mut given = nothing_given(alloc)?;
+    give_all(rt, alloc, &before, &mut given)?;
+    let mut all = Vec::new(alloc);
+    if let Some(second) = given.get(7) {
+        for byte in second.all.iter().filter(|byte| **byte >= 128) {
+            all.push(*byte)?;
+        }
+    }
+    Ok(all)
+}
+
+/// No packet is lost because its receiver has many others to handle.
+#[test]
+fn no_packet_is_lost_for_want_of_room(rt: HostRuntime) -> Result<(), Fail> {
+    let all = received_of_many(&rt, rt.alloc())?;
+    assert_eq!(rt; all.len(), 65);
+    assert!(rt; all.is_sorted());
     Ok(())
 }

@@ -4,8 +4,8 @@ use std::fmt::Write;
 use std::test::Fail;
 use totem_names::{ProcId, Service};
 use totem_net::{
-    Address, Delivery, Fate, Fates, Plan, Quiet, Start, Turns, Ways, copies_wait_their_time, fate,
-    no_copy_is_lost,
+    Address, Delivery, Drawn, Fate, Fates, Plan, Quiet, Start, Turns, Ways, copies_wait_their_time,
+    fate, no_copy_is_lost,
 };
 
 fn of_three(fate: Fate) -> (u8, u8, u8) {
@@ -74,10 +74,21 @@ fn all_passed(alloc: Global, ways: &mut Ways, words: &str) -> Result<String, All
     Ok(text)
 }
 
-/// Returns the packets that are forwarded after each packet, on the ways to this many nodes.
-fn carried(alloc: Global, nodes: u16, fates: Fates, words: &str) -> Result<String, AllocError> {
+/// Returns how many fates were drawn, and how many of them let no copy and two copies arrive.
+fn counts(drawn: Drawn) -> (u64, u64, u64) {
+    (drawn.fates, drawn.lost, drawn.repeated)
+}
+
+/// Returns the packets that are forwarded after each packet, on the ways to this many nodes, and the counts of fates.
+fn carried(
+    alloc: Global,
+    nodes: u16,
+    fates: Fates,
+    words: &str,
+) -> Result<(String, (u64, u64, u64)), AllocError> {
     let mut ways = Ways::new(alloc, nodes, fates)?;
-    all_passed(alloc, &mut ways, words)
+    let text = all_passed(alloc, &mut ways, words)?;
+    Ok((text, counts(ways.drawn())))
 }
 
 fn parts_of(plan: Option<Plan>) -> Option<(u8, u8, u8)> {
@@ -118,6 +129,10 @@ fn fates_are_those_of_the_generators_words(rt: HostRuntime) -> Result<(), Fail> 
     assert_eq!(rt; of_three(fates.next()), (2, 0, 1));
     assert_eq!(rt; of_three(copy.next()), (2, 0, 1));
     assert_eq!(rt; of_three(fates.next()), (2, 0, 3));
+    assert_eq!(rt;
+        (counts(fates.drawn()), counts(copy.drawn())),
+        ((3, 0, 2), (2, 0, 1))
+    );
     assert_eq!(rt; of_three(Fates::nth(1, plan, 3)), (1, 3, 3));
     Ok(())
 }
@@ -129,10 +144,10 @@ fn fates_are_those_of_the_generators_words(rt: HostRuntime) -> Result<(), Fail> 
 fn copies_let_further_packets_by(rt: HostRuntime) -> Result<(), Fail> {
     let plan = Plan::new(10, 20, 3).ok_or("a plan")?;
     let words = "a>1 b>1 c>1 d>1 e>1 f>1 g>1 h>1";
-    let text = carried(rt.alloc(), 1, Fates::new(1, plan), words)?;
+    let (text, counts) = carried(rt.alloc(), 1, Fates::new(1, plan), words)?;
     assert_eq!(rt;
-        text.as_str(),
-        "| 1b | 1c 1b | 1a | | 1c | 1d 1e | 1f 1g | "
+        (text.as_str(), counts),
+        ("| 1b | 1c 1b | 1a | | 1c | 1d 1e | 1f 1g | ", (8, 0, 3))
     );
     Ok(())
 }
@@ -144,8 +159,8 @@ fn broadcasts_go_to_all_others(rt: HostRuntime) -> Result<(), Fail> {
     let (own, all) = (Address::One(two), Address::AllBut(two));
     assert_eq!(rt; (own.is_for(two), all.is_for(two)), (true, false));
     let plan = Plan::new(0, 0, 0).ok_or("a plan")?;
-    let text = carried(rt.alloc(), 3, Fates::new(7, plan), "m>-2 t>2")?;
-    assert_eq!(rt; text.as_str(), "1m 3m | 2t | ");
+    let (text, counts) = carried(rt.alloc(), 3, Fates::new(7, plan), "m>-2 t>2")?;
+    assert_eq!(rt; (text.as_str(), counts), ("1m 3m | 2t | ", (3, 0, 0)));
     Ok(())
 }
 

@@ -17,7 +17,6 @@ mod logged;
 mod logs;
 mod node;
 mod plan;
-mod room;
 mod run;
 mod sending;
 mod serving;

@@ -13,7 +13,6 @@ use crate::firsts::first_packet;
 use crate::logs::{all_replayed, run_of};
 use crate::node::run_node;
 use crate::plan::RunPlan;
-use crate::room::ask_for_room;
 use std::alloc::Global;
 use std::sync::Wait;
 use std::thread;
@@ -132,7 +131,6 @@ pub fn run_nodes<S: Start, R: Threads + Wait + Sync, P: Progress>(
     ensures fault { IfErr result EndsRun }
 {
     let fates = Fates::new(plan.seed, plan.plan);
-    ask_for_room(alloc, plan.nodes, plan.ticks)?;
     let first = first_packet(alloc)?;
     let network = Network::new(alloc, plan.nodes, plan.ticks, fates, first)?;
     let books = run_network(rt, alloc, plan.nodes, network, start, progress)?;

@@ -19,7 +19,7 @@ use Rattle.totem_certificate.specs.CertRecord.{CertRecord}
 use Rattle.totem_certificate.specs.Keeping.{IsCertificateOf}
 use Rattle.totem_certificate.specs.CertText.{cert_text}
 use Rattle.totem_certificate.specs.Reading.{ReadsCert, IsRead}
-use Rattle.totem_check.specs.declared.checker.Accepted.{Accepted}
+use Rattle.totem_check.specs.declared.accepted.Accepted.{Accepted}
 use Rattle.totem_check.specs.declared.check_fault.CheckFault.{CheckFault}
 use Rattle.totem_check.specs.declared.check_fault.CheckFault.TheVariants as check_faults
 use Rattle.totem_check.specs.Checks.{Checks, IsAcceptable, ListsOpen, IsFirstFault}

@@ -1,4 +1,4 @@
--- What drawing the run of a stream returns, reads and writes (docs/SPECIFICATIONS.md, "Pictures").
+-- What drawing the run of a stream returns, reads and writes (docs/PROGRAM.md, "Pictures").
 use Rattle.std.specs.Prelude.{List, [], ℕ, Result, Ok, Err}
 use Rattle.totem_names.specs.Sources.{Seen}
 use Rattle.totem_names.specs.Writing.{Held, Wrote}

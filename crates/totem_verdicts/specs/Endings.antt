@@ -1,4 +1,4 @@
--- The endings of the calls that answer a command line: the status, and what is printed (docs/SPECIFICATIONS.md, "The program").
+-- The endings of the calls that answer a command line: the status, and what is printed (docs/PROGRAM.md).
 use Rattle.std.specs.Prelude.{◌≡◌, ◌⊎◌, ℕ, ◌+◌, ◌%◌, ◌^◌, List, [], ◌++◌, codes, decimal, Ok, Err}
 use Rattle.std.specs.declared.option.Option.{Option}
 use Rattle.clap.specs.declared.error.kind.ErrorKind.{ErrorKind}

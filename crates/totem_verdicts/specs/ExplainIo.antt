@@ -1,4 +1,4 @@
--- What explaining the run of a stream returns, reads and writes (docs/SPECIFICATIONS.md, "Explanations").
+-- What explaining the run of a stream returns, reads and writes (docs/PROGRAM.md, "Explanations").
 use Rattle.std.specs.Prelude.{◌≡◌, List, [], ℕ, ◌++◌, Result, Ok, Err, map}
 use Rattle.std.specs.List.{flat_map}
 use Rattle.std.specs.String.{string_bytes}

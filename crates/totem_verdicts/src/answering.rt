@@ -1,4 +1,4 @@
-//! The answer to a request for help or the version, and to usage errors (docs/SPECIFICATIONS.md, "The program").
+//! The answer to a request for help or the version, and to usage errors (docs/PROGRAM.md).
 ghost use Rattle.std.specs.Prelude.{◌≡◌, []};
 ghost use Rattle.clap.specs.Values.{kind_of};
 ghost use Rattle.totem_names.specs.Writing.{held};

@@ -40,7 +40,7 @@ fn write_drawn<S: Sink>(
 }
 
 /// Reads the text of a run to the end of the input, judges the run, and writes a picture of the verdict in SVG
-/// (docs/SPECIFICATIONS.md, "Pictures"). The outcome is that of `audit_io`, and the picture is the same for every number of
+/// (docs/PROGRAM.md, "Pictures"). The outcome is that of `audit_io`, and the picture is the same for every number of
 /// workers.
 pub fn draw_io<T: Threads + Wait + Sync, R: Source, W: Sink>(
     rt: &T,

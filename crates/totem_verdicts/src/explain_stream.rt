@@ -114,7 +114,7 @@ fn write_told<S: Sink>(
 }
 
 /// Reads the text of a run to the end of the input, judges the run, and writes the explanation of the verdict
-/// (docs/SPECIFICATIONS.md, "Explanations"). The outcome is that of `audit_io`, and the text is the same for every number
+/// (docs/PROGRAM.md, "Explanations"). The outcome is that of `audit_io`, and the text is the same for every number
 /// of workers.
 pub fn explain_io<T: Threads + Wait + Sync, R: Source, W: Sink>(
     rt: &T,

@@ -1,4 +1,4 @@
-//! The answer to arguments that ask for a verdict (docs/SPECIFICATIONS.md, "The program").
+//! The answer to arguments that ask for a verdict (docs/PROGRAM.md).
 ghost use Rattle.std.specs.Prelude.{◌≡◌, []};
 ghost use Rattle.totem_names.specs.Sources.{seen};
 ghost use Rattle.totem_names.specs.Writing.{held};

@@ -1,5 +1,5 @@
 //! Verdicts over any three streams: reads runs and certificates, judges them, and writes reports, explanations and pictures; and
-//! the auditor, which answers a command line (docs/SPECIFICATIONS.md, "Report text" and "The program").
+//! the auditor, which answers a command line (docs/SPECIFICATIONS.md, "Report text", and docs/PROGRAM.md).
 //!
 //! What may be relied on:
 //! - `audit_io`: with an outcome, the whole input is the text of one run, and what was written is the report of that run's answer

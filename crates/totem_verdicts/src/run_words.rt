@@ -40,7 +40,7 @@ const OPTIONS: [NumberOption; 6] = [
         least: 1,
         most: 1_000_000,
         default: "4000",
-        help: "Length of the run in ticks, from 1 to 1000000. A tick is about one hop of the token. A run starts only if it can get 4 KB of memory for each tick and node",
+        help: "Length of the run in ticks, from 1 to 1000000. A tick is about one hop of the token.",
     },
     NumberOption {
         name: "seed",
@@ -56,7 +56,7 @@ const OPTIONS: [NumberOption; 6] = [
         least: 0,
         most: 100,
         default: "0",
-        help: "Percentage of packets dropped",
+        help: "Percentage of packets dropped. Once a ring breaks, the nodes may need long to form another: the last line on standard error says how many rings were formed and how many messages all nodes delivered",
     },
     NumberOption {
         name: "repeat",
@@ -100,7 +100,7 @@ fn quiet_option<'a>(alloc: Global) -> Arg<'a> {
     Arg::new(alloc, "quiet")
         .long("quiet")
         .action(ArgAction::SetTrue)
-        .help("Hide progress")
+        .help("Hide progress, and the line that says what came of the run")
 }
 
 /// Returns the command that runs nodes in threads.

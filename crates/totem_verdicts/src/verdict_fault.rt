@@ -1,6 +1,7 @@
-ghost use Rattle.std.specs.Prelude.{◌≡◌};
-ghost use Rattle.totem_verdicts.specs.VerdictFaults.{run_verdict_fault, cert_verdict_fault, write_verdict_fault};
+ghost use Rattle.std.specs.Prelude.{◌≡◌, IfOk};
+ghost use Rattle.totem_verdicts.specs.VerdictFaults.{verdict_number, verdict_name, run_verdict_fault, cert_verdict_fault, write_verdict_fault};
 
+use std::alloc::{AllocError, Global};
 use thiserror::Error;
 use totem_certificate::CertFault;
 use totem_check::CheckFault;
@@ -24,6 +25,46 @@ pub enum VerdictFault {
     /// The output failed. It is not known how much was written.
     #[error("write failed")]
     Write,
+}
+
+impl VerdictFault {
+    /// Returns the fault's number. 4 and 5 are faults of calls that make runs.
+    pub fn number(&self) -> u8
+        ensures { result ≡ verdict_number self.now }
+    {
+        match self {
+            VerdictFault::Run(_) => 1,
+            VerdictFault::Cert(_) => 2,
+            VerdictFault::Refused(_) => 3,
+            VerdictFault::Memory => 6,
+            VerdictFault::Write => 7,
+        }
+    }
+
+    /// Returns the fault's name.
+    pub fn name(&self) -> &'static str
+        ensures { result.now ≡ verdict_name self.now }
+    {
+        match self {
+            VerdictFault::Run(_) => "Run",
+            VerdictFault::Cert(_) => "Cert",
+            VerdictFault::Refused(_) => "Refused",
+            VerdictFault::Memory => "Memory",
+            VerdictFault::Write => "Write",
+        }
+    }
+
+    pub fn try_clone(&self, alloc: Global) -> Result<VerdictFault, AllocError>
+        ensures { IfOk result (λ f. f ≡ self.now) }
+    {
+        Ok(match self {
+            VerdictFault::Run(fault) => VerdictFault::Run(*fault),
+            VerdictFault::Cert(fault) => VerdictFault::Cert(*fault),
+            VerdictFault::Refused(fault) => VerdictFault::Refused(fault.try_clone(alloc)?),
+            VerdictFault::Memory => VerdictFault::Memory,
+            VerdictFault::Write => VerdictFault::Write,
+        })
+    }
 }
 
 impl From<RunFault> for VerdictFault {

@@ -17,8 +17,9 @@ SCRIPT = b'totem-script 1\nring 4.1 1 2 3\n'
 ALL = b' '.join(b'%d' % number for number in range(1, 33))
 CHANGE = b'conf r4.1 ' + ALL + b'\n'
 CLOSED = b'open\nend\n'
-# A run in threads, longer than there is memory for: it is refused before a node begins.
-NO_ROOM = 'run --nodes 32 --ticks 1000000', [], Answer(3, b'', b'totem: out of memory\n')
+# A run in threads that is longer than this many megabytes are enough for.
+ENDED = 'run --quiet --nodes 3 --ticks 1000000', [], Answer(3, b'', b'totem: out of memory\n')
+MEGABYTES_OF_ENDED = 200
 
 
 def endless(block):
@@ -193,11 +194,12 @@ def flaw(verb, wanted, answer, usage):
 
 def large(asked, tally):
     """Each answer is known, or at least its status, and comes within some seconds and some megabytes."""
-    cases = [*without_an_end(), *at_the_limits(), *long_scripts(), ('a run for which there is no room', *NO_ROOM)]
-    limited = ['/bin/sh', '-c', 'ulimit -v %d; exec "$0" "$@"' % (MEGABYTES_GIVEN << 10), asked.program]
+    cases = [*without_an_end(), *at_the_limits(), *long_scripts(), ('a run that memory does not suffice for', *ENDED)]
 
     def one(case):
         what, verb, pieces, wanted = case
+        given = MEGABYTES_OF_ENDED if verb == ENDED[0] else MEGABYTES_GIVEN
+        limited = ['/bin/sh', '-c', 'ulimit -v %d; exec "$0" "$@"' % (given << 10), asked.program]
         return (what, verb, wanted, *run(limited + verb.split(), pieces))
 
     tally.begin()

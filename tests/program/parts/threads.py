@@ -1,4 +1,5 @@
 """Runs of nodes in threads. No two are alike, so the tests check what holds for every run."""
+import re
 from collections import Counter
 from functools import partial
 
@@ -30,10 +31,51 @@ DELIVERED = (
 )
 
 
+# What a run says of itself.
+SUMMARY = re.compile(
+    rb'totem: messages: (\d+) sent, (\d+) delivered by every node; rings formed: (\d+); '
+    rb'packets: (\d+) sent, (\d+) lost and (\d+) duplicated by the plan, (\d+) on their way at the end\n')
+
+
+def number_of(words, name, default=0):
+    """The number that these arguments give for an option."""
+    words = words.split()
+    return int(words[words.index(name) + 1]) if name in words else default
+
+
+def counted(text):
+    """What a run's text says of it, as in its summary: messages sent, delivered by every node, rings formed."""
+    logs = [[line.split() for line in log.splitlines()] for log in text.split(b'\nlog ')[1:]]
+    lines = [line for log in logs for line in log]
+    deliveries = [{line[2] for line in log if line[0] == b'dlv'} for log in logs]
+    rings = {line[1] for line in lines if line[0] == b'conf' and line[1].startswith(b'r')}
+    sent = sum(line[0] == b'send' for line in lines)
+    return [sent, len(set.intersection(*deliveries)), len(rings) - 1]
+
+
+def what_is_untrue(words, made):
+    """What is wrong with the summary of a run, or None. Nearly as many packets are lost and duplicated as the plan says."""
+    if '--quiet' in words:
+        return 'not quiet: %s' % made if made.errors else None
+    match = SUMMARY.fullmatch(made.errors)
+    if not match:
+        return 'came: %s' % made
+    numbers = [int(number) for number in match.groups()]
+    if '--weave' not in words and numbers[:3] != counted(made.output):
+        return 'the summary says %s, and the run %s' % (numbers[:3], counted(made.output))
+    packets, lost, repeated, _ = numbers[3:]
+    for name, count in (('--lose', lost), ('--repeat', repeated)):
+        wanted = (packets - 1) * number_of(words, name) / 100
+        # Six times what is to be expected from chance.
+        if abs(count - wanted) > 6 * (wanted * (1 - number_of(words, name) / 100)) ** .5:
+            return '%s: %d of %d packets' % (name, count, packets)
+    return None
+
+
 def made_by(program, words):
     """Runs nodes in threads. Returns the answer, and what is wrong with it."""
     made, _ = process.run([program, 'run', *words.split()], seconds=SECONDS)
-    return made, None if made.status == 0 and not made.errors else 'came: %s' % made
+    return made, what_is_untrue(words, made) if made.status == 0 else 'came: %s' % made
 
 
 def try_judged(words, program):
@@ -150,8 +192,7 @@ def try_woven(words, program):
     if wrong or told is None:
         return wrong or 'came: %s' % made
     steps, handed = told
-    asked = words.split()
-    nodes = int(asked[asked.index('--nodes') + 1]) if '--nodes' in asked else 3
+    nodes = number_of(words, '--nodes', 3)
     if steps < sum(map(len, handed.values())) or (not words and steps < SUBMITTED):
         return '%d steps; delivered to the nodes: %s' % (steps, handed)
     return what_is_wrong(handed, nodes)
