@@ -7,16 +7,6 @@ pub mod Consistent
 pub mod BreaksIn
 pub mod Originating
 pub mod Synchronous
-pub mod ExampleSteps
-pub mod ExampleBreaks
-pub mod ExamplePlaces
-pub mod ExampleOpen
-mod ExampleQuiet
-pub mod ExampleCertified
-pub mod ExampleGood
-pub mod ExampleRuns
-pub mod ExampleTravel
-pub mod ExampleTravelGood
 pub mod RisingRecords
 pub mod FromLeft
 pub mod LooseFrom

@@ -27,8 +27,6 @@ pub mod ReportText
 pub mod WriteRun
 pub mod WriteFaults
 pub mod Endings
-pub mod Examples
-pub mod ExampleClaims
 pub mod Heads
 pub mod RunGrammar
 pub mod LineStarts

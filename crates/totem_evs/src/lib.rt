@@ -11,7 +11,6 @@
 //! - The defined answer means what it says (`answers_are_sound`): with a yes the run meets specifications 1 to 7, with a no each
 //!   fault breaks its own. A certificate gives 1.1 and 6.1 (`certified_is_ordered`). In a certified run that meets 1.3, 1.4 and
 //!   2.2, causal delivery between the sends and deliveries of each log gives it over chains of any length (`chains_are_fine`).
-//! - `examples` tries each definition on small runs, as laws.
 //!
 //! The nodes, which know nothing of the audit, write their logs with these types: this crate and totem_names are all that both share.
 #![tactic(auto)]
@@ -20,7 +19,6 @@ mod display;
 mod ending;
 mod entries;
 mod entry;
-pub mod examples;
 mod fault;
 mod form;
 mod heads;

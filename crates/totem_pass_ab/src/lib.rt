@@ -2,7 +2,7 @@
 //!
 //! What may be relied on:
 //! - `pass_a_and_b` lists, of 1.4, 2.1, 2.2, 2.3 and 2.4, each that the run breaks, with the least events that break it, and nothing for
-//!   those that the run meets; if it meets them all, it does the same for 1.3 (`ListsFirst`, specs/Listed). It is given the run's changes.
+//!   those that the run meets; if it meets them all, it does the same for 1.3 (`ListsFirst`, specs/Listed).
 //!
 //! The contract holds for every run. The checker uses this crate as well: if a rule says no, passes A, B and D name what is broken.
 #![tactic(auto)]

@@ -33,15 +33,14 @@ fn pass_b_of(alloc: Global, run: &Run, changes: &Changes) -> Result<Vec<Fault>, 
     with_found(Vec::new(alloc), SpecNo::Unsent, unsent)
 }
 
-/// Passes A and B, given the changes of the run: the faults of pass A, or if it has none those of pass B. `Err` means out of memory, and
-/// says nothing about the run.
-pub fn pass_a_and_b(alloc: Global, run: &Run, changes: &Changes) -> Result<Vec<Fault>, AllocError>
-    requires { AreChanges run.now.logs changes.now.rows.items }
+/// Passes A and B: the faults of pass A, or if it has none those of pass B. `Err` means out of memory, and says nothing about the run.
+pub fn pass_a_and_b(alloc: Global, run: &Run) -> Result<Vec<Fault>, AllocError>
     ensures { IfOk result (λ faults. ListsFirst run.now.logs faults.items) }
 {
-    let faults = pass_a_of(alloc, run, changes)?;
+    let changes = Changes::of(alloc, run)?;
+    let faults = pass_a_of(alloc, run, &changes)?;
     if !faults.is_empty() {
         return Ok(faults);
     }
-    pass_b_of(alloc, run, changes)
+    pass_b_of(alloc, run, &changes)
 }

@@ -2,7 +2,6 @@
 ghost use Rattle.std.specs.Prelude.{◌≡◌, ◌<◌, IfOk, IfSome, vec_len};
 ghost use Rattle.std.specs.Bool.{OnTrue};
 ghost use Rattle.totem_evs.specs.Answers.{MeetsPasses};
-ghost use Rattle.totem_table.specs.Changes.{AreChanges};
 ghost use Rattle.totem_judge_traffic.specs.Traffics.{AreTraffic, IsTrafficOf};
 ghost use Rattle.totem_pass_d.specs.Findings.{AreMet};
 ghost use Rattle.totem_pass_d.specs.Jobs.{AreJobs, AreFindingsAt};
@@ -59,22 +58,20 @@ impl<'r> Jobs<'r> {
         requires { MeetsPasses run.now.logs }
         ensures { IfOk result (AreJobs run.now.logs) }
     {
-        let changes = Changes::of(alloc, run)?;
-        Jobs::over(alloc, run, changes, Vec::new(alloc))
+        Jobs::over(alloc, run, Vec::new(alloc))
     }
 
-    /// Lists the jobs of a run as `build` does, where the changes of the run and the traffic of configurations are known.
+    /// Lists the jobs of a run as `build` does, where the traffic of configurations is known.
     pub fn over(
         alloc: Global,
         run: &'r Run,
-        changes: Changes,
         observed: Vec<Observed>,
     ) -> Result<Jobs<'r>, AllocError>
         requires meets { MeetsPasses run.now.logs }
-        requires changes { AreChanges run.now.logs changes.rows.items }
         requires observed { AreTraffic run.now.logs observed.items }
         ensures { IfOk result (AreJobs run.now.logs) }
     {
+        let changes = Changes::of(alloc, run)?;
         let comings = Comings::build(alloc, run, &changes)?;
         let rings = comings.rings(alloc)?;
         let slots = slots_of(alloc, &rings, &observed)?;

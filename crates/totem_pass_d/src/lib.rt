@@ -1,12 +1,12 @@
 //! The last pass of the audit: which messages processes have to deliver, for themselves and for each other, in each regular configuration
-//! and in what follows it; and what a run leaves open (docs/SPECIFICATIONS.md, "Passes", "Pending and waiting").
+//! and in what follows it; and what is pending (docs/SPECIFICATIONS.md, "Passes", "Pending and waiting").
 //!
 //! There is one job for each regular configuration. It asks the rules of totem_judge_traffic, if it is given the traffic, and
 //! searches for what they don't show to be met. What may be relied on, in a run that has passed A and B:
 //! - `pass_d_of` lists the faults: for each specification and configuration the least events that break it there, and
 //!   none where the run meets it (`ListsConfigurations` of totem_evs).
 //! - `Jobs::findings` finds the same for one configuration, in whatever order the jobs are done (`AreFindingsAt`, specs/Jobs).
-//! - `pending_of` and `waiting` list exactly what is pending and who waits, in ascending order (`ArePending`, `AreWaiting`).
+//! - `pending_of` lists exactly what is pending, in ascending order (`ArePending`).
 #![tactic(auto)]
 
 mod atomicity_4;
@@ -28,4 +28,4 @@ mod suspects;
 pub use findings::Findings;
 pub use jobs::Jobs;
 pub use pass::{Found, pass_d_of};
-pub use pendings::{pending_of, waiting};
+pub use pendings::pending_of;

@@ -1,9 +1,8 @@
-//! What a run leaves open (docs/SPECIFICATIONS.md, "Pending and waiting").
+//! What is pending in a run (docs/SPECIFICATIONS.md, "Pending and waiting").
 ghost use Rattle.std.specs.Prelude.{◌≡◌, ◌↔◌, IsTrue, IfOk, OnOk};
 ghost use Rattle.std.specs.BTreeMap as tree;
-ghost use Rattle.totem_evs.specs.Answers.{MeetsPasses};
 ghost use Rattle.totem_evs.specs.Following.{OpenIn};
-ghost use Rattle.totem_evs.specs.Unsettled.{ArePending, AreWaiting};
+ghost use Rattle.totem_evs.specs.Unsettled.{ArePending};
 ghost use Rattle.totem_pass_d.specs.Acts.{IsAmong};
 ghost use Rattle.totem_pass_d.specs.Jobs.{AreJobs};
 ghost use Rattle.totem_pass_d.specs.KnownStays.{AreKnown};
@@ -12,7 +11,7 @@ ghost use Rattle.totem_pass_d.specs.Pendings.{Adds, IsPendingIn, IsPendingFor};
 use crate::jobs::Jobs;
 use crate::stays::{Stay, Stays};
 use std::alloc::{AllocError, Global};
-use totem_evs::{Pending, Run, Waiting};
+use totem_evs::Pending;
 use totem_judge_run::{has_failed, in_order};
 use totem_names::MsgId;
 
@@ -84,13 +83,4 @@ pub fn pending_of(alloc: Global, jobs: &Jobs<'_>) -> Result<Vec<Pending>, AllocE
         add_pending(alloc, &mut list, &stays)?;
     }
     in_order(list)
-}
-
-/// Returns the waiting processes of a run that has passed the first two passes, and whom they wait for: by process, then by the other.
-#[tactic(auto, using(totem_judge_run::proofs::Orderliness::passed_is_orderly))]
-pub fn waiting(alloc: Global, run: &Run) -> Result<Vec<Waiting>, AllocError>
-    requires { MeetsPasses run.now.logs }
-    ensures { IfOk result (λ list. AreWaiting run.now.logs list.items) }
-{
-    totem_judge_run::waiting(alloc, run)
 }
