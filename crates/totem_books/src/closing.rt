@@ -1,5 +1,5 @@
 //! Closes a shared book when its seats are back.
-ghost use Rattle.std.specs.Prelude.{◌≡◌, ◌<◌, All, IfOk, IfErr, vec_len, length};
+ghost use Rattle.std.specs.Prelude.{◌≡◌, ◌<◌, ◌≤◌, All, IfOk, IfErr, vec_len, length};
 ghost use Rattle.totem_books.specs.Replay.{IsRecorded};
 ghost use Rattle.totem_books.specs.History.{start_with};
 ghost use Rattle.totem_books.specs.Journals.{BeginWith};
@@ -28,6 +28,7 @@ pub fn close<L: BookName>(
     book: SharedBook<L>,
     seats: Vec<Seat<L>>,
 ) -> Result<ClosedBook, CloseRefused<L>>
+    ensures whole { IfOk result (λ b. L.parts ≤ vec_len seats) }
     ensures shares { IfOk result (λ b. length b.calls ≡ shares_in seats.items) }
     ensures receipts { IfOk result (λ b. length b.calls ≡ receipts_in seats.items) }
     ensures agree { IfOk result (λ b. Agree b.calls seats.items) }
@@ -36,6 +37,7 @@ pub fn close<L: BookName>(
     ensures start { IfOk result (λ b. b.start ≡ start_with L.me L.ring L.members) }
     ensures log { IfOk result (λ b. IsRecorded (start_with L.me L.ring L.members) b.calls b.log) }
     ensures back { IfErr result (λ e. e.seats.items ≡ seats.items) }
+    ensures first { IfErr result (λ e. vec_len seats < L.parts → e.fault ≡ CloseFault.SeatMissing) }
     ensures missing { IfErr result (λ e. e.fault ≡ CloseFault.SeatMissing → vec_len seats < L.parts) }
     // The seats' receipts are those of the book's calls: this is an invariant of their types, together with the journal.
     ensures mismatch { IfErr result (λ e. e.fault ≡ CloseFault.ReceiptMismatch → ⊥) }

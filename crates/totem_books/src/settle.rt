@@ -1,5 +1,5 @@
 //! Compares the seats' receipts with the contents of the lock.
-ghost use Rattle.std.specs.Prelude.{◌≡◌, ◌<◌, ◌≤◌, All, IfOk, IfErr, vec_len, length};
+ghost use Rattle.std.specs.Prelude.{◌≡◌, ◌<◌, ◌≤◌, All, IsTrue, IfOk, IfErr, vec_len, length};
 ghost use Rattle.totem_books.specs.History.{start_with};
 ghost use Rattle.totem_books.specs.Journals.{BeginWith};
 ghost use Rattle.totem_books.specs.Receipts.{Agree, Covers, receipts_in, shares_in};
@@ -11,7 +11,7 @@ use crate::meeting::meet_all;
 use crate::name::BookName;
 use crate::receipts::agree;
 use crate::seat::Seat;
-use std::alloc::Global;
+use std::alloc::{AllocError, Global};
 use std::sync::ledger::Share;
 
 /// The contents of the lock and the seats, given back because memory was refused.
@@ -52,6 +52,40 @@ pub fn merged<L: BookName>(seats: Vec<Seat<L>>) -> Share<L>
     all
 }
 
+/// Compares the seats' receipts with the book's calls. They agree.
+fn compare<L: BookName>(
+    alloc: Global,
+    kept: &mut Kept<L>,
+    seats: &mut [Seat<L>],
+) -> Result<bool, AllocError>
+    ensures book { kept.new.book ≡ kept.old.book }
+    ensures seats { seats.new ≡ seats.old }
+    ensures right { IfOk result IsTrue }
+    ensures agree { Agree kept.old.book.calls seats.old }
+    ensures covers { IfOk result (λ b. receipts_in seats.old ≡ length kept.old.book.calls → Covers kept.old.book.calls seats.old) }
+    ensures seen { All (λ seat. BeginWith kept.old.book.calls seat.seen) seats.old }
+{
+    meet_all(kept, seats);
+    agree(alloc, kept.book.calls(), seats)
+}
+
+/// Closes the book with the merged shares of all seats: they come to the number of its calls.
+fn closed_with<L: BookName>(kept: Kept<L>, all: Share<L>) -> ClosedBook
+    requires { all.parts ≡ L.parts }
+    ensures calls { result.calls ≡ kept.book.calls }
+    ensures amount { length result.calls ≡ all.amount }
+    ensures start { result.start ≡ start_with L.me L.ring L.members }
+{
+    let mut all = all;
+    let Kept {
+        book,
+        mut total,
+        journal: _,
+    } = kept;
+    total.audit(&mut all);
+    book.into_closed()
+}
+
 /// Compares the seats' receipts with the contents of the lock, and closes the book. The journal proves already that they
 /// agree.
 pub fn settle<L: BookName>(
@@ -71,8 +105,7 @@ pub fn settle<L: BookName>(
     ensures memory { IfErr result (λ e. e.fault ≡ CloseFault.Memory) }
 {
     let (mut kept, mut seats) = (kept, seats);
-    meet_all(&mut kept, seats.as_mut_slice());
-    match agree(alloc, kept.book.calls(), seats.as_slice()) {
+    match compare(alloc, &mut kept, seats.as_mut_slice()) {
         Ok(true) => {}
         Ok(false) => {
             return Err(Unsettled {
@@ -89,12 +122,5 @@ pub fn settle<L: BookName>(
             });
         }
     }
-    let mut all = merged(seats);
-    let Kept {
-        book,
-        mut total,
-        journal: _,
-    } = kept;
-    total.audit(&mut all);
-    Ok(book.into_closed())
+    Ok(closed_with(kept, merged(seats)))
 }

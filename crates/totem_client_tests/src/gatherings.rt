@@ -1,12 +1,12 @@
 //! Gatherings and commit tokens: totem_member.
 use std::alloc::{AllocError, Global};
-use totem_ids::{CommitToken, Join, Number, ProcId, Processes, RingId, SetFault};
+use totem_ids::{CommitToken, Join, Number, ProcId, Processes, RingId, TooMany};
 use totem_member::{
     Act, CommitOut, CommitView, Gather, GatherOut, MemberFault, Phase, Report, first_commit,
     on_commit,
 };
 
-pub fn new(alloc: Global, me: ProcId, base: &Processes, seq: Number) -> Result<Gather, SetFault> {
+pub fn new(alloc: Global, me: ProcId, base: &Processes, seq: Number) -> Result<Gather, TooMany> {
     Gather::new(alloc, me, base, seq)
 }
 
@@ -18,26 +18,16 @@ pub fn on_timeout(alloc: Global, gather: &mut Gather) -> Result<GatherOut, Membe
     gather.on_timeout(alloc)
 }
 
-pub fn join(alloc: Global, gather: &Gather) -> Result<Join, AllocError> {
-    gather.join(alloc)
+pub fn join(gather: &Gather) -> Join {
+    gather.join()
 }
 
 pub fn copy(alloc: Global, gather: &Gather) -> Result<Gather, AllocError> {
     gather.try_clone(alloc)
 }
 
-pub fn copies(
-    alloc: Global,
-    view: &CommitView,
-    gathered: &GatherOut,
-    taken: &CommitOut,
-    report: &Report,
-) -> Result<(), AllocError> {
-    let _ = view.try_clone(alloc)?;
-    let _ = gathered.try_clone(alloc)?;
-    let _ = taken.try_clone(alloc)?;
-    let _ = report.try_clone(alloc)?;
-    Ok(())
+pub fn copy_of_taken(alloc: Global, taken: &CommitOut) -> Result<CommitOut, AllocError> {
+    taken.try_clone(alloc)
 }
 
 pub fn consensus(out: GatherOut) -> (bool, Option<Processes>) {

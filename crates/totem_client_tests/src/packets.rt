@@ -2,7 +2,7 @@
 use bytes::Bytes;
 use std::alloc::{AllocError, Global};
 use totem_ids::{
-    Body, CommitMember, CommitMembers, CommitToken, Join, Life, Message, Number, Packet,
+    Body, CommitMember, CommitMembers, CommitToken, Join, Life, ListFault, Message, Number, Packet,
     PacketFault, Payload, ProcId, Processes, Refused, Report, Requests, RingId, Round, Service,
     Token, TokenSeq,
 };
@@ -107,7 +107,7 @@ pub fn requests(numbers: Vec<Number>) -> Result<Requests, Refused<Vec<Number>>> 
     Requests::new(numbers)
 }
 
-pub fn processes(procs: Vec<ProcId>) -> Result<Processes, Refused<Vec<ProcId>>> {
+pub fn processes(procs: &[ProcId]) -> Result<Processes, ListFault> {
     Processes::new(procs)
 }
 
@@ -123,13 +123,11 @@ pub fn copies(
     alloc: Global,
     message: &Message,
     token: &Token,
-    join: &Join,
     commit: &CommitToken,
 ) -> Result<(), AllocError> {
     let _ = message.try_clone()?;
     let _ = message.body.try_clone()?;
     let _ = token.try_clone(alloc)?;
-    let _ = join.try_clone(alloc)?;
     let _ = commit.try_clone(alloc)?;
     Ok(())
 }

@@ -1,8 +1,8 @@
 -- The refusal that is known before a step is taken is the result of the step.
-use Rattle.std.proofs.Common.{◌≡◌, ◌≢◌, ℕ, ◌+◌, ◌^◌, ◌&&◌, not, Bool, true, false, List, [], ◌∷◌, length, Option, None, Some, Result, Ok, Err, refl, ap, sym, subst, ⊎_elim, nat_le, nat_lt, max}
+use Rattle.std.proofs.Common.{◌≡◌, ◌≢◌, ℕ, ◌+◌, ◌<◌, ◌≤◌, ◌^◌, ◌&&◌, not, Bool, true, false, List, [], ◌∷◌, length, Option, None, Some, Result, Ok, Err, refl, ap, sym, subst, ⊎_elim, nat_le, nat_lt, max}
 use Rattle.std.specs.Prelude.{if◌then◌else◌, is_some}
 use Rattle.std.specs.Result.{is_ok}
-use Rattle.std.proofs.lemmas.Bool.{cases_Bool, false≢true}
+use Rattle.std.proofs.lemmas.Bool.{cases_Bool, false≢true, le-ltb}
 use Rattle.totem_packets.specs.declared.message.Message.{Message}
 use Rattle.totem_packets.specs.declared.token.Token.{Token}
 use Rattle.totem_packets.specs.declared.join.Join.{Join}
@@ -24,18 +24,18 @@ use Rattle.totem_member.specs.declared.fault.MemberFault.{MemberFault}
 use Rattle.totem_member.specs.declared.fault.MemberFault.TheVariants as member_fault
 use Rattle.totem_member.specs.Gathers.{Gather, gathered, consensus, is_stranger, new_gather, after_join, after_timeout, same_sets}
 use Rattle.totem_member.specs.Commits.{on_commit}
-use Rattle.totem_member.specs.Shown.{act_of}
+use Rattle.totem_member.specs.Acts.{act_of}
 use Rattle.totem_member.proofs.Ways.{chooses}
 use Rattle.totem_recover.specs.Exchange.{next_bodies}
-use Rattle.totem_core.specs.declared.crowd.Part.{Part}
 use Rattle.totem_core.specs.declared.fault.NodeFault.{NodeFault}
-use Rattle.totem_core.specs.Crowds.{procs_of, crowd_of}
+use Rattle.totem_core.specs.declared.fault.NodeFault.TheVariants.{Stranger}
 use Rattle.totem_core.specs.Nodes.{Node, State, Operational, Gathering, Committing, InRecovery, Recovering, Told, on_its_ring, committed_to, commit_view, report}
 use Rattle.totem_core.specs.Outcomes.{Outcome, ◌>>=◌, by_ring, by_member}
 use Rattle.totem_core.specs.Gathering.{gather_base, to_gather, look_at_consensus, join_broadcast}
 use Rattle.totem_core.specs.Visiting.{visit_installed, visit_new, message_told}
 use Rattle.totem_core.specs.Table.{starting, acted, commit_taken, join_in_gather, on_timer}
 use Rattle.totem_core.specs.Refusals.{of_its_ring, refused_by, refused_by_new, cause_refusal, gather_refusal, start_refused, act_refused, commit_refused_by, has_no_number, begins_at_the_end, timer_at_the_end, IsTaken, Tells}
+use Rattle.totem_core.proofs.Growing.{crowded}
 
 by_test : {C : Type 0} (b : Bool) → (b ≡ true → C) → (b ≡ false → C) → C
 by_test b then_so else_so = ⊎_elim then_so else_so (cases_Bool b)
@@ -69,6 +69,28 @@ gather_tells n extra (Some j) = by_test (nat_lt 32 (length (with_process (gather
     (λ known.
     let g = after_join (new_gather n.me (gather_base n extra) n.seq) j in
     rw (few, known) (consensus_taken (record n { quiet = 0 }) g (join_broadcast g ∷ []))))
+
+pub refuses_many : (n : Node) (extra : List ℕ) (cause : Option Join) → 32 < length (with_process (gather_base n extra) n.me) → Tells (Some Stranger) (begins_at_the_end n extra cause) (to_gather n extra cause)
+refuses_many n extra cause many = ((λ e. cc), crowded n extra cause many)
+
+pub refuses_a_stranger : (n : Node) (extra : List ℕ) (j : Join) (g : Gather) → (g ≡ new_gather n.me (gather_base n extra) n.seq) × (length (with_process (gather_base n extra) n.me) ≤ 32) → is_stranger g j ≡ true
+    → Tells (Some Stranger) (begins_at_the_end n extra (Some j)) (to_gather n extra (Some j))
+refuses_a_stranger n extra j g begins stranger =
+    let stranger_there : is_stranger (new_gather n.me (gather_base n extra) n.seq) j ≡ true = subst (λ g. is_stranger g j ≡ true) begins.0 stranger in
+    let refused : gather_refusal n extra (Some j) ≡ Some Stranger = rw (le-ltb 32 (length (with_process (gather_base n extra) n.me)) begins.1, stranger_there) refl in
+    subst (λ r. Tells r (begins_at_the_end n extra (Some j)) (to_gather n extra (Some j))) refused (gather_tells n extra (Some j))
+
+pub takes_a_cause : (n : Node) (extra : List ℕ) (j : Join) (g : Gather) → (g ≡ new_gather n.me (gather_base n extra) n.seq) × (length (with_process (gather_base n extra) n.me) ≤ 32) → is_stranger g j ≡ false
+    → Tells None (begins_at_the_end n extra (Some j)) (to_gather n extra (Some j))
+takes_a_cause n extra j g begins known =
+    let known_there : is_stranger (new_gather n.me (gather_base n extra) n.seq) j ≡ false = subst (λ g. is_stranger g j ≡ false) begins.0 known in
+    let taken : gather_refusal n extra (Some j) ≡ None = rw (le-ltb 32 (length (with_process (gather_base n extra) n.me)) begins.1, known_there) refl in
+    subst (λ r. Tells r (begins_at_the_end n extra (Some j)) (to_gather n extra (Some j))) taken (gather_tells n extra (Some j))
+
+pub begins_alone : (n : Node) (extra : List ℕ) → length (with_process (gather_base n extra) n.me) ≤ 32 → Tells None (begins_at_the_end n extra None) (to_gather n extra None)
+begins_alone n extra few =
+    let taken : gather_refusal n extra None ≡ None = rw (le-ltb 32 (length (with_process (gather_base n extra) n.me)) few) refl in
+    subst (λ r. Tells r (begins_at_the_end n extra None) (to_gather n extra None)) taken (gather_tells n extra None)
 
 -- a gathering takes a Join, or refuses it
 pub gathering_tells : (n : Node) (g : Gather) (j : Join) → Tells (cause_refusal g (Some j)) (has_no_number n (after_join g j)) (join_in_gather n g j)
@@ -152,13 +174,3 @@ pub taken_tells : (n : Node) (g : Gather) (ph : Phase) (started : Bool) (token :
 taken_tells n g ph started token =
     let v = commit_view n ph g started in
     acted_tells n g (on_commit token v (report n)) (commit_known token v (report n))
-
--- ---- crowds
-
-pub base_is : (n : Node) (extra : List ℕ) (a b c : Part) → procs_of a ≡ n.installed.members → procs_of b ≡ extra → procs_of c ≡ committed_to n.state
-    → crowd_of (a ∷ b ∷ c ∷ []) ≡ gather_base n extra
-base_is n extra a b c first second third = rw (first, second, third) refl
-
-pub base_with_me : (n : Node) (extra : List ℕ) (a b c d : Part) → procs_of a ≡ n.installed.members → procs_of b ≡ extra → procs_of c ≡ committed_to n.state → procs_of d ≡ n.me ∷ []
-    → crowd_of (a ∷ b ∷ c ∷ d ∷ []) ≡ with_process (gather_base n extra) n.me
-base_with_me n extra a b c d first second third last = rw (first, second, third, last) refl

@@ -2,7 +2,6 @@ pub mod Stepping
 pub mod Telling
 pub mod Growing
 pub mod Entering
-pub mod Crowding
 pub mod Foretelling
 pub mod Visits
 pub mod FirstLives

@@ -75,29 +75,3 @@ pub message_waits : (n : Node) (service : Service) (payload : List ℕ) → IsTa
 message_waits n service payload taken =
     let tests = fits (nat_lt 1024 (length payload)) (nat_le 16 (length n.waiting)) _ taken in
     cond-false _ _ _ tests.0 ∙ cond-false _ _ _ tests.1
-
--- ---- to gather
-
-gathers_only : {A B : Type 0} (at_the_end many : Bool) (new : A) (f : A → Outcome B)
-    → IsTaken at_the_end ((if many then Err Stranger else Ok new) >>= f) → many ≡ false
-gathers_only at_the_end true new f taken = absurd (other taken.0)
-  where
-    other : Stranger ≡ Range → ⊥
-    other e = cc
-gathers_only at_the_end false new f taken = refl
-
--- a gathering that begins has at most 32 processes
-pub may_gather : (n : Node) (extra : List ℕ) (cause : Option Join) (at_the_end : Bool) → IsTaken at_the_end (to_gather n extra cause)
-    → length (with_process (gather_base n extra) n.me) ≤ 32
-may_gather n extra cause at_the_end taken = few (length (with_process (gather_base n extra) n.me)) (gathers_only at_the_end _ _ _ taken)
-  where
-    few : (count : ℕ) → nat_lt 32 count ≡ false → count ≤ 32
-    few count e = grind (arith, nat_tests)
-
--- and is the new one
-pub gathers : (n : Node) (extra : List ℕ) (cause : Option Join) → length (with_process (gather_base n extra) n.me) ≤ 32
-    → to_gather n extra cause ≡ gathering_anew n (new_gather n.me (gather_base n extra) n.seq) cause
-gathers n extra cause fits = rw (not_many (length (with_process (gather_base n extra) n.me)) fits) refl
-  where
-    not_many : (count : ℕ) → count ≤ 32 → nat_lt 32 count ≡ false
-    not_many count e = grind (arith, nat_tests)

@@ -9,5 +9,4 @@ pub mod Transitions
 pub mod Refusals
 pub mod NewVisits
 pub mod Replay
-pub mod Crowds
 pub mod FirstLives

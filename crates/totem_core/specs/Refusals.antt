@@ -17,7 +17,7 @@ use Rattle.totem_member.specs.declared.views.Phase.{Phase}
 use Rattle.totem_member.specs.declared.fault.MemberFault.{MemberFault}
 use Rattle.totem_member.specs.Gathers.{Gather, new_gather, gathered, consensus, is_stranger, after_join, after_timeout}
 use Rattle.totem_member.specs.Commits.{on_commit}
-use Rattle.totem_member.specs.Shown.{act_of}
+use Rattle.totem_member.specs.Acts.{act_of}
 use Rattle.totem_recover.specs.Exchange.{next_bodies}
 use Rattle.totem_core.specs.declared.fault.NodeFault.{NodeFault}
 use Rattle.totem_core.specs.declared.fault.NodeFault.TheVariants.{Stale, Stranger, Range, Memory}
@@ -34,10 +34,6 @@ use Rattle.totem_core.specs.Table.{is_quiet}
 abbrev pub of_its_ring : Option RingFault → Option NodeFault
 of_its_ring None = None
 of_its_ring (Some fault) = Some (of_ring fault)
-
--- a gathering of these processes, as it has just begun
-abbrev pub begun_by : ℕ → List ℕ → Gather
-begun_by me processes = record { me = me; sets = record { processes = processes; failed = [] }; seq = 0; noted = [] }
 
 -- a Join that its gathering does not take
 abbrev pub cause_refusal : Gather → Option Join → Option NodeFault

@@ -2,9 +2,8 @@
 ghost use Rattle.std.specs.Prelude.{◌≡◌, ◌<◌, length, Err, IfOk, IfSome, MatchOption, false};
 ghost use Rattle.totem_packets.specs.declared.commit.CommitToken.{CommitToken};
 ghost use Rattle.totem_packets.specs.declared.packet.Packet.TheVariants as packet;
-ghost use Rattle.totem_member.specs.Shown.{view_of, own_report};
 ghost use Rattle.totem_recover.specs.Exchange.{IsReady};
-ghost use Rattle.totem_core.specs.Nodes.{Operational, commit_view, report};
+ghost use Rattle.totem_core.specs.Nodes.{Operational};
 ghost use Rattle.totem_core.specs.Outcomes.{Fails};
 ghost use Rattle.totem_core.specs.Table.{filling, recovering, entering, commit_taken, starting, on_commit_in, on_packet};
 ghost use Rattle.totem_core.specs.Refusals.{start_refused, act_refused, IsTaken, Tells};
@@ -16,12 +15,11 @@ use crate::gathering::commit_passed_on;
 use crate::leaving::visit_first;
 use crate::node_core::NodeCore;
 use crate::outcome::StepOut;
-use crate::reporting::greater;
 use crate::state::{Recovering, State};
 use crate::token_refusal::refused_by_new;
 use crate::transition::Transition;
 use std::alloc::{AllocError, Global};
-use totem_member::{Act, Gather, MemberFault, Phase, Shown, commit_act, on_commit};
+use totem_member::{Act, Gather, MemberFault, Phase, commit_act, on_commit};
 use totem_packets::{CommitToken, Number};
 use totem_recover::Recovery;
 use totem_ring::{RingState, first_token};
@@ -37,27 +35,6 @@ impl NodeCore {
             State::Gathering(gather) => Some((gather, Phase::Gather, false)),
             State::Committing(gather) => Some((gather, Phase::Commit, false)),
             State::InRecovery(x) => Some((&x.gather, Phase::Recovery, x.started)),
-        }
-    }
-
-    /// Returns a borrowed view of what the node shows when it takes a commit token.
-    fn shown<'a>(&'a self, phase: Phase, gather: &'a Gather, started: bool) -> Shown<'a>
-        ensures view { view_of result ≡ commit_view self.now phase gather.now started }
-        ensures report { own_report result ≡ report self.now }
-    {
-        Shown {
-            me: self.me,
-            processes: gather.processes(),
-            failed: gather.failed(),
-            seq: greater(self.seq, gather.seq()),
-            filled: self.filled,
-            phase,
-            started,
-            life: self.life,
-            ring: self.installed.ring(),
-            aru: self.installed.my_aru(),
-            delivered: self.installed.handed(),
-            obligation: &self.obligation,
         }
     }
 
@@ -93,7 +70,8 @@ impl NodeCore {
         let Some((gather, phase, started)) = self.forming() else {
             return Some(NodeFault::Stale);
         };
-        let act = commit_act(token, &self.shown(phase, gather, started));
+        let view = self.commit_view(phase, gather, started);
+        let act = commit_act(token, &view, &self.report());
         self.act_refused(alloc, act)
     }
 
@@ -108,7 +86,7 @@ impl NodeCore {
     {
         let ring = token.ring;
         let mut packets = Vec::new(alloc);
-        packets.push(commit_passed_on(alloc, self.me, token)?)?;
+        packets.push(commit_passed_on(self.me, token))?;
         Ok(Transition {
             state: State::Committing(gather.try_clone(alloc)?),
             quiet: self.quiet,
@@ -129,7 +107,7 @@ impl NodeCore {
         ensures { IfOk result (λ x. x ≡ recovering self.now gather.now token.now) }
     {
         let _rule = token.members.as_slice();
-        let members = token.members.processes(alloc)?;
+        let members = token.members.processes();
         Ok(Recovering {
             gather: gather.try_clone(alloc)?,
             ring: RingState::new(alloc, self.me, token.ring, members.as_slice())?,
@@ -150,7 +128,7 @@ impl NodeCore {
     {
         let state = State::InRecovery(self.recovering(alloc, gather, &token)?);
         let mut packets = Vec::new(alloc);
-        packets.push(commit_passed_on(alloc, self.me, token)?)?;
+        packets.push(commit_passed_on(self.me, token))?;
         Ok(Transition {
             state,
             quiet: self.quiet,
@@ -172,9 +150,8 @@ impl NodeCore {
     ) -> Result<Option<Transition>, NodeFault>
         ensures { IsCommitTransition result self.now (commit_taken self.now gather.now phase started token.now) }
     {
-        let view = self.commit_view(alloc, phase, gather, started)?;
-        let report = self.report(alloc)?;
-        let taken = on_commit(alloc, token, &view, report)?;
+        let view = self.commit_view(phase, gather, started);
+        let taken = on_commit(alloc, token, &view, self.report())?;
         match taken.act {
             Act::Filled => Ok(Some(self.filling(alloc, gather, taken.token)?)),
             Act::Entered => Ok(Some(self.entering(alloc, gather, taken.token)?)),

@@ -1,12 +1,13 @@
 //! Why a node refused a step.
 ghost use Rattle.std.specs.Prelude.{◌≡◌};
-ghost use Rattle.totem_core.specs.declared.fault.NodeFault.TheVariants.{Memory};
+ghost use Rattle.totem_core.specs.declared.fault.NodeFault.TheVariants.{Stranger, Memory};
 ghost use Rattle.totem_core.specs.Faults.{fault_number, fault_name, of_ring, of_member};
 ghost use Rattle.totem_core.specs.Refusals.{of_its_ring};
 
 use std::alloc::{AllocError, AllocFailed};
 use thiserror::Error;
 use totem_member::MemberFault;
+use totem_packets::TooMany;
 use totem_ring::RingFault;
 
 /// Why a node refused a step (docs/PROTOCOL.md, "The node").
@@ -91,6 +92,15 @@ impl From<RingFault> for NodeFault {
             RingFault::Full => NodeFault::Full,
             RingFault::Memory => NodeFault::Memory,
         }
+    }
+}
+
+impl From<TooMany> for NodeFault {
+    ghost from_gives = { λ _ e. e ≡ Stranger };
+
+    /// A gathering of too many processes is refused as one with a stranger.
+    fn from(_many: TooMany) -> NodeFault {
+        NodeFault::Stranger
     }
 }
 

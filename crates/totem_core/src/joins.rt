@@ -1,8 +1,7 @@
 //! Decides whether a Join is refused, and takes one that is not (docs/PROTOCOL.md, "The node").
 ghost use Rattle.std.specs.Prelude.{◌≡◌, ◌&&◌, [], Some, Err, IfSome, false};
 ghost use Rattle.totem_packets.specs.declared.packet.Packet.TheVariants as packet;
-ghost use Rattle.totem_packets.specs.Sets.{has, is_within};
-ghost use Rattle.totem_member.specs.Gathers.{gathered};
+ghost use Rattle.totem_packets.specs.Sets.{is_within};
 ghost use Rattle.totem_core.specs.Table.{is_late, says_nothing_new, join_in_gather, join_in_commit, on_packet};
 ghost use Rattle.totem_core.specs.Refusals.{cause_refusal, IsTaken, begins_at_the_end, join_at_the_end, Tells};
 ghost use Rattle.totem_core.specs.Transitions.{IsTransition};
@@ -16,16 +15,7 @@ use crate::state::State;
 use crate::transition::Transition;
 use std::alloc::Global;
 use totem_member::Gather;
-use totem_names::ProcId;
 use totem_packets::{Join, is_among};
-
-/// Returns whether the process is in M: known to the gathering, and not failed.
-#[tactic(auto, using(totem_member::proofs::Within::has_filter))]
-fn is_gathered(gather: &Gather, proc: ProcId) -> bool
-    ensures { result ≡ has (gathered gather.now) proc }
-{
-    gather.processes().contains(proc) && !gather.failed().contains(proc)
-}
 
 /// Returns whether both sets of the Join are within those of the gathering.
 fn is_known(gather: &Gather, join: &Join) -> bool
@@ -39,7 +29,7 @@ fn is_known(gather: &Gather, join: &Join) -> bool
 fn says_nothing_new(gather: &Gather, join: &Join) -> bool
     ensures { result ≡ says_nothing_new gather.now join.now }
 {
-    is_gathered(gather, join.sender)
+    gather.gathered().contains(join.sender)
         && is_known(gather, join)
         && join.seq.get() <= gather.seq().get()
 }
@@ -65,28 +55,28 @@ impl NodeCore {
     }
 
     /// Returns why the node would refuse a Join in Commit or Recovery.
-    fn refusal_in_commit(&self, gather: &Gather, join: &Join) -> Option<NodeFault>
+    fn refusal_in_commit(&self, alloc: Global, gather: &Gather, join: &Join) -> Option<NodeFault>
         ensures { Tells result (begins_at_the_end self.now [] (Some join.now)) (join_in_commit self.now gather.now join.now) }
     {
         if says_nothing_new(gather, join) {
             return Some(NodeFault::Stale);
         }
-        self.gather_refusal(&[], Some(join))
+        self.gather_refusal(alloc, &[], Some(join))
     }
 
     /// Returns why the node would refuse a Join.
     #[tactic(auto, using(crate::proofs::Foretelling::gathering_tells))]
-    pub(crate) fn join_refusal(&self, join: &Join) -> Option<NodeFault>
+    pub(crate) fn join_refusal(&self, alloc: Global, join: &Join) -> Option<NodeFault>
         ensures { Tells result (join_at_the_end self.now join.now self.now.state) (on_packet self.now (packet.Join join.now)) }
     {
         if self.is_late(join) {
             return Some(NodeFault::Stale);
         }
         match &self.state {
-            State::Operational => self.gather_refusal(&[], Some(join)),
+            State::Operational => self.gather_refusal(alloc, &[], Some(join)),
             State::Gathering(gather) => gathering_refusal(gather, join),
-            State::Committing(gather) => self.refusal_in_commit(gather, join),
-            State::InRecovery(x) => self.refusal_in_commit(&x.gather, join),
+            State::Committing(gather) => self.refusal_in_commit(alloc, gather, join),
+            State::InRecovery(x) => self.refusal_in_commit(alloc, &x.gather, join),
         }
     }
 
@@ -103,7 +93,7 @@ impl NodeCore {
         let out = next.on_join(alloc, join)?;
         let mut packets = Vec::new(alloc);
         if out.again {
-            packets.push(join_broadcast(alloc, &next)?)?;
+            packets.push(join_broadcast(&next))?;
         }
         self.look_at_consensus(alloc, self.quiet, next, out.members, packets)
     }

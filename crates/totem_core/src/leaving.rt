@@ -112,7 +112,7 @@ fn written_and_owed(
     ensures obligation { IfOk result (λ noted. noted.1 ≡ obligation_after recovery.now ring.now) }
 {
     let entries = visit_entries(alloc, recovery, installed, ring, handed)?;
-    let obligation = recovery.obligation_after(ring).try_clone(alloc)?;
+    let obligation = *recovery.obligation_after(ring);
     Ok((entries, obligation))
 }
 
@@ -188,7 +188,7 @@ impl NodeCore {
             if x.recovery.on_ring(&x.ring, &out) {
                 mem::swap(&mut self.installed, &mut x.ring);
                 self.state = State::Operational;
-                self.obligation = Processes::none(alloc);
+                self.obligation = Processes::none();
                 self.filled = None;
             } else {
                 self.obligation = obligation;

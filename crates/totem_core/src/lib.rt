@@ -17,7 +17,6 @@
 
 mod clients;
 mod commits;
-mod crowd;
 mod fault;
 mod gathering;
 mod input;

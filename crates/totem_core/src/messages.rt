@@ -60,7 +60,7 @@ fn message_told(alloc: Global, ring: &mut RingState, message: Message) -> Result
 impl NodeCore {
     /// Returns why the node would refuse a message in Operational.
     #[tactic(auto, using(crate::proofs::Foretelling::on_ring_tells))]
-    fn refusal_in_operational(&self, message: &Message) -> Option<NodeFault>
+    fn refusal_in_operational(&self, alloc: Global, message: &Message) -> Option<NodeFault>
         ensures { Tells result (message_at_the_end self.now message.now Operational) (message_in_operational self.now message.now) }
     {
         if is_same_ring(message.ring, self.installed.ring()) {
@@ -69,7 +69,7 @@ impl NodeCore {
         if is_among(self.installed.members(), message.sender) {
             return Some(NodeFault::OtherRing);
         }
-        self.gather_refusal(&[message.sender], None)
+        self.gather_refusal(alloc, &[message.sender], None)
     }
 
     /// Returns why the node would refuse a message in Gather.
@@ -97,11 +97,11 @@ impl NodeCore {
     }
 
     /// Returns why the node would refuse a message.
-    pub(crate) fn message_refusal(&self, message: &Message) -> Option<NodeFault>
+    pub(crate) fn message_refusal(&self, alloc: Global, message: &Message) -> Option<NodeFault>
         ensures { Tells result (message_at_the_end self.now message.now self.now.state) (on_message self.now message.now self.now.state) }
     {
         match &self.state {
-            State::Operational => self.refusal_in_operational(message),
+            State::Operational => self.refusal_in_operational(alloc, message),
             State::Gathering(_) => self.refusal_in_gather(message),
             State::Committing(_) => Some(NodeFault::OtherRing),
             State::InRecovery(x) => self.refusal_in_recovery(x, message),

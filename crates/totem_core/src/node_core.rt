@@ -80,7 +80,7 @@ impl NodeCore {
             waiting: Vec::new(alloc),
             quiet: 0,
             seq: Number::of(ring.seq),
-            obligation: Processes::none(alloc),
+            obligation: Processes::none(),
             filled: None,
             crashed: false,
         };
@@ -103,19 +103,10 @@ impl NodeCore {
         Ok((state, installed))
     }
 
-    /// Returns copies of the waiting messages and of the obligation set.
-    fn owed(&self, alloc: Global) -> Result<(Vec<Body>, Processes), AllocError>
-        ensures { IfOk result (λ r. (r.0.items ≡ self.now.waiting) × (r.1 ≡ self.now.obligation)) }
-    {
-        let waiting = copies_of(alloc, &self.waiting)?;
-        let obligation = self.obligation.try_clone(alloc)?;
-        Ok((waiting, obligation))
-    }
-
     pub fn try_clone(&self, alloc: Global) -> Result<NodeCore, AllocError>
         ensures { IfOk result (λ n. n ≡ self.now) }
     {
-        let (waiting, obligation) = self.owed(alloc)?;
+        let waiting = copies_of(alloc, &self.waiting)?;
         let (state, installed) = self.rings(alloc)?;
         Ok(NodeCore {
             me: self.me,
@@ -125,7 +116,7 @@ impl NodeCore {
             waiting,
             quiet: self.quiet,
             seq: self.seq,
-            obligation,
+            obligation: self.obligation,
             filled: self.filled,
             crashed: self.crashed,
         })

@@ -18,9 +18,9 @@ impl NodeCore {
         ensures { Tells result (packet_at_the_end self.now packet.now) (on_packet self.now packet.now) }
     {
         match packet {
-            Packet::Message(message) => self.message_refusal(message),
+            Packet::Message(message) => self.message_refusal(alloc, message),
             Packet::Token(token) => self.token_refusal(token),
-            Packet::Join(join) => self.join_refusal(join),
+            Packet::Join(join) => self.join_refusal(alloc, join),
             Packet::Commit(token) => self.commit_refusal(alloc, token),
         }
     }
@@ -37,7 +37,7 @@ impl NodeCore {
         match input {
             Input::Submit { payload, .. } => self.submit_refusal(payload),
             Input::Packet(packet) => self.packet_refusal(alloc, packet),
-            Input::Timer => self.timer_refusal(),
+            Input::Timer => self.timer_refusal(alloc),
             Input::Crash => None,
         }
     }

@@ -31,7 +31,7 @@ impl NodeCore {
 
     /// Returns why the node would refuse a timer, of which only one that makes it gather may be refused.
     #[tactic(auto, using(crate::proofs::Foretelling::gathers_on))]
-    pub(crate) fn timer_refusal(&self) -> Option<NodeFault>
+    pub(crate) fn timer_refusal(&self, alloc: Global) -> Option<NodeFault>
         ensures { Tells result (timer_at_the_end self.now self.now.state) (on_timer self.now self.now.state) }
     {
         if let State::Gathering(_) = &self.state {
@@ -40,7 +40,7 @@ impl NodeCore {
         if !self.is_quiet() {
             return None;
         }
-        self.gather_refusal(&[], None)
+        self.gather_refusal(alloc, &[], None)
     }
 
     /// Returns the transition in which a gathering gives up those that did not agree in time.
@@ -50,7 +50,7 @@ impl NodeCore {
         let mut next = gather.try_clone(alloc)?;
         let out = next.on_timeout(alloc)?;
         let mut packets = Vec::new(alloc);
-        packets.push(join_broadcast(alloc, &next)?)?;
+        packets.push(join_broadcast(&next))?;
         self.look_at_consensus(alloc, 0, next, out.members, packets)
     }
 
@@ -79,7 +79,7 @@ impl NodeCore {
             State::Operational => resend(alloc, &self.installed),
             State::Gathering(gather) => {
                 let mut packets = Vec::new(alloc);
-                packets.push(join_broadcast(alloc, gather)?)?;
+                packets.push(join_broadcast(gather))?;
                 Ok(StepOut::sending(alloc, packets))
             }
             State::Committing(_) => Ok(StepOut::sending(alloc, Vec::new(alloc))),

@@ -15,7 +15,7 @@ pub use totem_names::{
 };
 pub use totem_packets::{
     Body, CommitMember, CommitMembers, CommitToken, Join, Life, Message, Number, Packet,
-    PacketFault, Payload, Processes, Report, Requests, Round, SetFault, Token, TokenSeq,
+    PacketFault, Payload, Processes, Report, Requests, Round, ShortList, Token, TokenSeq, TooMany,
     a_cut_packet_is_short, is_among, kind_5_tells_later_lives, kind_is_the_first_byte,
     memory_is_no_fault_of_bytes, no_packet_begins_another, range_is_known_at_once, read_is_spelled,
     short_has_nothing_wrong, spelled_is_read, trailing_is_behind_a_packet,

@@ -1,10 +1,9 @@
 -- The invariant of a gathering: the failed processes are known, and the process itself has not failed.
 use Rattle.std.proofs.Common.{◌≡◌, ℕ, ◌<◌, ◌≤◌, ◌==◌, ◌&&◌, ⊎_elim, true, false, not, List, [], length, filter, refl, sym, ◌∙◌, ap, arith, Result, Ok, Err}
-use Rattle.std.specs.Prelude.{nat_lt}
+use Rattle.std.specs.Prelude.{nat_lt, IsOk}
 use Rattle.std.proofs.lemmas.Bool.{eq-eqb, eqb-true, eqb-false, ne_eqb, ltb-false, not-true, not-false, and_parts, and_from, and_right, or_cases, or_parts, or_from, or_left, or_right}
 use Rattle.totem_packets.specs.declared.join.Join.{Join}
-use Rattle.totem_packets.specs.declared.set_fault.SetFault.{SetFault}
-use Rattle.totem_packets.specs.declared.set_fault.SetFault.TheVariants.{TooMany, Memory}
+use Rattle.totem_packets.specs.declared.too_many.TooMany.{TooMany}
 use Rattle.totem_member.specs.declared.join_sets.Sets.{Sets}
 use Rattle.totem_packets.specs.Rising.{IsProcesses}
 use Rattle.totem_packets.specs.Sets.{has, is_within, with_process, union, Makes}
@@ -33,11 +32,10 @@ taken g j e =
       few = ltb-false 32 (length (union g.sets.processes j.processes)) f.1;
     }
 
--- making a set of at most 32 is never TooMany
-pub room : (made : Result (List ℕ) SetFault) (set : List ℕ) → Makes made set → length set ≤ 32 → made ≡ Err TooMany → ⊥
-room (Ok p) set makes few e = cc
-room (Err TooMany) set makes few e = omega (arith, makes, few)
-room (Err Memory) set makes few e = cc
+-- a set of at most 32 is made
+pub room : (made : Result (List ℕ) TooMany) (set : List ℕ) → Makes made set → length set ≤ 32 → IsOk made
+room (Ok p) set makes few = refl
+room (Err many) set makes few = absurd (omega (arith, makes, few))
 
 -- ---- a process more on both sides
 
@@ -196,10 +194,9 @@ begins me base is = record {
 }
 
 -- a set that was made is the set that was to be made
-pub made_is : (made : Result (List ℕ) SetFault) (p set : List ℕ) → made ≡ Ok p → Makes made set → p ≡ set
+pub made_is : (made : Result (List ℕ) TooMany) (p set : List ℕ) → made ≡ Ok p → Makes made set → p ≡ set
 made_is (Ok q) p set e makes = let first = makes.0 in cc
-made_is (Err TooMany) p set e makes = cc
-made_is (Err Memory) p set e makes = cc
+made_is (Err many) p set e makes = absurd cc
 
 -- and keeps the invariant as that set does
 pub standing_so : (me : ℕ) (s : Sets) (ps fs : List ℕ) → ps ≡ s.processes → fs ≡ s.failed → IsStanding me s → IsStanding me (record { processes = ps; failed = fs })

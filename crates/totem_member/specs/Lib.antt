@@ -2,4 +2,4 @@ pub mod Gathers
 pub mod Commits
 pub mod MemberFaults
 pub mod Steps
-pub mod Shown
+pub mod Acts

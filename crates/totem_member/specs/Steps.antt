@@ -1,8 +1,7 @@
 -- What the result of a call says about its step (docs/PROTOCOL.md, "Gathering").
 use Rattle.std.specs.Prelude.{◌≡◌, ℕ, ◌≤◌, ◌<◌, List, length, Result, Ok, Err}
 use Rattle.std.specs.Result.{IsOk}
-use Rattle.totem_packets.specs.declared.set_fault.SetFault.{SetFault}
-use Rattle.totem_packets.specs.declared.set_fault.SetFault.TheVariants as sets
+use Rattle.totem_packets.specs.declared.too_many.TooMany.{TooMany}
 use Rattle.totem_packets.specs.Sets.{with_process}
 use Rattle.totem_member.specs.declared.views.GatherOut.{GatherOut}
 use Rattle.totem_member.specs.declared.fault.MemberFault.{MemberFault}
@@ -27,7 +26,6 @@ IsAnswer (Err Stale) written = written ≡ Err Stale
 IsAnswer (Err Range) written = written ≡ Err Range
 
 -- The call begins a gathering of the base and the process itself, if these are at most 32.
-abbrev pub Begins : Result Gather SetFault → ℕ → List ℕ → ℕ → Type 0
+abbrev pub Begins : Result Gather TooMany → ℕ → List ℕ → ℕ → Type 0
 Begins (Ok g) me base seq = (g ≡ new_gather me base seq) × (length (with_process base me) ≤ 32)
-Begins (Err sets.TooMany) me base seq = 32 < length (with_process base me)
-Begins (Err sets.Memory) me base seq = length (with_process base me) ≤ 32
+Begins (Err many) me base seq = 32 < length (with_process base me)

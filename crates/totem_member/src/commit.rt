@@ -2,11 +2,11 @@
 ghost use Rattle.std.specs.Prelude.{◌≡◌, ◌<◌, IfOk, IsTrue, map, length};
 ghost use Rattle.totem_packets.specs.Sets.{has};
 ghost use Rattle.totem_member.specs.Commits.{first_commit, on_commit, filled_by, unfilled};
-ghost use Rattle.totem_member.specs.Shown.{passed_on};
+ghost use Rattle.totem_member.specs.Acts.{passed_on};
 ghost use Rattle.totem_member.specs.Steps.{IsAnswer};
 
+use crate::act::commit_act;
 use crate::fault::MemberFault;
-use crate::shown::{Shown, commit_act};
 use crate::views::{Act, CommitOut, CommitView};
 use std::alloc::{AllocError, Global};
 use totem_names::{ProcId, RingId};
@@ -31,10 +31,10 @@ fn filled(
         let next = if member.proc == proc {
             CommitMember {
                 proc,
-                report: Some(report.try_clone(alloc)?),
+                report: Some(*report),
             }
         } else {
-            member.try_clone(alloc)?
+            *member
         };
         filled.push(next)?;
     }
@@ -118,8 +118,7 @@ pub fn on_commit(
 ) -> Result<CommitOut, MemberFault>
     ensures { IsAnswer result (on_commit token.now view.now report) }
 {
-    let nobody = Processes::none(alloc);
-    let act = commit_act(token, &Shown::of(view, &nobody, &report))?;
+    let act = commit_act(token, view, &report)?;
     let token = passed_on(alloc, token, view.me, &report, act)?;
     Ok(CommitOut { act, token })
 }

@@ -1,7 +1,6 @@
-ghost use Rattle.std.specs.Prelude.{◌≡◌, IfOk, IfSome, IsTrue, false, not, filter, ◌==◌};
+ghost use Rattle.std.specs.Prelude.{◌≡◌, Ok, IfOk, IsOk, IfSome, IsTrue, false, not, filter, ◌==◌};
 ghost use Rattle.std.specs.List.{list_all};
 ghost use Rattle.totem_packets.specs.Sets.{has};
-ghost use Rattle.totem_packets.specs.declared.set_fault.SetFault.TheVariants.{TooMany};
 ghost use Rattle.totem_member.specs.Gathers.{join, gathered, agrees, consensus, is_stranger, after_join, after_timeout, noted_equal, on_join, on_timeout, IsGather, IsStanding};
 ghost use Rattle.totem_member.specs.Steps.{IsStep, Begins};
 
@@ -11,10 +10,7 @@ use crate::views::GatherOut;
 use std::alloc::{AllocError, Global};
 use std::marker::Model;
 use totem_names::ProcId;
-use totem_packets::{Join, Number, Processes, SetFault};
-
-/// How many processes may gather at most.
-const MOST: usize = 32;
+use totem_packets::{Join, Number, Processes, ShortList, TooMany};
 
 /// A process that looks for others with which to form a ring (docs/PROTOCOL.md, "Gathering").
 #[derive(Debug, Drop)]
@@ -35,15 +31,14 @@ impl Model for Gather {
     ghost invariant = { λ g. IsStanding g.me g.sets };
 }
 
-/// Leaves out of memory as the only fault of making a set that is known not to be too large.
-fn with_room(made: Result<Processes, SetFault>) -> Result<Processes, AllocError>
-    requires { made ≡ Err TooMany → ⊥ }
-    ensures { IfOk result (λ p. made ≡ Ok p) }
+/// Returns the set that a call made which is known not to be too large.
+fn made(set: Result<Processes, TooMany>) -> Processes
+    requires { IsOk set }
+    ensures { set ≡ Ok result }
 {
-    match made {
-        Ok(set) => Ok(set),
-        Err(SetFault::TooMany) => unreachable!(),
-        Err(SetFault::Memory) => Err(AllocError),
+    match set {
+        Ok(set) => set,
+        Err(TooMany) => unreachable!(),
     }
 }
 
@@ -56,17 +51,6 @@ fn noted_equal(noted: &[Noted], proc: ProcId, sets: &Sets) -> bool
         .any(|note| note.proc == proc && note.sets.are(sets))
 }
 
-/// Returns a copy of all notes.
-fn noted_all(alloc: Global, noted: &[Noted]) -> Result<Vec<Noted>, AllocError>
-    ensures { IfOk result (λ v. v.items ≡ noted.now) }
-{
-    let mut list = Vec::with_capacity(alloc, noted.len())?;
-    for note in noted {
-        list.push(note.try_clone(alloc)?)?;
-    }
-    Ok(list)
-}
-
 /// Returns a copy of the notes of every process but this one.
 fn noted_of_others(alloc: Global, noted: &[Noted], proc: ProcId) -> Result<Vec<Noted>, AllocError>
     ensures { IfOk result (λ v. v.items ≡ filter (λ n. not (n.proc == proc)) noted.now) }
@@ -74,23 +58,23 @@ fn noted_of_others(alloc: Global, noted: &[Noted], proc: ProcId) -> Result<Vec<N
     let mut list = Vec::new(alloc);
     for note in noted {
         if note.proc != proc {
-            list.push(note.try_clone(alloc)?)?;
+            list.push(*note)?;
         }
     }
     Ok(list)
 }
 
 impl Gather {
-    /// Begins a gathering of `me` and the processes of `base`, none of which has been heard yet. `TooMany` if they are more
-    /// than 32.
-    pub fn new(alloc: Global, me: ProcId, base: &Processes, seq: Number) -> Result<Gather, SetFault>
+    /// Begins a gathering of `me` and the processes of `base`, none of which has been heard yet, unless they are more than 32.
+    /// Takes no memory.
+    pub fn new(alloc: Global, me: ProcId, base: &Processes, seq: Number) -> Result<Gather, TooMany>
         ensures { Begins result me base.now seq }
     {
         Ok(Gather {
             me,
             sets: Sets {
-                processes: base.with(alloc, me)?,
-                failed: Processes::none(alloc),
+                processes: base.with(me)?,
+                failed: Processes::none(),
             },
             seq,
             noted: Vec::new(alloc),
@@ -102,9 +86,9 @@ impl Gather {
     {
         Ok(Gather {
             me: self.me,
-            sets: self.sets.try_clone(alloc)?,
+            sets: self.sets,
             seq: self.seq,
-            noted: noted_all(alloc, &self.noted)?,
+            noted: self.noted.as_slice().to_vec(alloc)?,
         })
     }
 
@@ -145,22 +129,22 @@ impl Gather {
     }
 
     /// Returns the Join that this process broadcasts.
-    pub fn join(&self, alloc: Global) -> Result<Join, AllocError>
-        ensures { IfOk result (λ told. told ≡ join self.now) }
+    pub fn join(&self) -> Join
+        ensures { result ≡ join self.now }
     {
-        Ok(Join {
+        Join {
             sender: self.me,
             seq: self.seq,
-            processes: self.sets.processes.try_clone(alloc)?,
-            failed: self.sets.failed.try_clone(alloc)?,
-        })
+            processes: self.sets.processes,
+            failed: self.sets.failed,
+        }
     }
 
     /// Returns the processes that would form a ring: all known processes that have not failed.
-    pub fn gathered(&self, alloc: Global) -> Result<Processes, AllocError>
-        ensures { IfOk result (λ m. m ≡ gathered self.now) }
+    pub fn gathered(&self) -> Processes
+        ensures { result ≡ gathered self.now }
     {
-        self.sets.processes.without(alloc, &self.sets.failed)
+        self.sets.processes.without(&self.sets.failed)
     }
 
     fn agrees(&self, proc: ProcId) -> bool
@@ -176,19 +160,19 @@ impl Gather {
     }
 
     /// Returns the processes on which there is consensus, or `None` if there is no consensus yet.
-    pub fn consensus(&self, alloc: Global) -> Result<Option<Processes>, AllocError>
-        ensures value { IfOk result (λ members. members ≡ consensus self.now) }
-        ensures mine { IfOk result (λ members. IfSome members (λ m. IsTrue (has m self.now.me))) }
+    pub fn consensus(&self) -> Option<Processes>
+        ensures value { result ≡ consensus self.now }
+        ensures mine { IfSome result (λ m. IsTrue (has m self.now.me)) }
     {
         self.keeps_its_rule();
-        let members = self.gathered(alloc)?;
+        let members = self.gathered();
         if self.all_agree(&members) {
-            return Ok(Some(members));
+            return Some(members);
         }
-        Ok(None)
+        None
     }
 
-    /// Returns whether this Join would be refused because its sender can't be gathered with. Takes no memory.
+    /// Returns whether this Join would be refused because its sender can't be gathered with.
     pub fn is_stranger(&self, join: &Join) -> bool
         ensures { result ≡ is_stranger self.now join.now }
     {
@@ -197,29 +181,29 @@ impl Gather {
             || join.failed.contains(join.sender)
             || self.sets.failed.contains(join.sender)
             || !join.failed.is_within(&join.processes)
-            || self.sets.processes.union_len(&join.processes) > MOST
+            || self.sets.processes.union(&join.processes).is_err()
     }
 
     /// Returns the process's own two sets after this Join.
-    fn sets_after(&self, alloc: Global, join: &Join) -> Result<Sets, AllocError>
+    fn sets_after(&self, join: &Join) -> Sets
         requires { is_stranger self.now join.now ≡ false }
-        ensures value { IfOk result (λ s. s ≡ (after_join self.now join.now).sets) }
-        ensures standing { IfOk result (λ s. IsStanding self.now.me s) }
+        ensures value { result ≡ (after_join self.now join.now).sets }
+        ensures standing { IsStanding self.now.me result }
     {
         self.keeps_its_rule();
         let _ = join.processes.as_slice();
         let _ = join.failed.as_slice();
         let mine = &self.sets;
         if join.failed.contains(self.me) {
-            return Ok(Sets {
-                processes: with_room(mine.processes.with(alloc, join.sender))?,
-                failed: with_room(mine.failed.with(alloc, join.sender))?,
-            });
+            return Sets {
+                processes: made(mine.processes.with(join.sender)),
+                failed: made(mine.failed.with(join.sender)),
+            };
         }
-        Ok(Sets {
-            processes: with_room(mine.processes.union(alloc, &join.processes))?,
-            failed: with_room(mine.failed.union(alloc, &join.failed))?,
-        })
+        Sets {
+            processes: made(mine.processes.union(&join.processes)),
+            failed: made(mine.failed.union(&join.failed)),
+        }
     }
 
     /// Returns what is noted of other processes after this Join.
@@ -227,14 +211,14 @@ impl Gather {
         ensures { IfOk result (λ n. n.items ≡ (after_join self.now join.now).noted) }
     {
         if join.failed.contains(self.me) {
-            return noted_all(alloc, &self.noted);
+            return self.noted.as_slice().to_vec(alloc);
         }
         let mut noted = noted_of_others(alloc, &self.noted, join.sender)?;
         noted.push(Noted {
             proc: join.sender,
             sets: Sets {
-                processes: join.processes.try_clone(alloc)?,
-                failed: join.failed.try_clone(alloc)?,
+                processes: join.processes,
+                failed: join.failed,
             },
         })?;
         Ok(noted)
@@ -251,7 +235,7 @@ impl Gather {
         };
         Ok(Gather {
             me: self.me,
-            sets: self.sets_after(alloc, join)?,
+            sets: self.sets_after(join),
             seq,
             noted: self.noted_after(alloc, join)?,
         })
@@ -266,37 +250,37 @@ impl Gather {
             return Err(MemberFault::Stranger);
         }
         let next = self.after_join(alloc, join)?;
-        let members = next.consensus(alloc)?;
+        let members = next.consensus();
         let again = !next.sets.are(&self.sets);
         *self = next;
         Ok(GatherOut { again, members })
     }
 
     /// Returns the processes among these that don't agree with this one's sets.
-    fn late(&self, alloc: Global, members: &Processes) -> Result<Processes, AllocError>
-        ensures { IfOk result (λ late. late ≡ filter (λ p. not (agrees self.now p)) members.now) }
+    fn late(&self, members: &Processes) -> Processes
+        ensures { result ≡ filter (λ p. not (agrees self.now p)) members.now }
     {
-        let mut late = Vec::new(alloc);
+        let mut late = ShortList::new();
         for proc in members.as_slice() {
             if !self.agrees(*proc) {
-                late.push(*proc)?;
+                late.push(*proc);
             }
         }
-        Ok(Processes::of(late))
+        Processes::of(late)
     }
 
     /// Returns the process's own two sets after it gave up the processes that don't agree.
-    fn sets_without_late(&self, alloc: Global) -> Result<Sets, AllocError>
-        ensures value { IfOk result (λ s. s ≡ (after_timeout self.now).sets) }
-        ensures standing { IfOk result (λ s. IsStanding self.now.me s) }
+    fn sets_without_late(&self) -> Sets
+        ensures value { result ≡ (after_timeout self.now).sets }
+        ensures standing { IsStanding self.now.me result }
     {
         self.keeps_its_rule();
-        let members = self.gathered(alloc)?;
-        let late = self.late(alloc, &members)?;
-        Ok(Sets {
-            processes: self.sets.processes.try_clone(alloc)?,
-            failed: with_room(self.sets.failed.union(alloc, &late))?,
-        })
+        let members = self.gathered();
+        let late = self.late(&members);
+        Sets {
+            processes: self.sets.processes,
+            failed: made(self.sets.failed.union(&late)),
+        }
     }
 
     fn after_timeout(&self, alloc: Global) -> Result<Gather, AllocError>
@@ -304,9 +288,9 @@ impl Gather {
     {
         Ok(Gather {
             me: self.me,
-            sets: self.sets_without_late(alloc)?,
+            sets: self.sets_without_late(),
             seq: self.seq,
-            noted: noted_all(alloc, &self.noted)?,
+            noted: self.noted.as_slice().to_vec(alloc)?,
         })
     }
 
@@ -316,7 +300,7 @@ impl Gather {
         ensures mine { IfOk result (λ out. IfSome out.members (λ m. IsTrue (has m self.old.me))) }
     {
         let next = self.after_timeout(alloc)?;
-        let members = next.consensus(alloc)?;
+        let members = next.consensus();
         *self = next;
         Ok(GatherOut {
             again: true,

@@ -1,12 +1,11 @@
-ghost use Rattle.std.specs.Prelude.{◌≡◌, IfOk};
+ghost use Rattle.std.specs.Prelude.{◌≡◌};
 ghost use Rattle.totem_member.specs.Gathers.{same_sets};
 
-use std::alloc::{AllocError, Global};
 use totem_names::ProcId;
 use totem_packets::Processes;
 
 /// The two sets of a Join.
-#[derive(Debug, Drop)]
+#[derive(Clone, Copy, Debug)]
 pub struct Sets {
     /// All processes that the sender knows.
     pub processes: Processes,
@@ -15,7 +14,7 @@ pub struct Sets {
 }
 
 /// The sets in the last noted Join of a process.
-#[derive(Debug, Drop)]
+#[derive(Clone, Copy, Debug)]
 pub struct Noted {
     pub proc: ProcId,
     pub sets: Sets,
@@ -27,25 +26,5 @@ impl Sets {
         ensures { result ≡ same_sets self.now other.now }
     {
         self.processes.is(&other.processes) && self.failed.is(&other.failed)
-    }
-
-    pub fn try_clone(&self, alloc: Global) -> Result<Sets, AllocError>
-        ensures { IfOk result (λ s. s ≡ self.now) }
-    {
-        Ok(Sets {
-            processes: self.processes.try_clone(alloc)?,
-            failed: self.failed.try_clone(alloc)?,
-        })
-    }
-}
-
-impl Noted {
-    pub fn try_clone(&self, alloc: Global) -> Result<Noted, AllocError>
-        ensures { IfOk result (λ n. n ≡ self.now) }
-    {
-        Ok(Noted {
-            proc: self.proc,
-            sets: self.sets.try_clone(alloc)?,
-        })
     }
 }

@@ -6,22 +6,22 @@
 //!   that of the rules, or `Memory` where the rules would not refuse (`Begins`, `IsStep`, specs/Steps).
 //! - `Gather::consensus` returns the set on which there is consensus, with the process itself in it (`consensus`).
 //! - `first_commit` and `on_commit` make and take a commit token as specs/Commits says (`IsAnswer`). `commit_act` returns in which
-//!   way it would be taken, or why it would be refused, without allocating memory (specs/Shown).
+//!   way it would be taken, or why it would be refused, without allocating memory (specs/Acts).
 //!
 //! It is not claimed that a gathering ends.
 #![tactic(auto)]
 
+mod act;
 mod commit;
 mod fault;
 mod gather;
 mod join_sets;
-mod shown;
 mod views;
 
+pub use act::commit_act;
 pub use commit::{first_commit, on_commit};
 pub use fault::MemberFault;
 pub use gather::Gather;
 pub use join_sets::{Noted, Sets};
-pub use shown::{Shown, commit_act};
 pub use totem_packets::Report;
 pub use views::{Act, CommitOut, CommitView, GatherOut, Phase};

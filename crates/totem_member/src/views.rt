@@ -13,7 +13,7 @@ pub enum Phase {
 }
 
 /// What a member shows of itself when a commit token arrives.
-#[derive(Debug, Drop)]
+#[derive(Clone, Copy, Debug)]
 pub struct CommitView {
     pub me: ProcId,
     /// The processes on which there is consensus.
@@ -28,7 +28,7 @@ pub struct CommitView {
 }
 
 /// What a gathering process has to do next.
-#[derive(Debug, Drop)]
+#[derive(Clone, Copy, Debug)]
 pub struct GatherOut {
     /// Broadcast its Join again.
     pub again: bool,
@@ -52,36 +52,6 @@ pub enum Act {
 pub struct CommitOut {
     pub act: Act,
     pub token: CommitToken,
-}
-
-impl CommitView {
-    pub fn try_clone(&self, alloc: Global) -> Result<CommitView, AllocError>
-        ensures { IfOk result (λ v. v ≡ self.now) }
-    {
-        Ok(CommitView {
-            me: self.me,
-            members: self.members.try_clone(alloc)?,
-            seq: self.seq,
-            filled: self.filled,
-            phase: self.phase,
-            started: self.started,
-        })
-    }
-}
-
-impl GatherOut {
-    pub fn try_clone(&self, alloc: Global) -> Result<GatherOut, AllocError>
-        ensures { IfOk result (λ o. o ≡ self.now) }
-    {
-        let members = match &self.members {
-            None => None,
-            Some(members) => Some(members.try_clone(alloc)?),
-        };
-        Ok(GatherOut {
-            again: self.again,
-            members,
-        })
-    }
 }
 
 impl CommitOut {

@@ -19,3 +19,5 @@ pub mod Decided
 pub mod SetFacts
 pub mod OldRingFacts
 pub mod RankFacts
+mod Rooms
+pub mod Longer

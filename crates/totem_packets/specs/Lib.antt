@@ -11,3 +11,4 @@ pub mod Laws
 pub mod Sets
 pub mod OldRings
 pub mod Lives
+pub mod ShortLists

@@ -1,10 +1,10 @@
 -- What the reports of a commit token say about an old ring (docs/PROTOCOL.md, "Recovery").
-use Rattle.std.specs.Prelude.{ℕ, ◌==◌, ◌&&◌, ◌||◌, if◌then◌else◌, List, [], ◌∷◌, map, filter, fold, min, max, Bool, false, Option, Some, None, is_some}
-use Rattle.std.specs.List.{filter_map, list_all, list_any}
+use Rattle.std.specs.Prelude.{ℕ, ◌==◌, ◌&&◌, List, [], ◌∷◌, map, filter, fold, min, max, Bool, false, Option, Some, None, is_some}
+use Rattle.std.specs.List.{filter_map, list_all}
 use Rattle.totem_names.specs.Names.{RingName}
 use Rattle.totem_packets.specs.declared.commit_member.Report.{Report}
 use Rattle.totem_packets.specs.declared.commit_member.CommitMember.{CommitMember}
-use Rattle.totem_packets.specs.Sets.{has, union}
+use Rattle.totem_packets.specs.Sets.{union}
 
 abbrev pub same_ring : RingName → RingName → Bool
 same_ring a b = (a.seq == b.seq) && (a.rep == b.rep)
@@ -50,12 +50,3 @@ greatest_delivered old members = fold (λ greatest r. max greatest r.delivered) 
 -- the transitional set and all obligation sets that it reported
 abbrev pub obligation_union : RingName → List CommitMember → List ℕ
 obligation_union old members = fold (λ all r. union all r.obligation) (transitional_set old members) (reports_from old members)
-
--- the obligation set of a report of this old ring
-abbrev pub obligation_from : RingName → Option Report → List ℕ
-obligation_from old None = []
-obligation_from old (Some r) = if same_ring r.ring old then r.obligation else []
-
--- p is in the transitional set, or in an obligation set that one of the front members from this ring reported
-unfoldable pub is_obliged : RingName → List CommitMember → List CommitMember → ℕ → Bool
-is_obliged old members front p = has (transitional_set old members) p || list_any (λ r. has r.obligation p) (reports_from old front)

@@ -1,14 +1,13 @@
-ghost use Rattle.std.specs.Prelude.{◌≡◌, ◌↔◌, IsTrue, IfOk};
+ghost use Rattle.std.specs.Prelude.{◌≡◌, ◌↔◌, IsTrue};
 ghost use Rattle.totem_packets.specs.CommitMembers.{IsReport, IsCommitMember};
 ghost use Rattle.totem_packets.specs.Lives.{reported_life, member_rank};
 
 use crate::life::Life;
 use crate::processes::Processes;
-use std::alloc::{AllocError, Global};
 use totem_names::{Proc, ProcId, RingId, ring_fits};
 
 /// What a member reports of the ring that it comes from (docs/PROTOCOL.md, "The commit token").
-#[derive(Debug, Drop)]
+#[derive(Clone, Copy, Debug)]
 pub struct Report {
     /// The life in which the member reports.
     pub life: Life,
@@ -21,7 +20,7 @@ pub struct Report {
 }
 
 /// A member of the ring that a commit token forms, with its report once that is filled in.
-#[derive(Debug, Drop)]
+#[derive(Clone, Copy, Debug)]
 pub struct CommitMember {
     pub proc: ProcId,
     pub report: Option<Report>,
@@ -48,18 +47,6 @@ impl Report {
             && self.aru == other.aru
             && self.delivered == other.delivered
             && self.obligation.is(&other.obligation)
-    }
-
-    pub fn try_clone(&self, alloc: Global) -> Result<Report, AllocError>
-        ensures { IfOk result (λ r. r ≡ self.now) }
-    {
-        Ok(Report {
-            life: self.life,
-            ring: self.ring,
-            aru: self.aru,
-            delivered: self.delivered,
-            obligation: self.obligation.try_clone(alloc)?,
-        })
     }
 }
 
@@ -101,18 +88,5 @@ impl CommitMember {
                 (None, None) => true,
                 _ => false,
             }
-    }
-
-    pub fn try_clone(&self, alloc: Global) -> Result<CommitMember, AllocError>
-        ensures { IfOk result (λ m. m ≡ self.now) }
-    {
-        let report = match &self.report {
-            None => None,
-            Some(report) => Some(report.try_clone(alloc)?),
-        };
-        Ok(CommitMember {
-            proc: self.proc,
-            report,
-        })
     }
 }

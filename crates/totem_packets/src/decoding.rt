@@ -36,13 +36,13 @@ fn token(alloc: Global, reader: &mut Reader) -> Result<Token, PacketFault>
 }
 
 #[tactic(auto, using(crate::proofs::Falling::passes_on), unfolding(crate::specs::Grammar::join_at))]
-fn join(alloc: Global, reader: &mut Reader) -> Result<Join, PacketFault>
+fn join(reader: &mut Reader) -> Result<Join, PacketFault>
     ensures { Reads (λ x. x) result reader.new (join_at reader.old) }
 {
     let sender = reader.process(0)?;
     let seq = reader.number(0)?;
-    let processes = process_set(alloc, reader)?;
-    let failed = process_set(alloc, reader)?;
+    let processes = process_set(reader)?;
+    let failed = process_set(reader)?;
     Ok(Join {
         sender,
         seq,
@@ -60,7 +60,7 @@ fn packet(alloc: Global, reader: &mut Reader) -> Result<Packet, PacketFault>
     match reader.u8()? {
         1 => Ok(Packet::Message(message(alloc, reader)?)),
         2 => Ok(Packet::Token(token(alloc, reader)?)),
-        3 => Ok(Packet::Join(join(alloc, reader)?)),
+        3 => Ok(Packet::Join(join(reader)?)),
         4 => Ok(Packet::Commit(commit_token(alloc, reader, Lives::Untold)?)),
         5 => Ok(Packet::Commit(later_commit_token(alloc, reader)?)),
         _ => Err(PacketFault::Kind),

@@ -1,12 +1,11 @@
-ghost use Rattle.std.specs.Prelude.{◌≡◌, ◌↔◌, IsTrue, IfOk};
+ghost use Rattle.std.specs.Prelude.{◌≡◌, ◌↔◌, IsTrue};
 
 use crate::number::Number;
 use crate::processes::Processes;
-use std::alloc::{AllocError, Global};
 use totem_names::ProcId;
 
 /// The Join of a gathering process: the processes with which it would form a ring, and which of them it thinks have failed.
-#[derive(Debug, Drop)]
+#[derive(Clone, Copy, Debug)]
 pub struct Join {
     pub sender: ProcId,
     /// The greatest ring number that the sender has heard of.
@@ -24,16 +23,5 @@ impl Join {
             && self.seq == other.seq
             && self.processes.is(&other.processes)
             && self.failed.is(&other.failed)
-    }
-
-    pub fn try_clone(&self, alloc: Global) -> Result<Join, AllocError>
-        ensures { IfOk result (λ j. j ≡ self.now) }
-    {
-        Ok(Join {
-            sender: self.sender,
-            seq: self.seq,
-            processes: self.processes.try_clone(alloc)?,
-            failed: self.failed.try_clone(alloc)?,
-        })
     }
 }

@@ -8,9 +8,10 @@
 //!   memory.
 //! - By the laws `read_is_spelled`, `spelled_is_read` and `no_packet_begins_another` grammar and spelling fit, and each fault has
 //!   its place (`a_cut_packet_is_short`, `kind_is_the_first_byte`, `range_is_known_at_once`).
-//! - `with`, `union`, `without` and `next_after` of `Processes` are the sets of specs/Sets. `transitional_set`, `least_aru`,
-//!   `greatest_delivered` and `obligation_union` of `CommitMembers` say what the reports of a commit token come to
-//!   (specs/OldRings).
+//! - `Processes` is a set of fixed size: it takes no memory, and is copied like a number. `with`, `union`, `without` and
+//!   `next_after` are the operations of specs/Sets; the first two refuse what would have more than 32 processes (`TooMany`).
+//! - `transitional_set`, `least_aru`, `greatest_delivered` and `obligation_union` of `CommitMembers` say what the reports of a
+//!   commit token come to (specs/OldRings).
 //!
 //! The auditor knows no packets: its crates don't depend on this one.
 #![tactic(auto)]
@@ -38,10 +39,11 @@ mod read_lists;
 mod read_message;
 mod reader;
 mod requests;
-mod set_fault;
 mod sets;
+mod short_list;
 mod token;
 mod token_seq;
+mod too_many;
 mod write_commit;
 mod write_message;
 mod writing;
@@ -63,8 +65,9 @@ pub use packet::Packet;
 pub use payload::Payload;
 pub use processes::Processes;
 pub use requests::Requests;
-pub use set_fault::SetFault;
 pub use sets::is_among;
+pub use short_list::ShortList;
 pub use token::Token;
 pub use token_seq::TokenSeq;
+pub use too_many::TooMany;
 pub use totem_names::{ListFault, Refused};

@@ -1,15 +1,15 @@
 //! What the reports of a commit token say about an old ring (docs/PROTOCOL.md, "Recovery").
-ghost use Rattle.std.specs.Prelude.{◌≡◌, ◌≤◌, length, map, filter, not, IfOk};
+ghost use Rattle.std.specs.Prelude.{◌≡◌, map, IfOk};
 ghost use Rattle.totem_names.specs.Ranks.{id_of};
 ghost use Rattle.totem_packets.specs.Lives.{member_ranks, transitional_ranks};
 ghost use Rattle.totem_packets.specs.Sets.{has, same_processes, Makes};
-ghost use Rattle.totem_packets.specs.OldRings.{processes_of, is_filled, reports_ring, transitional_set, least_aru, greatest_delivered, obligation_union, obligation_from, is_obliged};
+ghost use Rattle.totem_packets.specs.OldRings.{processes_of, is_filled, reports_ring, transitional_set, least_aru, greatest_delivered, obligation_union};
 
 use crate::commit_member::CommitMember;
 use crate::commit_members::CommitMembers;
-use crate::processes::{MOST, Processes};
-use crate::set_fault::SetFault;
-use crate::sets::list_union;
+use crate::processes::Processes;
+use crate::short_list::ShortList;
+use crate::too_many::TooMany;
 use std::alloc::{AllocError, Global};
 use totem_names::{Proc, ProcId, RingId};
 
@@ -23,31 +23,18 @@ impl CommitMember {
             Some(report) => report.ring.seq == old.seq && report.ring.rep == old.rep,
         }
     }
-
-    /// Returns the obligation set that this member reported if it comes from the ring `old`, and no processes otherwise.
-    fn obligation_from(&self, old: &RingId) -> &[ProcId]
-        ensures value { result.now ≡ obligation_from old.now self.now.report }
-        ensures few { length result.now ≤ 32 }
-    {
-        if self.reports_ring(old) {
-            if let Some(report) = &self.report {
-                return report.obligation.as_slice();
-            }
-        }
-        &[]
-    }
 }
 
 impl CommitMembers {
     /// Returns the members' processes.
-    pub fn processes(&self, alloc: Global) -> Result<Processes, AllocError>
-        ensures { IfOk result (λ p. p ≡ processes_of self.now) }
+    pub fn processes(&self) -> Processes
+        ensures { result ≡ processes_of self.now }
     {
-        let mut list = Vec::new(alloc);
+        let mut list = ShortList::new();
         for member in self.as_slice() {
-            list.push(member.proc)?;
+            list.push(member.proc);
         }
-        Ok(Processes::of(list))
+        Processes::of(list)
     }
 
     /// Returns the members, each in the life that it reports from. A member that has not reported counts as being in its first life.
@@ -62,7 +49,7 @@ impl CommitMembers {
         Ok(list)
     }
 
-    /// Returns whether the members are exactly these processes. Takes no memory.
+    /// Returns whether the members are exactly these processes.
     pub fn are(&self, processes: &Processes) -> bool
         ensures { result ≡ same_processes (processes_of self.now) processes.now }
     {
@@ -99,16 +86,16 @@ impl CommitMembers {
     }
 
     /// Returns the transitional set: the members that come from the ring `old`.
-    pub fn transitional_set(&self, alloc: Global, old: &RingId) -> Result<Processes, AllocError>
-        ensures { IfOk result (λ p. p ≡ transitional_set old.now self.now) }
+    pub fn transitional_set(&self, old: &RingId) -> Processes
+        ensures { result ≡ transitional_set old.now self.now }
     {
-        let mut list = Vec::new(alloc);
+        let mut list = ShortList::new();
         for member in self.as_slice() {
             if member.reports_ring(old) {
-                list.push(member.proc)?;
+                list.push(member.proc);
             }
         }
-        Ok(Processes::of(list))
+        Processes::of(list)
     }
 
     /// Returns the transitional set, each member in the life that it reports from.
@@ -158,83 +145,21 @@ impl CommitMembers {
         greatest
     }
 
-    /// Returns whether the process comes from the ring `old`, or is in an obligation set that one of the members of
-    /// `front` from that ring reported.
-    #[tactic(auto, unfolding(crate::specs::OldRings::is_obliged))]
-    fn is_obliged(&self, old: &RingId, front: &[CommitMember], proc: ProcId) -> bool
-        ensures { result ≡ is_obliged old.now self.now front.now proc }
-    {
-        if self.is_from(old, proc) {
-            return true;
-        }
-        for member in front {
-            if let Some(report) = &member.report {
-                if member.reports_ring(old) && report.obligation.contains(proc) {
-                    return true;
-                }
-            }
-        }
-        false
-    }
-
-    /// Counts the processes of this member's obligation set that are neither in the transitional set nor in an
-    /// obligation set that the members of `front` reported.
-    fn newly_obliged(&self, old: &RingId, front: &[CommitMember], member: &CommitMember) -> usize
-        ensures value { result ≡ length (filter (λ p. not (is_obliged old.now self.now front.now p)) (obligation_from old.now member.now.report)) }
-        ensures few { result ≤ 32 }
-    {
-        let obligation = member.obligation_from(old);
-        let mut count = 0usize;
-        for proc in obligation {
-            if !self.is_obliged(old, front, *proc) {
-                count += 1;
-            }
-        }
-        count
-    }
-
-    /// Counts the members that come from the ring `old`.
-    fn count_from(&self, old: &RingId) -> usize
-        ensures value { result ≡ length (transitional_set old.now self.now) }
-        ensures few { result ≤ 32 }
-    {
-        let mut count = 0usize;
-        for member in self.as_slice() {
-            if member.reports_ring(old) {
-                count += 1;
-            }
-        }
-        count
-    }
-
-    /// Counts the processes of the obligation union, which may be more than 32. Takes no memory.
-    pub fn obligation_len(&self, old: &RingId) -> usize
-        ensures { result ≡ length (obligation_union old.now self.now) }
-    {
-        let list = self.as_slice();
-        let mut count = self.count_from(old);
-        for (at, member) in list.iter().enumerate() {
-            count += self.newly_obliged(old, &list[..at], member);
-        }
-        count
-    }
-
     /// Returns the obligation union: the transitional set of the ring `old` and all obligation sets that its members
-    /// reported. `TooMany` if that would be more than 32 processes.
-    pub fn obligation_union(&self, alloc: Global, old: &RingId) -> Result<Processes, SetFault>
+    /// reported, unless that would be more than 32 processes.
+    #[tactic(auto, using(crate::proofs::Longer::rises_set, crate::proofs::Longer::rises_union))]
+    pub fn obligation_union(&self, old: &RingId) -> Result<Processes, TooMany>
         ensures { Makes result (obligation_union old.now self.now) }
     {
-        if self.obligation_len(old) > MOST {
-            return Err(SetFault::TooMany);
-        }
-        let mut all = self.transitional_set(alloc, old)?.into_vec();
+        let mut all = self.transitional_set(old);
+        let _rule = all.as_slice();
         for member in self.as_slice() {
             if let Some(report) = &member.report {
                 if member.reports_ring(old) {
-                    all = list_union(alloc, &all, report.obligation.as_slice())?;
+                    all = all.union(&report.obligation)?;
                 }
             }
         }
-        Ok(Processes::of(all))
+        Ok(all)
     }
 }

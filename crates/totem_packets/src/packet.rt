@@ -73,7 +73,7 @@ impl Packet {
         Ok(match self {
             Packet::Message(message) => Packet::Message(message.try_clone()?),
             Packet::Token(token) => Packet::Token(token.try_clone(alloc)?),
-            Packet::Join(join) => Packet::Join(join.try_clone(alloc)?),
+            Packet::Join(join) => Packet::Join(*join),
             Packet::Commit(token) => Packet::Commit(token.try_clone(alloc)?),
         })
     }

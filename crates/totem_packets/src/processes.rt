@@ -1,18 +1,18 @@
-ghost use Rattle.std.specs.Prelude.{◌≡◌, ◌<◌, ◌^◌, All, IfOk, MatchResult};
+ghost use Rattle.std.specs.Prelude.{◌≡◌, ◌<◌, ◌^◌, All, MatchResult};
 ghost use Rattle.totem_names.specs.Lists.{Refuses};
 ghost use Rattle.totem_packets.specs.Rising.{IsBelow, IsProcesses};
 
-use std::alloc::{AllocError, Global};
+use crate::short_list::ShortList;
 use std::marker::Model;
-use totem_names::{ProcId, Refused, rising};
+use totem_names::{ListFault, ProcId, rising_fault};
 
 /// How many processes a set may have at most.
 pub const MOST: usize = 32;
 
-/// A set of 0 to 32 processes, kept as a strictly ascending list.
-#[derive(Debug, Drop)]
+/// A set of 0 to 32 processes, kept as a strictly ascending list. It takes no memory and is copied like a number.
+#[derive(Clone, Copy, Debug)]
 pub struct Processes {
-    procs: Vec<ProcId>,
+    procs: ShortList,
 }
 
 impl Model for Processes {
@@ -21,25 +21,31 @@ impl Model for Processes {
 
     ghost Value = { List ℕ };
 
-    ghost view = { λ p. p.procs.items };
+    ghost view = { λ p. p.procs };
 
-    ghost invariant = { λ p. IsProcesses p.procs.items };
+    ghost invariant = { λ p. IsProcesses p.procs };
+
+    ghost inverse = { λ ps. record { procs = ps } };
 }
 
 impl Processes {
-    /// Makes the set of these processes. A refusal gives the list back with the first rule that it breaks.
-    pub fn new(procs: Vec<ProcId>) -> Result<Processes, Refused<Vec<ProcId>>>
-        ensures { MatchResult result (λ p. (p ≡ procs.items) × IsProcesses procs.items)
-            (λ r. (r.value.items ≡ procs.items) × Refuses 0 32 IsBelow procs.items r.fault) }
+    /// Makes the set of these processes, or returns the first rule that the list breaks.
+    pub fn new(procs: &[ProcId]) -> Result<Processes, ListFault>
+        ensures { MatchResult result (λ p. (p ≡ procs.now) × IsProcesses procs.now)
+            (λ fault. Refuses 0 32 IsBelow procs.now fault) }
     {
-        let procs = rising(0, MOST, procs)?;
-        Ok(Processes { procs })
+        if let Some(fault) = rising_fault(0, MOST, procs) {
+            return Err(fault);
+        }
+        let mut list = ShortList::new();
+        list.extend(procs);
+        Ok(Processes { procs: list })
     }
 
     /// Makes the set of processes that the caller knows keep the rules.
-    pub fn of(procs: Vec<ProcId>) -> Processes
-        requires { IsProcesses procs.items }
-        ensures { result ≡ procs.items }
+    pub fn of(procs: ShortList) -> Processes
+        requires { IsProcesses procs }
+        ensures { result ≡ procs }
     {
         Processes { procs }
     }
@@ -48,22 +54,6 @@ impl Processes {
         ensures value { result.now ≡ self.now }
         ensures processes { IsProcesses self.now }
     {
-        &self.procs
-    }
-
-    /// Returns the processes as a vector, without taking memory.
-    pub fn into_vec(self) -> Vec<ProcId>
-        ensures { result.items ≡ self }
-    {
-        let Processes { procs } = self;
-        procs
-    }
-
-    pub fn try_clone(&self, alloc: Global) -> Result<Processes, AllocError>
-        ensures { IfOk result (λ p. p ≡ self.now) }
-    {
-        Ok(Processes {
-            procs: self.procs.to_vec(alloc)?,
-        })
+        self.procs.as_slice()
     }
 }

@@ -38,14 +38,14 @@ fn life(reader: &mut Reader, lives: Lives) -> Result<Life, PacketFault>
 }
 
 #[tactic(auto, using(crate::proofs::Falling::passes_on), unfolding(crate::specs::Grammar::report_at))]
-fn report(alloc: Global, reader: &mut Reader, lives: Lives) -> Result<Report, PacketFault>
+fn report(reader: &mut Reader, lives: Lives) -> Result<Report, PacketFault>
     ensures { Reads (λ x. x) result reader.new (report_at lives reader.old) }
 {
     let life = life(reader, lives)?;
     let ring = reader.ring()?;
     let aru = reader.u32()?;
     let delivered = reader.u32()?;
-    let obligation = process_set(alloc, reader)?;
+    let obligation = process_set(reader)?;
     Ok(Report {
         life,
         ring,
@@ -56,33 +56,27 @@ fn report(alloc: Global, reader: &mut Reader, lives: Lives) -> Result<Report, Pa
 }
 
 #[tactic(auto, using(crate::proofs::Falling::passes_on), unfolding(crate::specs::Grammar::maybe_report_at, crate::specs::Grammar::filled_at))]
-fn maybe_report(
-    alloc: Global,
-    reader: &mut Reader,
-    lives: Lives,
-) -> Result<Option<Report>, PacketFault>
+fn maybe_report(reader: &mut Reader, lives: Lives) -> Result<Option<Report>, PacketFault>
     ensures { Reads (λ x. x) result reader.new (maybe_report_at lives reader.old) }
 {
     match reader.u8()? {
         0 => Ok(None),
-        1 => Ok(Some(report(alloc, reader, lives)?)),
+        1 => Ok(Some(report(reader, lives)?)),
         _ => Err(PacketFault::Range),
     }
 }
 
 /// Reads a member whose process is above `least`.
 #[tactic(auto, using(crate::proofs::Falling::passes_on), unfolding(crate::specs::Grammar::member_at))]
-fn member(
-    alloc: Global,
-    reader: &mut Reader,
-    lives: Lives,
-    least: u16,
-) -> Result<CommitMember, PacketFault>
-    ensures { Reads (λ x. x) result reader.new (member_at lives least reader.old) }
+fn member(reader: &mut Reader, lives: Lives, least: u16) -> Result<CommitMember, PacketFault>
+    ensures reads { Reads (λ x. x) result reader.new (member_at lives least reader.old) }
+    ensures rule { IfOk result IsCommitMember }
 {
     let proc = reader.process(least)?;
-    let report = maybe_report(alloc, reader, lives)?;
-    Ok(CommitMember { proc, report })
+    let report = maybe_report(reader, lives)?;
+    let member = CommitMember { proc, report };
+    member.keeps_its_rule();
+    Ok(member)
 }
 
 /// Reads `count` members with strictly ascending processes.
@@ -98,8 +92,9 @@ fn member_list(
     let mut list = Vec::with_capacity(alloc, usize::from(count))?;
     let mut last = 0u16;
     for _ in 0..count {
-        let member = member(alloc, reader, lives, last)?;
-        member.keeps_its_rule();
+        let member = member(reader, lives, last)?;
+        // Without this the prover does not know the type of a report here.
+        let _has_reported = member.report.is_some();
         last = member.proc.number();
         list.push(member)?;
     }

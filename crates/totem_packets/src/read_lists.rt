@@ -1,5 +1,5 @@
 //! Reading strictly ascending lists of numbers and of processes from left to right.
-ghost use Rattle.std.specs.Prelude.{All, IfOk};
+ghost use Rattle.std.specs.Prelude.{◌≤◌, All, IfOk};
 ghost use Rattle.std.specs.Int.{w16, w32};
 ghost use Rattle.totem_names.specs.Texts.{IsProcess};
 ghost use Rattle.totem_packets.specs.Fields.{above_at, rising_at, list_at};
@@ -11,8 +11,8 @@ use crate::number::Number;
 use crate::processes::Processes;
 use crate::reader::Reader;
 use crate::requests::Requests;
+use crate::short_list::ShortList;
 use std::alloc::Global;
-use totem_names::ProcId;
 
 /// Reads `count` strictly ascending numbers.
 fn numbers(alloc: Global, reader: &mut Reader, count: u8) -> Result<Vec<Number>, PacketFault>
@@ -30,16 +30,17 @@ fn numbers(alloc: Global, reader: &mut Reader, count: u8) -> Result<Vec<Number>,
 }
 
 /// Reads `count` strictly ascending processes.
-fn processes(alloc: Global, reader: &mut Reader, count: u8) -> Result<Vec<ProcId>, PacketFault>
-    ensures reads { Reads (λ x. x.items) result reader.new (rising_at (above_at w16) (λ n. n) count 0 reader.old) }
-    ensures each { IfOk result (λ x. All IsProcess x.items) }
+fn processes(reader: &mut Reader, count: u8) -> Result<ShortList, PacketFault>
+    requires { count ≤ 32 }
+    ensures reads { Reads (λ x. x) result reader.new (rising_at (above_at w16) (λ n. n) count 0 reader.old) }
+    ensures each { IfOk result (λ x. All IsProcess x) }
 {
-    let mut procs = Vec::with_capacity(alloc, usize::from(count))?;
+    let mut procs = ShortList::new();
     let mut last = 0u16;
     for _ in 0..count {
         let proc = reader.process(last)?;
         last = proc.number();
-        procs.push(proc)?;
+        procs.push(proc);
     }
     Ok(procs)
 }
@@ -56,10 +57,10 @@ pub fn requests(alloc: Global, reader: &mut Reader) -> Result<Requests, PacketFa
 
 /// Reads a count, and then that many processes of a set.
 #[tactic(auto, using(crate::proofs::Falling::passes_on, crate::proofs::Lists::are_processes), unfolding(crate::specs::Fields::list_at))]
-pub fn process_set(alloc: Global, reader: &mut Reader) -> Result<Processes, PacketFault>
+pub fn process_set(reader: &mut Reader) -> Result<Processes, PacketFault>
     ensures { Reads (λ x. x) result reader.new (list_at w16 32 reader.old) }
 {
     let count = reader.count(32)?;
-    let procs = processes(alloc, reader, count)?;
+    let procs = processes(reader, count)?;
     Ok(Processes::of(procs))
 }

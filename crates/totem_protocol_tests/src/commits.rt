@@ -71,22 +71,6 @@ fn taken(alloc: Global, token: &CommitToken, word: &str) -> Result<CommitOut, Me
     take(alloc, token, &view, word)
 }
 
-fn take_by_copy(
-    alloc: Global,
-    token: &CommitToken,
-    view: &CommitView,
-    word: &str,
-) -> Result<CommitOut, MemberFault> {
-    let copy = view.try_clone(alloc)?;
-    take(alloc, token, &copy, word)
-}
-
-/// Lets a copy of the member's view take the token.
-fn taken_by_copy(alloc: Global, token: &CommitToken, word: &str) -> Result<CommitOut, MemberFault> {
-    let view = view(alloc, word)?;
-    take_by_copy(alloc, token, &view, word)
-}
-
 /// Adds the token's ring, its round, whether all members have reported, and which ones have.
 fn push_token(alloc: Global, text: &mut String, token: &CommitToken) -> Result<(), AllocError> {
     push(text, format!(in alloc; "{} {:?}", token.ring, token.round))?;
@@ -130,24 +114,15 @@ fn push_answer(
     }
 }
 
-/// Does what one word says: `token` shows the token, `second` sets its second round, and any other word lets a
-/// member take it; after `copied-` a copy takes it.
+/// Lets the member of a word take the token.
 fn push_step(
     alloc: Global,
     text: &mut String,
     token: &mut CommitToken,
     word: &str,
 ) -> Result<(), AllocError> {
-    match word.strip_prefix("copied-") {
-        Some(copied) => {
-            let answer = taken_by_copy(alloc, token, copied);
-            push_answer(alloc, text, token, answer)
-        }
-        None => {
-            let answer = taken(alloc, token, word);
-            push_answer(alloc, text, token, answer)
-        }
-    }
+    let answer = taken(alloc, token, word);
+    push_answer(alloc, text, token, answer)
 }
 
 /// Returns what the words show of a token, each with `; ` after it.
@@ -237,9 +212,6 @@ pub(crate) const COMMITS: [Case; 17] = [
         "1:1-2:4:::3-19 2:1-2:4:::18-33 1:1-2:8:filled::3-19",
         "Filled First; Range; ",
     ),
-    // a copy does the same
-    (
-        "1:1-3:4 copied-2:1-3:4 token",
-        "Filled First; 8.1 First no 1 2; ",
-    ),
+    // a report is missing
+    ("1:1-3:4 2:1-3:4 token", "Filled First; 8.1 First no 1 2; "),
 ];

@@ -2,12 +2,11 @@
 use crate::values::{Case, part, proc, push, push_procs, set};
 use std::alloc::{AllocError, Global};
 use totem_member::{Gather, GatherOut, MemberFault};
-use totem_packets::{Join, Number, Processes, SetFault};
+use totem_packets::{Join, Number, Processes, TooMany};
 
 /// Returns the gathering of process `me` with these processes.
-fn gather(alloc: Global, me: u16, base: &str) -> Result<Gather, SetFault> {
-    let base = set(alloc, base)?;
-    Gather::new(alloc, proc(me), &base, Number::of(4))
+fn gather(alloc: Global, me: u16, base: &Processes) -> Result<Gather, TooMany> {
+    Gather::new(alloc, proc(me), base, Number::of(4))
 }
 
 /// Returns the Join of a word such as `4:2:1,2:3`: process 2 has heard of ring number 4, knows 1 and
@@ -37,31 +36,18 @@ fn push_maybe(alloc: Global, text: &mut String, set: &Option<Processes>) -> Resu
 }
 
 fn push_gathered(alloc: Global, text: &mut String, gathering: &Gather) -> Result<(), AllocError> {
-    let members = gathering.gathered(alloc)?;
-    push_procs(alloc, text, members.as_slice())
+    push_procs(alloc, text, gathering.gathered().as_slice())
 }
 
 fn push_consensus(alloc: Global, text: &mut String, gathering: &Gather) -> Result<(), AllocError> {
-    let members = gathering.consensus(alloc)?;
-    push_maybe(alloc, text, &members)
-}
-
-fn copied_join(alloc: Global, gathering: &Gather) -> Result<Join, AllocError> {
-    let copy = gathering.try_clone(alloc)?;
-    copy.join(alloc)
+    push_maybe(alloc, text, &gathering.consensus())
 }
 
 /// Adds the Join of a copy of the gathering: its sender, and the processes it knows.
 fn push_join(alloc: Global, text: &mut String, gathering: &Gather) -> Result<(), AllocError> {
-    let join = copied_join(alloc, gathering)?;
+    let join = gathering.try_clone(alloc)?.join();
     push(text, format!(in alloc; " {}:", join.sender))?;
     push_procs(alloc, text, join.processes.as_slice())
-}
-
-/// Adds the members in a copy of a step's result.
-fn push_copy(alloc: Global, text: &mut String, out: &GatherOut) -> Result<(), AllocError> {
-    let copy = out.try_clone(alloc)?;
-    push_maybe(alloc, text, &copy.members)
 }
 
 /// Adds what this word asks of a gathering.
@@ -115,7 +101,6 @@ impl Step {
         match word {
             "again" => text.push_str(if self.out.again { " yes" } else { " no" }),
             "members" => push_maybe(alloc, text, &self.out.members),
-            "copied" => push_copy(alloc, text, &self.out),
             _ => push_asked(alloc, text, &self.gathering, word),
         }
     }
@@ -148,7 +133,8 @@ impl Step {
 
 /// Lets process 1 gather with these processes, does what the words say, and returns what they ask.
 fn life(alloc: Global, base: &str, words: &str) -> Result<String, AllocError> {
-    match gather(alloc, 1, base) {
+    let base = set(alloc, base)?;
+    match gather(alloc, 1, &base) {
         Ok(gathering) => begun(alloc, gathering, words),
         Err(fault) => format!(in alloc; "{fault:?}"),
     }
@@ -164,38 +150,42 @@ fn begun(alloc: Global, gathering: Gather, words: &str) -> Result<String, AllocE
 
 /// Returns how process `me` gathers with 1 to 32.
 fn gathers_with_32(alloc: Global, me: u16) -> Result<String, AllocError> {
-    match gather(alloc, me, "1-32") {
+    let base = set(alloc, "1-32")?;
+    match gather(alloc, me, &base) {
         Ok(gathering) => format!(in alloc; "{} gathers", gathering.me()),
         Err(fault) => format!(in alloc; "{fault:?}"),
     }
 }
 
-/// Returns the Join of a process that knows only itself.
-fn join_of_one(alloc: Global, me: u16) -> Result<Join, SetFault> {
-    let gathering = gather(alloc, me, "")?;
-    Ok(gathering.join(alloc)?)
-}
-
-fn hear_one(alloc: Global, gathering: &mut Gather, me: u16) -> Result<String, SetFault> {
-    let join = join_of_one(alloc, me)?;
-    let answer = match gathering.on_join(alloc, &join) {
+/// Lets the gathering take the Join of process `me`, which knows only itself.
+fn hear_one(alloc: Global, gathering: &mut Gather, me: u16) -> Result<&'static str, TooMany> {
+    let join = gather(alloc, me, &Processes::none())?.join();
+    Ok(match gathering.on_join(alloc, &join) {
         Ok(_) => "heard",
         Err(fault) => fault.name(),
-    };
-    Ok(String::from_str(alloc, answer)?)
+    })
 }
 
-/// Returns what process 32, which gathers with 1 to 32, does with a Join of this process.
-fn heard_by_32(alloc: Global, me: u16) -> Result<String, SetFault> {
-    let mut gathering = gather(alloc, 32, "1-32")?;
+/// Returns what process 32, which gathers with these processes, does with a Join of process `me`.
+fn heard_by(alloc: Global, base: &Processes, me: u16) -> Result<&'static str, TooMany> {
+    let mut gathering = gather(alloc, 32, base)?;
     hear_one(alloc, &mut gathering, me)
+}
+
+/// Returns what process 32, which gathers with 1 to 32, does with a Join of process `me`.
+fn heard_by_32(alloc: Global, me: u16) -> Result<String, AllocError> {
+    let base = set(alloc, "1-32")?;
+    match heard_by(alloc, &base, me) {
+        Ok(answer) => String::from_str(alloc, answer),
+        Err(fault) => format!(in alloc; "{fault:?}"),
+    }
 }
 
 /// Returns the Join of each gathering.
 fn joins(alloc: Global, all: &[Gather]) -> Result<Vec<Join>, AllocError> {
     let mut joins = Vec::new(alloc);
     for gathering in all {
-        joins.push(gathering.join(alloc)?)?;
+        joins.push(gathering.join())?;
     }
     Ok(joins)
 }
@@ -243,19 +233,20 @@ fn agreed_at_last(
 }
 
 /// Returns a gathering of each process alone.
-fn alone(alloc: Global, all: &Processes) -> Result<Vec<Gather>, SetFault> {
-    let none = Processes::none(alloc);
+fn alone(alloc: Global, all: &Processes) -> Result<Vec<Gather>, AllocError> {
     let mut gathers = Vec::new(alloc);
     for me in all.as_slice() {
-        gathers.push(Gather::new(alloc, *me, &none, Number::of(4))?)?;
+        if let Ok(gathering) = Gather::new(alloc, *me, &Processes::none(), Number::of(4)) {
+            gathers.push(gathering)?;
+        }
     }
     Ok(gathers)
 }
 
 /// Returns how many of these processes, which begin alone, have consensus on all of them in the end.
-fn agree_at_last(alloc: Global, all: &Processes) -> Result<String, SetFault> {
+fn agree_at_last(alloc: Global, all: &Processes) -> Result<String, AllocError> {
     let mut gathers = alone(alloc, all)?;
-    Ok(agreed_at_last(alloc, &mut gathers, all)?)
+    agreed_at_last(alloc, &mut gathers, all)
 }
 
 const FAULTS: [MemberFault; 4] = [
@@ -277,13 +268,6 @@ fn faults(alloc: Global) -> Result<String, AllocError> {
     Ok(text)
 }
 
-fn or_fault(alloc: Global, answer: Result<String, SetFault>) -> Result<String, AllocError> {
-    match answer {
-        Ok(text) => Ok(text),
-        Err(fault) => format!(in alloc; "{fault:?}"),
-    }
-}
-
 /// Returns what the words ask. The first word says what is done: a process gathers with 1 to 32, process 32 gets another's Join,
 /// some processes agree on one set, or 1 gathers with the processes that the word lists and does what the other words say.
 pub(crate) fn told(alloc: Global, words: &str) -> Result<String, AllocError> {
@@ -292,10 +276,10 @@ pub(crate) fn told(alloc: Global, words: &str) -> Result<String, AllocError> {
     match first {
         "faults" => faults(alloc),
         "gathers" => gathers_with_32(alloc, number),
-        "heard" => or_fault(alloc, heard_by_32(alloc, number)),
+        "heard" => heard_by_32(alloc, number),
         "agree" => {
             let all = set(alloc, rest)?;
-            or_fault(alloc, agree_at_last(alloc, &all))
+            agree_at_last(alloc, &all)
         }
         base => life(alloc, base, rest),
     }
@@ -309,10 +293,7 @@ pub(crate) const GATHERINGS: [Case; 11] = [
         "me 1; seq 4; known 1 2; failed; gathered 1 2; consensus none; join 1: 1 2; ",
     ),
     // two agree
-    (
-        "2 4:2:1,2: again copied members",
-        "again no; copied 1 2; members 1 2; ",
-    ),
+    ("2 4:2:1,2: again members", "again no; members 1 2; "),
     // new processes are broadcast again
     (
         "2 8:3:3,4:4 again members known failed seq",

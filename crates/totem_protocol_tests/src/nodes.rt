@@ -58,8 +58,8 @@ fn join(alloc: Global, seq: u32, last: u16) -> Result<Input, Fail> {
     Ok(Input::Packet(Packet::Join(Join {
         sender: proc(2),
         seq: Number::of(seq.max(1)),
-        processes: Processes::new(up_to(alloc, last)?)?,
-        failed: Processes::new(Vec::new(alloc))?,
+        processes: Processes::new(&up_to(alloc, last)?)?,
+        failed: Processes::none(),
     })))
 }
 

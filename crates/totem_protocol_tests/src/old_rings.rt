@@ -39,7 +39,7 @@ fn member_list(alloc: Global, words: &str) -> Result<Vec<CommitMember>, AllocErr
     Ok(list)
 }
 
-/// Adds how far the members from the old ring with this number have come, and to how many processes they owe messages.
+/// Adds how far the members from the old ring with this number have come.
 fn push_counts(
     alloc: Global,
     text: &mut String,
@@ -49,8 +49,7 @@ fn push_counts(
     let old = ring(old);
     let aru = members.least_aru(&old);
     let delivered = members.greatest_delivered(&old);
-    let obliged = members.obligation_len(&old);
-    push(text, format!(in alloc; " {aru} {delivered} {obliged}"))
+    push(text, format!(in alloc; " {aru} {delivered}"))
 }
 
 fn push_truth(text: &mut String, holds: bool) -> Result<(), AllocError> {
@@ -88,7 +87,7 @@ fn push_lives_from(
 }
 
 fn push_all(alloc: Global, text: &mut String, members: &CommitMembers) -> Result<(), AllocError> {
-    let all = members.processes(alloc)?;
+    let all = members.processes();
     push_procs(alloc, text, all.as_slice())
 }
 
@@ -99,7 +98,7 @@ fn push_from(
     members: &CommitMembers,
     old: u32,
 ) -> Result<(), AllocError> {
-    let from = members.transitional_set(alloc, &ring(old))?;
+    let from = members.transitional_set(&ring(old));
     push_procs(alloc, text, from.as_slice())
 }
 
@@ -133,7 +132,7 @@ fn push_answer(
         "from_four" => push_truth(text, members.is_from(&ring(4), proc(number))),
         "counts" => push_counts(alloc, text, members, old),
         "from" => push_from(alloc, text, members, old),
-        _ => push_made(alloc, text, members.obligation_union(alloc, &ring(old))),
+        _ => push_made(alloc, text, members.obligation_union(&ring(old))),
     }
 }
 
@@ -164,10 +163,10 @@ pub(crate) const OLD_RINGS: [Case; 6] = [
         "1:4,7,5,1:1,3,6 2:8,1,9,1:2,8 3:4,4,6,1:3,4 ? all from:4 obliged:4 are:1,2,3 are:1,2 are:1,2,4 filled",
         "all 1 2 3; from:4 1 3; obliged:4 1 3 4 6; are:1,2,3 yes; are:1,2 no; are:1,2,4 no; filled yes; ",
     ),
-    // the least number that is held up to, the greatest delivered one, and the number of processes in the obligation set
+    // the least number that is held up to, and the greatest delivered one
     (
         "1:4,7,5,1:1,3,6 2:8,1,9,1:2,8 3:4,4,6,1:3,4 ? from_four:3 from_four:2 counts:4 counts:12",
-        "from_four:3 yes; from_four:2 no; counts:4 4 6 4; counts:12 0 0 0; ",
+        "from_four:3 yes; from_four:2 no; counts:4 4 6; counts:12 0 0; ",
     ),
     ("1 ? filled from:4", "filled no; from:4; "),
     // 2 has returned twice, and 4 has not reported
@@ -181,6 +180,6 @@ pub(crate) const OLD_RINGS: [Case; 6] = [
     ),
     (
         "1:4,0,0,1:10-34 2:4,0,0,1:30-54 ? counts:4 obliged:4",
-        "counts:4 0 0 47; obliged:4 there are more than 32 processes; ",
+        "counts:4 0 0; obliged:4 there are more than 32 processes; ",
     ),
 ];

@@ -272,31 +272,13 @@ fn is_message_copied(message: &Message) -> Result<bool, AllocError> {
     Ok(message.body.is(&body) && message.is(&message.try_clone()?))
 }
 
-fn is_member_copied(alloc: Global, member: &CommitMember) -> Result<bool, AllocError> {
-    if let Some(report) = &member.report {
-        if !report.is(&report.try_clone(alloc)?) {
-            return Ok(false);
-        }
-    }
-    Ok(member.is(&member.try_clone(alloc)?))
-}
-
-fn is_commit_token_copied(alloc: Global, token: &CommitToken) -> Result<bool, AllocError> {
-    for member in token.members.as_slice() {
-        if !is_member_copied(alloc, member)? {
-            return Ok(false);
-        }
-    }
-    Ok(token.is(&token.try_clone(alloc)?))
-}
-
 /// Returns whether the copy of what the packet carries, and of each of its parts, is equal to it.
 fn is_part_copied(alloc: Global, packet: &Packet) -> Result<bool, AllocError> {
     match packet {
         Packet::Message(message) => is_message_copied(message),
         Packet::Token(token) => Ok(token.is(&token.try_clone(alloc)?)),
-        Packet::Join(join) => Ok(join.is(&join.try_clone(alloc)?)),
-        Packet::Commit(token) => is_commit_token_copied(alloc, token),
+        Packet::Join(join) => Ok(join.is(join)),
+        Packet::Commit(token) => Ok(token.is(&token.try_clone(alloc)?)),
     }
 }
 

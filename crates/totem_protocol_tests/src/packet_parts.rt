@@ -6,7 +6,7 @@ use std::alloc::{AllocError, Global};
 use totem_names::ProcId;
 use totem_packets::{
     CommitMember, CommitMembers, Life, ListFault, Number, PacketFault, Payload, Processes,
-    Requests, TokenSeq, a_cut_packet_is_short, is_among, kind_5_tells_later_lives,
+    Requests, ShortList, TokenSeq, a_cut_packet_is_short, is_among, kind_5_tells_later_lives,
     kind_is_the_first_byte, memory_is_no_fault_of_bytes, no_packet_begins_another,
     range_is_known_at_once, read_is_spelled, short_has_nothing_wrong, spelled_is_read,
     trailing_is_behind_a_packet,
@@ -106,19 +106,16 @@ fn refused_in_words(alloc: Global, list: Vec<Number>) -> Result<String, AllocErr
     }
 }
 
-/// Returns the processes of a set, and those of its copy.
 fn kept_processes(alloc: Global, processes: &Processes) -> Result<String, AllocError> {
     let mut text = String::new(alloc);
     push_procs(alloc, &mut text, processes.as_slice())?;
-    text.push_str(",")?;
-    push_procs(alloc, &mut text, &processes.try_clone(alloc)?.into_vec())?;
     Ok(text)
 }
 
-fn processes(alloc: Global, list: Vec<ProcId>) -> Result<String, AllocError> {
+fn processes(alloc: Global, list: &[ProcId]) -> Result<String, AllocError> {
     match Processes::new(list) {
         Ok(processes) => kept_processes(alloc, &processes),
-        Err(refused) => refusal(alloc, &refused.fault, refused.value.len()),
+        Err(fault) => refusal(alloc, &fault, list.len()),
     }
 }
 
@@ -159,7 +156,7 @@ fn told_of_list(alloc: Global, kind: &str, values: &[u32]) -> Result<String, All
 /// Returns what is made of a list.
 fn listed(alloc: Global, kind: &str, given: &str) -> Result<String, AllocError> {
     if kind == "processes" {
-        return processes(alloc, procs(alloc, given)?);
+        return processes(alloc, &procs(alloc, given)?);
     }
     let numbers = numbers(alloc, given)?;
     told_of_list(alloc, kind, &numbers)
@@ -172,7 +169,7 @@ fn known(alloc: Global) -> Result<String, AllocError> {
     let greatest = TokenSeq::of(18_446_744_073_709_551_615).get();
     let is_kept = Payload::of(Bytes::from_static(b"x")).as_slice() == b"x".as_slice();
     let requests = Requests::of(Vec::new(alloc)).as_slice().len();
-    let processes = Processes::of(Vec::new(alloc)).as_slice().len();
+    let processes = Processes::of(ShortList::new()).as_slice().len();
     format!(in alloc; "{number} {first} {ninth} {greatest} {is_kept} {requests} {processes}")
 }
 
@@ -225,7 +222,7 @@ pub(crate) const PARTS: [Case; 21] = [
     ("requests 1,3,3", "3 back, no rise at 2"),
     ("requests 1-65", "65 back, more than 64"),
     ("refusal 1-65", "more than 64 elements"),
-    ("processes 1,2,65535", " 1 2 65535, 1 2 65535"),
+    ("processes 1,2,65535", " 1 2 65535"),
     ("processes 2,1", "2 back, no rise at 1"),
     ("processes 1-33", "33 back, more than 32"),
     ("members 1-3", "3 3"),

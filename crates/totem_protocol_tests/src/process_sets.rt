@@ -2,9 +2,9 @@
 use crate::values::{Case, proc, push_made, push_procs, set};
 use std::alloc::{AllocError, Global};
 use totem_names::ProcId;
-use totem_packets::{Processes, SetFault};
+use totem_packets::{Processes, TooMany};
 
-fn told_made(alloc: Global, made: Result<Processes, SetFault>) -> Result<String, AllocError> {
+fn told_made(alloc: Global, made: Result<Processes, TooMany>) -> Result<String, AllocError> {
     let mut text = String::new(alloc);
     push_made(alloc, &mut text, made)?;
     Ok(text)
@@ -30,17 +30,15 @@ fn relation(alloc: Global, left: &Processes, right: &Processes) -> Result<String
     format!(in alloc; "{} {}", left.is_within(right), left.is(right))
 }
 
-/// Returns the number of processes in the union, and its processes.
+/// Returns the processes of the union.
 fn union(alloc: Global, left: &Processes, right: &Processes) -> Result<String, AllocError> {
-    let mut text = format!(in alloc; "{}:", left.union_len(right))?;
-    push_made(alloc, &mut text, left.union(alloc, right))?;
-    Ok(text)
+    told_made(alloc, left.union(right))
 }
 
 /// Returns the left set without the right one.
 fn difference(alloc: Global, left: &Processes, right: &Processes) -> Result<String, AllocError> {
     let mut text = String::new(alloc);
-    push_procs(alloc, &mut text, left.without(alloc, right)?.as_slice())?;
+    push_procs(alloc, &mut text, left.without(right).as_slice())?;
     Ok(text)
 }
 
@@ -68,7 +66,7 @@ fn told_of_one(
     match asked {
         "size" => size(alloc, left),
         "place" => place(alloc, left, proc(number)),
-        "with" => told_made(alloc, left.with(alloc, proc(number))),
+        "with" => told_made(alloc, left.with(proc(number))),
         _ => {
             let right = set(alloc, right)?;
             told_of_two(alloc, asked, left, &right)
@@ -79,7 +77,7 @@ fn told_of_one(
 /// Returns the set of these processes; `none` is made without a list.
 fn named(alloc: Global, text: &str) -> Result<Processes, AllocError> {
     match text {
-        "none" => Ok(Processes::none(alloc)),
+        "none" => Ok(Processes::none()),
         _ => set(alloc, text),
     }
 }
@@ -110,8 +108,8 @@ pub(crate) const SETS: [Case; 22] = [
     ("relation 2,3,5,9 2,3,5,9", "true true"),
     ("relation 2,3,5,9 2,3,5", "false false"),
     ("relation 2,3,5,9 2,3,5,8", "false false"),
-    ("union 1,3,5 2,3", "4: 1 2 3 5"),
-    ("union 1-32 20-39", "39: there are more than 32 processes"),
+    ("union 1,3,5 2,3", " 1 2 3 5"),
+    ("union 1-32 20-39", " there are more than 32 processes"),
     ("difference 1,3,5 2,3", " 1 5"),
     ("with 1,3,5 4", " 1 3 4 5"),
     ("with 1,3,5 3", " 1 3 5"),

@@ -3,7 +3,7 @@ use bytes::Bytes;
 use std::alloc::{AllocError, Global};
 use std::fmt::Debug;
 use totem_names::{Proc, ProcId, RingId, Service};
-use totem_packets::{Body, Payload, Processes, SetFault};
+use totem_packets::{Body, Payload, Processes, TooMany};
 use totem_ring::RingState;
 
 /// Steps and questions in words, and their expected results.
@@ -53,10 +53,7 @@ pub fn procs(alloc: Global, text: &str) -> Result<Vec<ProcId>, AllocError> {
 
 /// Returns the set of these processes, or the empty set if they do not ascend.
 pub fn set(alloc: Global, text: &str) -> Result<Processes, AllocError> {
-    match Processes::new(procs(alloc, text)?) {
-        Ok(set) => Ok(set),
-        Err(_) => Ok(Processes::none(alloc)),
-    }
+    Ok(Processes::new(&procs(alloc, text)?).unwrap_or(Processes::none()))
 }
 
 /// Returns the part of a word after this many `:`.
@@ -100,7 +97,7 @@ pub fn push_procs(alloc: Global, text: &mut String, procs: &[ProcId]) -> Result<
 pub fn push_made(
     alloc: Global,
     text: &mut String,
-    made: Result<Processes, SetFault>,
+    made: Result<Processes, TooMany>,
 ) -> Result<(), AllocError> {
     match made {
         Ok(processes) => push_procs(alloc, text, processes.as_slice()),

@@ -10,11 +10,8 @@ use std::alloc::{AllocError, Global};
 use std::sync::Arc;
 use totem_evs::Members;
 use totem_names::{ProcId, RingId};
-use totem_packets::{CommitMembers, CommitToken, Processes, SetFault};
+use totem_packets::{CommitMembers, CommitToken, Processes, TooMany};
 use totem_ring::RingState;
-
-/// How many processes a set may have at most.
-const MOST: usize = 32;
 
 /// Returns whether a recovery may begin: in the token `me` reports the ring of `prev`, and O has at most 32 processes.
 /// Takes no memory.
@@ -22,7 +19,7 @@ pub fn is_ready(me: ProcId, prev: &RingState, token: &CommitToken) -> bool
     ensures { IsTrue result ↔ IsReady me prev.now token.now }
 {
     let old = prev.ring();
-    token.members.is_from(&old, me) && token.members.obligation_len(&old) <= MOST
+    token.members.is_from(&old, me) && token.members.obligation_union(&old).is_ok()
 }
 
 /// Returns the members of the new ring, in the lives that they reported.
@@ -52,36 +49,27 @@ pub(crate) fn transitional_of(
 }
 
 /// Returns the obligation union: the processes to which the members from the ring `old` owe the delivery of their messages.
-pub(crate) fn obliged_of(
-    alloc: Global,
-    old: &RingId,
-    members: &CommitMembers,
-) -> Result<Processes, AllocError>
+pub(crate) fn obliged_of(old: &RingId, members: &CommitMembers) -> Processes
     requires { length (obligation_union old.now members.now) ≤ 32 }
-    ensures { IfOk result (λ p. p ≡ obligation_union old.now members.now) }
+    ensures { result ≡ obligation_union old.now members.now }
 {
-    match members.obligation_union(alloc, old) {
-        Ok(obliged) => Ok(obliged),
-        Err(SetFault::TooMany) => unreachable!(),
-        Err(SetFault::Memory) => Err(AllocError),
+    match members.obligation_union(old) {
+        Ok(obliged) => obliged,
+        Err(TooMany) => unreachable!(),
     }
 }
 
 /// Returns the obligation set that this process reported.
-pub(crate) fn reported_obligation(
-    alloc: Global,
-    members: &CommitMembers,
-    proc: ProcId,
-) -> Result<Processes, AllocError>
-    ensures { IfOk result (λ p. p ≡ reported_obligation members.now proc) }
+pub(crate) fn reported_obligation(members: &CommitMembers, proc: ProcId) -> Processes
+    ensures { result ≡ reported_obligation members.now proc }
 {
     for member in members.as_slice() {
         if member.proc == proc {
             return match &member.report {
-                None => Ok(Processes::none(alloc)),
-                Some(report) => report.obligation.try_clone(alloc),
+                None => Processes::none(),
+                Some(report) => report.obligation,
             };
         }
     }
-    Ok(Processes::none(alloc))
+    Processes::none()
 }

@@ -5,22 +5,16 @@ use std::test::Fail;
 use totem_member::{
     Act, CommitOut, CommitView, Gather, GatherOut, MemberFault, Phase, first_commit, on_commit,
 };
-use totem_packets::{CommitToken, Join, Life, Number, Processes, Report, SetFault};
+use totem_packets::{CommitToken, Join, Life, Number, Processes, Report};
 
 /// Returns the set of the processes from 1 to this one.
 fn set(alloc: Global, last: u16) -> Result<Processes, Fail> {
-    Ok(Processes::new(procs(alloc, last)?)?)
-}
-
-fn without(alloc: Global, set: &Processes, others: &Processes) -> Result<Processes, AllocError> {
-    again!(set.without(alloc, others))
+    Ok(Processes::new(&procs(alloc, last)?)?)
 }
 
 /// Returns the set of process 3 alone.
 fn third(alloc: Global) -> Result<Processes, Fail> {
-    let two = set(alloc, 2)?;
-    let three = set(alloc, 3)?;
-    Ok(without(alloc, &three, &two)?)
+    Ok(set(alloc, 3)?.without(&set(alloc, 2)?))
 }
 
 /// Returns a Join of process 2, which knows `processes` and gave up `failed`.
@@ -41,16 +35,6 @@ fn agreed(out: &GatherOut) -> usize {
     }
 }
 
-fn copied_out(alloc: Global, out: &GatherOut) -> Result<GatherOut, AllocError> {
-    again!(out.try_clone(alloc))
-}
-
-/// Returns the same number from a copy.
-fn agreed_by_copy(alloc: Global, out: &GatherOut) -> Result<usize, AllocError> {
-    let copy = copied_out(alloc, out)?;
-    Ok(agreed(&copy))
-}
-
 fn on_join(alloc: Global, gathering: &mut Gather, join: &Join) -> Result<GatherOut, MemberFault> {
     again!(gathering.on_join(alloc, join))
 }
@@ -58,12 +42,12 @@ fn on_join(alloc: Global, gathering: &mut Gather, join: &Join) -> Result<GatherO
 /// Takes a Join. Returns the number of members on which there is consensus then.
 fn hear(alloc: Global, gathering: &mut Gather, join: &Join) -> Result<usize, MemberFault> {
     let out = on_join(alloc, gathering, join)?;
-    Ok(agreed_by_copy(alloc, &out)?)
+    Ok(agreed(&out))
 }
 
 /// Takes a Join of 2, which knows 1, 2 and 3.
 fn hear_all(alloc: Global, gathering: &mut Gather) -> Result<usize, Fail> {
-    let join = join(set(alloc, 3)?, Processes::none(alloc));
+    let join = join(set(alloc, 3)?, Processes::none());
     Ok(hear(alloc, gathering, &join)?)
 }
 
@@ -92,44 +76,13 @@ fn agreements(alloc: Global, gathering: &mut Gather) -> Result<[usize; 3], Fail>
     Ok([heard, silent, last])
 }
 
-fn own_join(alloc: Global, gathering: &Gather) -> Result<Join, AllocError> {
-    again!(gathering.join(alloc))
-}
-
-/// Returns the number of processes that the gathering knows.
-fn known(alloc: Global, gathering: &Gather) -> Result<usize, AllocError> {
-    let join = own_join(alloc, gathering)?;
-    Ok(join.processes.as_slice().len())
-}
-
-fn gathered_set(alloc: Global, gathering: &Gather) -> Result<Processes, AllocError> {
-    again!(gathering.gathered(alloc))
-}
-
-/// Returns the number of processes with which it would form a ring.
-fn gathered(alloc: Global, gathering: &Gather) -> Result<usize, AllocError> {
-    let set = gathered_set(alloc, gathering)?;
-    Ok(set.as_slice().len())
-}
-
-fn consensus_set(alloc: Global, gathering: &Gather) -> Result<Option<Processes>, AllocError> {
-    again!(gathering.consensus(alloc))
-}
-
-/// Returns the number of processes with which it has consensus.
-fn consensus(alloc: Global, gathering: &Gather) -> Result<usize, AllocError> {
-    let set = consensus_set(alloc, gathering)?;
-    Ok(match &set {
-        None => 0,
-        Some(members) => members.as_slice().len(),
-    })
-}
-
 /// Returns how many processes the gathering knows, would form a ring with, and has consensus with.
-fn sizes(alloc: Global, gathering: &Gather) -> Result<[usize; 3], AllocError> {
-    let known = known(alloc, gathering)?;
-    let gathered = gathered(alloc, gathering)?;
-    Ok([known, gathered, consensus(alloc, gathering)?])
+fn sizes(gathering: &Gather) -> [usize; 3] {
+    [
+        gathering.join().processes.len(),
+        gathering.gathered().len(),
+        gathering.consensus().map_or(0, |members| members.len()),
+    ]
 }
 
 fn copied(alloc: Global, gathering: &Gather) -> Result<Gather, AllocError> {
@@ -137,8 +90,7 @@ fn copied(alloc: Global, gathering: &Gather) -> Result<Gather, AllocError> {
 }
 
 fn sizes_of_copy(alloc: Global, gathering: &Gather) -> Result<[usize; 3], AllocError> {
-    let copy = copied(alloc, gathering)?;
-    sizes(alloc, &copy)
+    Ok(sizes(&copied(alloc, gathering)?))
 }
 
 fn found(alloc: Global, gathering: &mut Gather) -> Result<([usize; 3], [usize; 3]), Fail> {
@@ -146,13 +98,9 @@ fn found(alloc: Global, gathering: &mut Gather) -> Result<([usize; 3], [usize; 3
     Ok((agreements, sizes_of_copy(alloc, gathering)?))
 }
 
-fn begun(alloc: Global, base: &Processes) -> Result<Gather, SetFault> {
-    again!(Gather::new(alloc, proc(1), base, Number::of(4)))
-}
-
 fn gather(alloc: Global) -> Result<Gather, Fail> {
     let base = set(alloc, 3)?;
-    Ok(begun(alloc, &base)?)
+    Ok(Gather::new(alloc, proc(1), &base, Number::of(4))?)
 }
 
 /// Returns the number of processes with consensus each time, and at last the sizes of a copy: known, gathered, with consensus.
@@ -169,31 +117,26 @@ fn a_gathering_agrees(rt: HostRuntime) -> Result<(), Fail> {
     Ok(())
 }
 
-fn copied_view(alloc: Global, view: &CommitView) -> Result<CommitView, AllocError> {
-    again!(view.try_clone(alloc))
-}
-
 /// Returns the view of a member of the ring of 1 and 2, which has filled the token of ring 8.1 if a phase is given.
 fn view(alloc: Global, me: u16, phase: Option<Phase>) -> Result<CommitView, Fail> {
     let members = set(alloc, 2)?;
-    let view = CommitView {
+    Ok(CommitView {
         me: proc(me),
         members,
         seq: Number::of(if phase.is_some() { 8 } else { 4 }),
         filled: phase.map(|_| ring(8)),
         phase: phase.unwrap_or(Phase::Commit),
         started: false,
-    };
-    Ok(copied_view(alloc, &view)?)
+    })
 }
 
-fn report(alloc: Global) -> Report {
+fn report() -> Report {
     Report {
         life: Life::first(),
         ring: four(),
         aru: 3,
         delivered: 2,
-        obligation: Processes::none(alloc),
+        obligation: Processes::none(),
     }
 }
 
@@ -201,7 +144,7 @@ fn once_made(alloc: Global, view: &CommitView) -> Result<CommitToken, MemberFaul
     if !view.members.contains(view.me) {
         return Err(MemberFault::Stranger);
     }
-    first_commit(alloc, view, report(alloc))
+    first_commit(alloc, view, report())
 }
 
 fn made_by(alloc: Global, view: &CommitView) -> Result<CommitToken, MemberFault> {
@@ -222,7 +165,7 @@ fn once_taken(
     token: &CommitToken,
     view: &CommitView,
 ) -> Result<CommitOut, MemberFault> {
-    on_commit(alloc, token, view, report(alloc))
+    on_commit(alloc, token, view, report())
 }
 
 fn taken(alloc: Global, token: &CommitToken, view: &CommitView) -> Result<CommitOut, MemberFault> {

@@ -91,7 +91,7 @@ fn heard(alloc: Global, me: u16) -> Result<RingState, RingFault> {
     Ok(state)
 }
 
-fn reporting(alloc: Global, me: u16, delivered: u32) -> CommitMember {
+fn reporting(me: u16, delivered: u32) -> CommitMember {
     CommitMember {
         proc: proc(me),
         report: Some(Report {
@@ -99,15 +99,15 @@ fn reporting(alloc: Global, me: u16, delivered: u32) -> CommitMember {
             ring: four(),
             aru: 6,
             delivered,
-            obligation: Processes::none(alloc),
+            obligation: Processes::none(),
         }),
     }
 }
 
 fn once_members(alloc: Global) -> Result<Vec<CommitMember>, AllocError> {
     let mut members = Vec::new(alloc);
-    members.push(reporting(alloc, 1, 2))?;
-    members.push(reporting(alloc, 2, 3))?;
+    members.push(reporting(1, 2))?;
+    members.push(reporting(2, 3))?;
     Ok(members)
 }
 

@@ -8,5 +8,4 @@ pub returns-in_err-token : goal.returns-in_err-token
 returns-in_err-token c =
     let p = err_from_is_err_and c.from_residual-in_err-token.result c.from_residual-in_err-token.ensures.1 in
     grown c.args.token.now c.args.view.now c.args.report c.in_ok-act.act c.from_residual-in_err-token.result
-    (answer c.args.token.now c.args.view.now c.args.report c.of.result c.none-nobody.result c.in_ok-act.act c.of.ensures.view c.none-nobody.ensures c.of.ensures.report
-    (sym c.in_ok-act.was ∙ c.commit_act.ensures)) (p.1 ∙ ap (λ e. Err e) p.2)
+    (answer c.args.token.now c.args.view.now c.args.report c.in_ok-act.act (sym c.in_ok-act.was ∙ c.commit_act.ensures)) (p.1 ∙ ap (λ e. Err e) p.2)

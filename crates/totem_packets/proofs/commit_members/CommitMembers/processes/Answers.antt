@@ -4,5 +4,5 @@ use Rattle.totem_packets.proofs.commit_members.CommitMembers.processes.Goals as 
 
 pub of-requires : goal.of-requires
 of-requires c =
-    rw (c.loop-member.invariant, take_all c.loop-member.member-index c.as_slice-member-items.result.now c.loop-member-test.false, c.as_slice-member-items.ensures.value)
+    rw (c.loop-member.invariant.so_far, take_all c.loop-member.member-index c.as_slice-member-items.result.now c.loop-member-test.false, c.as_slice-member-items.ensures.value)
     (all_are c.args.self.now c.as_slice-member-items.ensures.members)

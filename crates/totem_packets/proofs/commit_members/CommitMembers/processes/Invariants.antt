@@ -1,6 +1,9 @@
-use Rattle.std.proofs.Common.{◌≡◌, take}
+use Rattle.std.proofs.Common.{◌≡◌, ◌≤◌, length, take}
 use Rattle.totem_packets.specs.OldRings.{processes_of}
 use Rattle.totem_packets.proofs.commit_members.CommitMembers.processes.Given as goal
 
 abbrev pub invariant-loop-member : goal.invariant-loop-member
-invariant-loop-member l = l.list.items ≡ processes_of (take l.member-index l.member-items)
+invariant-loop-member l = record {
+  so_far : l.list ≡ processes_of (take l.member-index l.member-items);
+  few : length l.list ≤ l.member-index;
+}

@@ -1,0 +1,6 @@
+use Rattle.std.proofs.Common.{◌≡◌, drop}
+use Rattle.totem_member.specs.Commits.{report_of}
+use Rattle.totem_member.proofs.act.has_reported_this.Given as goal
+
+abbrev pub invariant-loop-member : goal.invariant-loop-member
+invariant-loop-member l = report_of l.members l.proc ≡ report_of (drop l.member-index l.members) l.proc

@@ -1,6 +1,0 @@
-use Rattle.std.proofs.Common.{◌≡◌, drop}
-use Rattle.totem_member.specs.Commits.{report_of}
-use Rattle.totem_member.proofs.shown.Shown.has_reported_this.Given as goal
-
-abbrev pub invariant-loop-member : goal.invariant-loop-member
-invariant-loop-member l = report_of l.members l.self.me ≡ report_of (drop l.member-index l.members) l.self.me

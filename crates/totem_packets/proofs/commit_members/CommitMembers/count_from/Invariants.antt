@@ -1,9 +1,0 @@
-use Rattle.std.proofs.Common.{◌≡◌, ◌≤◌, length, take}
-use Rattle.totem_packets.specs.OldRings.{transitional_set}
-use Rattle.totem_packets.proofs.commit_members.CommitMembers.count_from.Given as goal
-
-abbrev pub invariant-loop-member : goal.invariant-loop-member
-invariant-loop-member l = record {
-  so_far : l.count ≡ length (transitional_set l.old (take l.member-index l.member-items));
-  few : l.count ≤ l.member-index;
-}
