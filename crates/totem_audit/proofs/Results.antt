@@ -8,11 +8,11 @@ use Rattle.totem_pass_d.specs.declared.findings.Findings.{Findings}
 use Rattle.totem_pass_d.specs.Jobs.{AreFindingsAt}
 use Rattle.totem_audit.specs.Jobs.{IsRight}
 use Rattle.totem_audit.specs.Results.{IsJobOf, HasJob, IsFoundBy}
-use Rattle.totem_audit.proofs.Rings.{one_list}
+use Rattle.totem_laws.proofs.OneList.{rings_one}
 
 -- a job is in every list of the rings
 stands : (run : List Log) (rings : List RingId) (job : ℕ) (c : RingId) → AreRings run rings → (is : IsJobOf run job c) → slice_get rings is.index ≡ Some c
-stands run rings job c are is = rw (one_list run rings is.rings are is.are) is.at
+stands run rings job c are is = rw (rings_one run rings is.rings are is.are) is.at
 
 -- a number beyond the rings belongs to no job
 pub none_of : (run : List Log) (rings : List RingId) (job count : ℕ) → AreRings run rings → count ≡ length rings → ((index : ℕ) → job ≡ index + 1 → count ≤ index) → HasJob run job → ⊥

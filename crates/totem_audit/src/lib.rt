@@ -1,8 +1,7 @@
 //! The audit of a run: the verdict of its passes, its parts as calls of their own, and the walk that decides for two processes whether one
 //! keeps the order of the other.
 //!
-//! The events are ordered first, and the run is observed along that order; only specifications that this does not show to be met are
-//! searched. What may be relied on:
+//! The events are ordered first, and the run is judged along that order, as the checker does (totem_check). What may be relied on:
 //! - The verdict of `audit`, and of `audit_with` for any number of workers, is the answer that docs/SPECIFICATIONS.md ("Passes")
 //!   defines (`IsAnswered`), and means what it says (`IsSound`, both of totem_evs): a yes that the run meets specifications 1 to 7,
 //!   with its certificate and all that is left open; a no that the places of each fault break its specification.

@@ -1,1 +1,3 @@
+pub mod AllRings
+pub mod Judging
 pub mod Checking

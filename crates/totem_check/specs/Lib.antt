@@ -1,2 +1,3 @@
 pub mod CheckFaults
 pub mod Checks
+pub mod Judged

@@ -4,12 +4,23 @@
 //! pending and who waits (`Checks`, specs/Checks); a refusal is right (`RefusesRightly`), and `Broken` names the first fault that the
 //! audit would list (`IsFirstFault`). Out of memory says nothing.
 //!
+//! `judge` judges a run along an order of its events (`IsJudged`, specs/Judged): the checker after the tests of the certificate, and the
+//! audit once it has found an order. `early_along` and `LastPass` are its parts, for an audit with workers.
+//!
 //! Module `checker` begins with what a yes depends on.
 #![tactic(auto)]
 
+mod accepted;
 mod check_fault;
 mod checker;
+mod early;
+mod judgement;
+mod last_pass;
 
+pub use accepted::Accepted;
 pub use check_fault::CheckFault;
-pub use checker::{Accepted, check};
+pub use checker::check;
+pub use early::{Early, early_along};
+pub use judgement::{Judgement, judge};
+pub use last_pass::LastPass;
 pub use totem_judge_certificate::{CertificateFault, certified};

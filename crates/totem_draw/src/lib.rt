@@ -1,5 +1,5 @@
 //! A run drawn as a picture: a lane for each process, bands for its configurations, its sends and deliveries, and the places of a
-//! fault (docs/SPECIFICATIONS.md, "Pictures").
+//! fault (docs/PROGRAM.md, "Pictures").
 //!
 //! What may be relied on: `draw_no` and `draw_yes` return, whatever run, faults and lists they are given, and fail only as out of
 //! memory. No contract says what is drawn: tests show that.

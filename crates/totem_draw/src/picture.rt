@@ -1,4 +1,4 @@
-//! A whole picture (docs/SPECIFICATIONS.md, "Pictures").
+//! A whole picture (docs/PROGRAM.md, "Pictures").
 use crate::bands::push_bands;
 use crate::choice::lanes_of;
 use crate::events::{most_letters, push_events};

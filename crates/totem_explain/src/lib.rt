@@ -1,5 +1,5 @@
 //! Explanations of an audit for people: what happened at the places of a fault, what is missing, and the log lines around them
-//! (docs/SPECIFICATIONS.md, "Explanations").
+//! (docs/PROGRAM.md, "Explanations").
 //!
 //! What may be relied on:
 //! - `explain_no` explains each fault that it is given, once and in their order (its contract compares the faults).

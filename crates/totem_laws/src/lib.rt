@@ -9,7 +9,7 @@
 //! - `answers_are_one`: a run has at most one answer, and at most one of each of its parts (`least_breaks_are_one` and the like,
 //!   specs/OneAnswer).
 //!
-//! No crate depends on this one, and nothing of it runs: it says what the definitions of totem_evs mean together.
+//! Nothing of it runs: it says what the definitions of totem_evs mean together. The audit uses that a run has one list of its rings.
 #![tactic(auto)]
 
 mod excuses;

@@ -12,28 +12,25 @@ use Rattle.totem_evs.specs.declared.log.Log.{Log}
 use Rattle.totem_evs.specs.Events.{ChangesTo}
 use Rattle.totem_evs.specs.Answers.{IsRing, AreRings}
 use Rattle.totem_evs.specs.Runs.{IsRun}
-use Rattle.totem_evs.proofs.LogOf.{log_of_cases, log_of_at, less_or_not}
-use Rattle.totem_audit.proofs.Rings.{first_or_rest, in_rest, is_first, first_below, rest_rises}
+use Rattle.totem_evs.proofs.LogOf.{log_of_cases, log_of_at}
+use Rattle.totem_names.proofs.Orderings.{ring_strict}
 
-same_ring : (c d : RingId) → c.seq ≡ d.seq → c.rep ≡ d.rep → c ≡ d
-same_ring c d seq rep = let R : ℕ → ℕ → RingId = λ s r. record { seq = s; rep = r } in let same : R c.seq c.rep ≡ R d.seq d.rep = cc in same
+first_or_rest : (a : RingId) (xs : List RingId) (c : RingId) → Contains (a ∷ xs) c → (a ≡ c) ⊎ Contains xs c
+first_or_rest a xs c (zero, lt, is) = inl is
+first_or_rest a xs c (suc i, lt, is) = inr (i, omega (arith, lt), is)
 
-below_or_not : (c d : RingId) → RingBelow c d ⊎ (RingBelow d c ⊎ (c ≡ d))
-below_or_not c d = elim (less_or_not c.seq d.seq) [
-  | inl lt ↦ inl (inl lt)
-  | inr (inl gt) ↦ inr (inl (inl gt))
-  | inr (inr seq) ↦ elim (less_or_not c.rep d.rep) [
-    | inl lt ↦ inl (inr (seq, lt))
-    | inr (inl gt) ↦ inr (inl (inr (sym seq, gt)))
-    | inr (inr rep) ↦ inr (inr (same_ring c d seq rep))
-  ]
-]
+pub in_rest : (a : RingId) (xs : List RingId) (c : RingId) → Contains xs c → Contains (a ∷ xs) c
+in_rest a xs c (i, lt, is) = (suc i, omega (arith, lt), is)
 
-below_both : (a b c : RingId) → RingBelow a b → RingBelow b c → RingBelow a c
-below_both a b c (inl lt) (inl more) = inl (omega (arith, lt, more))
-below_both a b c (inl lt) (inr more) = inl (omega (arith, lt, more.0))
-below_both a b c (inr lt) (inl more) = inl (omega (arith, lt.0, more))
-below_both a b c (inr lt) (inr more) = inr (omega (arith, lt.0, more.0), omega (arith, lt.1, more.1))
+pub is_first : (a : RingId) (xs : List RingId) → Contains (a ∷ xs) a
+is_first a xs = (zero, omega arith, refl)
+
+-- the first is below the rest
+first_below : (a : RingId) (xs : List RingId) (c : RingId) → AllPairs RingBelow (a ∷ xs) → Contains xs c → RingBelow a c
+first_below a xs c rising (i, lt, is) = let P : RingId → Type 0 = λ x. RingBelow a x in subst P is (rising 0 (suc i) c (omega arith) (omega (arith, lt)))
+
+rest_rises : (a : RingId) (xs : List RingId) → AllPairs RingBelow (a ∷ xs) → AllPairs RingBelow xs
+rest_rises a xs rising = λ i j d lt within. rising (suc i) (suc j) d (omega (arith, lt)) (omega (arith, within))
 
 -- an ascending list of what a fact holds for
 record Listed (Has : RingId → Type 0) : Type 0 where
@@ -63,18 +60,18 @@ module _ (a : RingId) where
     rising = rises_from a [] (λ c (k, lt, is). absurd (omega (arith, lt))) rising;
     exact = λ c. (λ h. elim (first_or_rest a [] c h) [ inl is ↦ inl (sym is) | inr has ↦ inr has ], λ h. elim h [ inl is ↦ subst (λ d. Contains (a ∷ []) d) (sym is) (is_first a []) | inr has ↦ in_rest a [] c has ]);
   }
-  with_ring (x ∷ xs) rising = elim (below_or_not a x) [
+  with_ring (x ∷ xs) rising = elim (ring_strict.total a x) [
     | inl lt ↦ record {
       list = a ∷ x ∷ xs;
-      rising = rises_from a (x ∷ xs) (λ c has. elim (first_or_rest x xs c has) [ inl is ↦ subst (λ d. RingBelow a d) is lt | inr more ↦ below_both a x c lt (first_below x xs c rising more) ]) rising;
+      rising = rises_from a (x ∷ xs) (λ c has. elim (first_or_rest x xs c has) [ inl is ↦ subst (λ d. RingBelow a d) is lt | inr more ↦ ring_strict.goes_on a x c lt (first_below x xs c rising more) ]) rising;
       exact = λ c. (λ h. elim (first_or_rest a (x ∷ xs) c h) [ inl is ↦ inl (sym is) | inr has ↦ inr has ], λ h. elim h [ inl is ↦ subst (λ d. Contains (a ∷ x ∷ xs) d) (sym is) (is_first a (x ∷ xs)) | inr has ↦ in_rest a (x ∷ xs) c has ]);
     }
-    | inr (inr same) ↦ record {
+    | inr (inl same) ↦ record {
       list = x ∷ xs;
       rising = rising;
       exact = λ c. (λ h. inr h, λ h. elim h [ inl is ↦ subst (λ d. Contains (x ∷ xs) d) (sym same ∙ sym is) (is_first x xs) | inr has ↦ has ]);
     }
-    | inr (inl gt) ↦
+    | inr (inr gt) ↦
         let rest = with_ring xs (rest_rises x xs rising) in
         record {
           list = x ∷ rest.list;
