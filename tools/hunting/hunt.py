@@ -74,6 +74,7 @@ def _work(path, blocks, first, last, pipe, parent):
 
     signals.ignore_ending()
     signal.signal(signal.SIGTERM, end)
+    signals.release()
     signals.end_with_parent(signal.SIGTERM, parent)
     try:
         hunter = _Hunter(program, first, last, pipe.send)
@@ -86,7 +87,7 @@ def _work(path, blocks, first, last, pipe, parent):
 
 
 class Hunt:
-    """Hunts through seeds, in this many processes, and reports to `found` what they find."""
+    """Hunts through seeds, in this many processes, and reports to `found` what they find. It is made while signals are held."""
 
     def __init__(self, program, first, last, jobs, found):
         blocks = range(first // BLOCK, last // BLOCK + 1)

@@ -65,8 +65,9 @@ def _hunt(asked):
 
     found = Found(asked.keep, judge)
     found.check_folder()
-    hunt = Hunt(program, *asked.seeds, asked.jobs, found)
-    signals.on_ending(hunt.ask_to_end)
+    with signals.held():
+        hunt = Hunt(program, *asked.seeds, asked.jobs, found)
+        signals.on_ending(hunt.ask_to_end)
     progress = Progress()
     try:
         if not hunt.follow(lambda: progress.show('%d runs, %d no' % (found.counts['runs'], found.counts['no']))):

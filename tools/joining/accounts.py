@@ -180,7 +180,7 @@ class Account:
                 continue
             if last is not None and delivered[name][0] < delivered[self.names[last]][0]:
                 self._swap(last, index, 'delivers the first one in line %d and the second one in line %d' % (
-                    delivered[self.names[last]][0], delivered[name][0]))
+                    self.log.line_of(delivered[self.names[last]][0]), self.log.line_of(delivered[name][0])))
             else:
                 last = index
 
@@ -188,7 +188,8 @@ class Account:
         self.swaps += 1
         if self.swaps <= MOST_TOLD:
             self.swapped.append('%s: sends %s (line %d) and then %s (line %d), and %s' % (
-                self.log.name, self.names[first].decode(), self.lines[first], self.names[second].decode(), self.lines[second], what))
+                self.log.name, self.names[first].decode(), self.log.line_of(self.lines[first]), self.names[second].decode(),
+                self.log.line_of(self.lines[second]), what))
 
     def settle(self, delivered_in, counts, is_order_unknown):
         """Places the sends of messages that the process never delivered. `delivered_in` has the configuration from which others delivered them,
@@ -207,7 +208,7 @@ class Account:
                 self.kept_back.add(index)
                 if bound <= max(self.segments[self.goals[index]].first, self.lines[index]):
                     self._swap(index, later, 'the second one has to come before line %d, and the first one into %s' % (
-                        bound, self.segments[self.goals[index]].configuration.decode()))
+                        self.log.line_of(bound), self.segments[self.goals[index]].configuration.decode()))
             later, bound = index, self.places[index]
 
     def _place_missing(self, index, delivered_in, counts, indexes):

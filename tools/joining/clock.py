@@ -2,15 +2,19 @@
 
     958.707 end 2:1
     960.714 start 2:2
-    961.300 conf r26.1"""
+    961.300 conf r26.1
+
+A time is in seconds, or as before a line of a log (joining.lines)."""
 import re
 from decimal import Decimal
 from typing import NamedTuple
 
 from joining.entries import MOST_LIFE
+from joining.lines import instant
 from joining.trouble import Refused
 
-LINE = re.compile(r'([0-9]{1,30}(?:\.[0-9]{1,30})?) (?:(start|end) ([1-9][0-9]{0,19}):([1-9][0-9]{0,4})|conf ([rt][0-9./]+))')
+SECONDS = re.compile(r'[0-9]{1,30}(?:\.[0-9]{1,30})?')
+LINE = re.compile(r'([0-9]\S{0,60}) (?:(start|end) ([1-9][0-9]{0,19}):([1-9][0-9]{0,4})|conf ([rt][0-9./]+))')
 ALWAYS, NEVER = Decimal('-Infinity'), Decimal('Infinity')
 
 
@@ -19,6 +23,14 @@ class Note(NamedTuple):
 
     time: Decimal
     line: int
+
+
+def _time(word):
+    """A time as a number that can be compared, or None if it is none."""
+    if SECONDS.fullmatch(word):
+        return Decimal(word)
+    found = instant(word.encode('ascii', 'replace'))
+    return Decimal(found[0]) + Decimal('0.%s' % (found[1].decode() or '0')) if found else None
 
 
 class Clock:
@@ -40,9 +52,10 @@ class Clock:
 
     def _read(self, number, line):
         found = LINE.fullmatch(line)
-        if not found:
+        time = _time(found[1]) if found else None
+        if time is None:
             self.refuse(number, 'a line is TIME start P:L, TIME end P:L or TIME conf CONFIGURATION')
-        note = Note(Decimal(found[1]), number)
+        note = Note(time, number)
         if found[5]:
             known = self.changes.setdefault(found[5].encode(), note)
             if note.time < known.time:

@@ -108,7 +108,8 @@ def torn_at(logs, cut):
             if change.configuration in before:
                 other, earlier = before[change.configuration]
                 return '%s is no place to cut: %s comes before it in %s (line %d), and after it in %s (line %d)' % (
-                    cut.configuration.decode(), change.configuration.decode(), other.name, earlier.before + 1, log.name, change.before + 1)
+                    cut.configuration.decode(), change.configuration.decode(), other.name, other.line_of(earlier.before + 1), log.name,
+                    log.line_of(change.before + 1))
     return None
 
 
@@ -151,13 +152,16 @@ class Cutting:
         """A member between two cuts that has no log there, in words, or None."""
         there = self._there(begin, end)
         have = {(self.logs[index].process, self.logs[index].life) for index in there}
+        others = {(log.process, log.life) for log in self.logs}
         for index in there:
             first, last, _ = self._range(index, begin, end)
             log = self.logs[index]
             for change in log.changes[first:last]:
                 for process, life in change.members:
-                    if (process, life or self.life_of(log, change.configuration, process)) not in have:
-                        return '%s has the member %d, whose log is entirely before or after it' % (change.configuration.decode(), process)
+                    who = process, life or self.life_of(log, change.configuration, process)
+                    if who not in have:
+                        why = 'whose log is entirely before or after it' if who in others else 'which has no log'
+                        return '%s has the member %d, %s' % (change.configuration.decode(), process, why)
         return None
 
     def flaw(self, begin, end):
@@ -185,10 +189,11 @@ class Cutting:
         parts = []
         for index in self._there(begin, end):
             log = self.logs[index]
-            first, last, _ = self._range(index, begin, end)
+            first, last, count = self._range(index, begin, end)
             start = log.changes[first].offset if begin.entries[index] else 0
             is_last = end.entries[index] == log.entries and not self._is_cut_through(index, end)
-            parts.append(Part(log, start, log.size if end.entries[index] == log.entries else _end_of(log, last), is_last))
+            size = log.size if end.entries[index] == log.entries else _end_of(log, last)
+            parts.append(Part(log, start, size, is_last, end.entries[index] - count + 1, end.entries[index]))
         return parts
 
 
@@ -206,8 +211,7 @@ def _trimmed(log, cut, index, changes):
     trimmed = replace(log, changes=log.changes[:cut.changes[index]], entries=kept)
     if kept < log.entries:
         tell('%s: entries left out after its change to %s: %d' % (log.name, name, log.entries - kept))
-        last = (log.source or log).changes[cut.changes[index] - 1].before + 1
-        changes.add('%s, after line %d: left out' % (log.name, last))
+        changes.add('%s, after line %d: left out' % (log.name, log.line_of(kept)))
         trimmed.size = _end_of(log, cut.changes[index])
     if trimmed.changes and trimmed.changes[-1].configuration == cut.configuration and log.ending != 'open':
         tell('%s: is open after its change to %s, and no longer %s' % (log.name, name, log.ending))
@@ -239,5 +243,5 @@ def trim(logs, life_of, changes):
             changes.add('%s: left out' % log.name)
         if cut.entries[index] < log.entries:
             begin = trimmed[-1].size if cut.entries[index] else 0
-            rest.append(Part(log, begin, log.size, True))
+            rest.append(Part(log, begin, log.size, True, cut.entries[index] + 1, log.entries))
     return trimmed, rest

@@ -1,13 +1,15 @@
-"""The logs of a folder: a file P.log for each process P, or P.L.log for each life L of it."""
+"""The logs of a folder: a file P.log for each process P, or P.L.log for each life L of it; with patterns, other names."""
 import os
 import re
 from dataclasses import dataclass, field
 from typing import NamedTuple, Optional
 
 from joining.entries import MOST_LIFE, MOST_PROCESS
+from joining.line_numbers import LineNumbers
 from joining.trouble import Refused, tell
 
-NAME = re.compile(r'([1-9][0-9]{0,19})(?:\.([1-9][0-9]{0,19}))?\.log')
+# How files of logs are called if no pattern says so.
+PATTERNS = ('{P}.log', '{P}.{L}.log')
 # How many bytes are read at once, and the length above which a line is surely not an entry.
 BLOCK = 1 << 17
 MOST_OF_A_LINE = 1 << 20
@@ -40,10 +42,16 @@ class Log:
     changes: list = field(default_factory=list)
     # What an argument adds after its entries.
     added: bytes = b''
-    # When the file was last written, in nanoseconds.
+    # The log's own file, as opposed to one for temporary use, and when it was last written, in nanoseconds.
+    file: str = ''
     written: int = 0
-    # If its sends were moved: the log as it is in its file.
-    source: 'Optional[Log]' = None
+    # Which line of that file each entry is, and a file with the times of these lines, if there are any (joining.lines).
+    lines: LineNumbers = field(default_factory=LineNumbers)
+    times: Optional[str] = None
+
+    def line_of(self, entry):
+        """The line of an entry in the log's own file."""
+        return self.lines.of(entry)
 
     def end_as(self, ending, changes):
         """Closes the log in another way."""
@@ -92,6 +100,7 @@ def measure(log):
     """Finds where the entries of a log end, and whether it says that it is quiet. Returns what was cut off behind its last line."""
     with open(log.path, 'rb') as it:
         status = os.fstat(it.fileno())
+        log.file = log.path
         log.written, size = status.st_mtime_ns, status.st_size
         log.size = _last_line_end(it, size)
         if log.size < size:
@@ -106,12 +115,58 @@ def measure(log):
     return b''
 
 
-def _read_name(name, is_numbered_anew):
+def is_pattern(pattern):
+    """Whether a text is a pattern of names: with one {P}, with {L} at most once, not right beside it, and without a folder."""
+    parts = re.split(r'\{[PL]\}', pattern)
+    return pattern.count('{P}') == 1 and pattern.count('{L}') <= 1 and '' not in parts[1:-1] and not re.search(r'[/\n]', pattern)
+
+
+def _form_of(pattern, number):
+    """A regular expression for the names of a pattern, with these numbers in it."""
+    names = {'{P}': '(?P<process>%s)' % number, '{L}': '(?P<life>%s)' % number}
+    return re.compile(''.join(names.get(part) or re.escape(part) for part in re.split(r'(\{[PL]\})', pattern)))
+
+
+def fits(name, patterns):
+    """What a name says by the first pattern that it has, as a match, or None. Without patterns it is P.log or P.L.log."""
+    found = (_form_of(pattern, r'[1-9][0-9]{0,19}').fullmatch(name) for pattern in patterns or PATTERNS)
+    return next(filter(None, found), None)
+
+
+def _is_nearly(name, patterns):
+    """Whether a name has a pattern but for numbers with leading zeros, or of too many digits."""
+    return any(_form_of(pattern, r'[0-9]+').fullmatch(name) for pattern in patterns)
+
+
+def _names(folder, patterns):
+    """The names of the logs of a folder. Reports others that may be logs."""
+    if patterns:
+        files = sorted(name for name in os.listdir(folder) if os.path.isfile(os.path.join(folder, name)))
+        names = [name for name in files if fits(name, patterns) or _is_nearly(name, patterns)]
+        what = 'have no --pattern'
+        wanted = ' or '.join(patterns)
+    else:
+        files = sorted(name for name in os.listdir(folder) if '.log' in name)
+        names = [name for name in files if name.endswith('.log')]
+        what, wanted = 'do not end with .log', 'P.log or P.L.log'
+    if not names:
+        raise Refused('%s has no file %s' % (folder, wanted))
+    others = [name for name in files if name not in names]
+    if others:
+        tell('not read, since their names %s: %s' % (what, ', '.join(map(repr, others))))
+    return names
+
+
+def _read_name(name, patterns, is_numbered_anew):
     """The process and the life that a file's name contains."""
-    found = NAME.fullmatch(name)
+    found = fits(name, patterns)
+    if not found and patterns:
+        raise Refused('%s: the number is not a process, or not a life: they are written without leading zeros' % name)
     if not found:
-        raise Refused('%s: the name is not a process: a log is called P.log, or P.L.log for life L of P, such as 3.log or 3.2.log' % name)
-    process, life = int(found[1]), int(found[2]) if found[2] else None
+        raise Refused('%s: the name is not a process: a log is called P.log, or P.L.log for life L of P, such as 3.log or 3.2.log '
+                      '(--pattern allows other names)' % name)
+    process, life = int(found['process']), found.groupdict().get('life')
+    life = int(life) if life else None
     if process > MOST_PROCESS and not is_numbered_anew:
         raise Refused('%s: process %d is past %d; --renumber renumbers processes' % (name, process, MOST_PROCESS))
     if life and life > MOST_LIFE:
@@ -128,24 +183,18 @@ def _refuse_twins(logs):
             raise Refused('%s and %s are two logs of one life' % (other.name, log.name))
 
 
-def find(folder, is_numbered_anew, adds_lives):
+def find(asked):
     """The logs of a folder in the order of a run: by process, then by life. If lives are added, P.log is the log of life 1."""
-    names = sorted(name for name in os.listdir(folder) if name.endswith('.log'))
-    if not names:
-        raise Refused('%s has no file P.log or P.L.log' % folder)
-    others = sorted(name for name in os.listdir(folder) if '.log' in name and not name.endswith('.log'))
-    if others:
-        tell('not read, since their names do not end with .log: %s' % ', '.join(map(repr, others)))
     logs = []
-    for name in names:
-        process, life = _read_name(name, is_numbered_anew)
-        logs.append(Log(name, os.path.join(folder, name), process, life))
+    for name in _names(asked.folder, asked.pattern):
+        process, life = _read_name(name, asked.pattern, asked.renumber)
+        logs.append(Log(name, os.path.join(asked.folder, name), process, life))
     _refuse_twins(logs)
-    if len({log.life is None for log in logs}) == 2 and not adds_lives:
+    if len({log.life is None for log in logs}) == 2 and not asked.lives:
         with_life = next(log for log in logs if log.life is not None)
         without = next(log for log in logs if log.life is None)
         raise Refused('%s has a life, and %s has none: give each of them its life, or say --lives' % (with_life.name, without.name))
-    if adds_lives:
+    if asked.lives:
         for log in logs:
             log.life = log.life or 1
     return sorted(logs, key=lambda log: (log.process, log.life or 1))
@@ -154,7 +203,7 @@ def find(folder, is_numbered_anew, adds_lives):
 def tell_written(logs):
     """Reports logs that were written since they were measured."""
     for log in logs:
-        written = os.stat(log.path).st_mtime_ns
+        written = os.stat(log.file).st_mtime_ns
         if written != log.written:
             log.written = written
             tell('%s was written while it was read: copy the files only after the processes have stopped' % log.name)
@@ -163,5 +212,5 @@ def tell_written(logs):
 def check_unwritten(logs):
     """Refuses logs that were written since that report."""
     for log in logs:
-        if os.stat(log.path).st_mtime_ns != log.written:
+        if os.stat(log.file).st_mtime_ns != log.written:
             raise Refused('%s was written while the run was made from it: don\'t use what was made' % log.name)

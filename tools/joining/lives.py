@@ -211,21 +211,37 @@ class Lives:
         return self.clock.lives_at(process, lives, configuration, self.came[configuration].items())
 
     def _refuse(self):
-        """Asks for the lives that are not known."""
-        lines = []
+        """Asks for the lives that are not known. All processes that have no log come first, each once."""
+        lines, first = [], {}
         for (configuration, process), (log, change) in self.unknown.items():
             possible = self.possible.get(process, ())
             lives = _listed(process, possible) if self._lives_of(process) else 'there is no log of it'
             if self.clock and self._lives_of(process) and not self._have_run(process, possible, configuration):
                 lives += ', none of which ran then, by the clock'
-            lines.append('%s, line %d: which life of %d is a member of %s? No log of it changes there: %s' % (
-                log.name, change.before + 1, process, configuration.decode(), lives))
+            line = '%s, line %d: which life of %d is a member of %s? No log of it changes there: %s' % (
+                log.name, log.line_of(change.before + 1), process, configuration.decode(), lives)
+            if self._lives_of(process):
+                lines.append(line)
+            else:
+                first.setdefault(process, line)
         lines[MOST_ASKED:] = ['.. and %d more' % (len(lines) - MOST_ASKED)] if len(lines) > MOST_ASKED else []
+        lines = [*first.values(), *lines]
         lines.append('Name each with --member CONFIGURATION=P:L, or give the times of the lives with --clock FILE')
         lines += ['There is no log of %s: if it was a member of no configuration, say --absent %s' % (
             _listed(process, lost), _ranges(process, lost))
             for process, lost in self._lost() if any(process == other for _, other in self.unknown)]
         raise Refused('\n  '.join(lines))
+
+    def listed(self):
+        """The first change that lists each member with its life: the log, the entry and the configuration."""
+        first, seen = {}, set()
+        for log in self.logs:
+            for change in log.changes:
+                is_new = (change.configuration, change.members) not in seen
+                seen.add((change.configuration, change.members))
+                for process, _ in change.members if is_new else ():
+                    first.setdefault((process, self.of(log, change.configuration, process)), (log, change.before + 1, change.configuration))
+        return first
 
     def write(self, changes):
         """Adds the life of each member of each configuration to the list of changes."""

@@ -1,8 +1,11 @@
 """Reads logs from their first line to their last: whether each line is an entry, how many there are, and where they change."""
+import os
 import re
+from functools import partial
 
 from joining import entries
 from joining.folder import Change, blocks, measure
+from joining.lines import Checksums, Plain
 from joining.trouble import Refused, shown, tell
 
 
@@ -18,8 +21,8 @@ def _shortened(block, number):
     return block
 
 
-def _refuse(log, line, what):
-    raise Refused('%s, line %d: %s' % (log.name, line, what))
+def _refuse(log, entry, what):
+    raise Refused('%s, line %d: %s' % (log.name, log.line_of(entry), what))
 
 
 def _check_lines(log, block, before, is_numbered_anew):
@@ -50,18 +53,18 @@ def read_members(words):
     return tuple(members)
 
 
-def _check_change(log, line, members, adds_lives):
+def _check_change(log, entry, members, adds_lives):
     """Refuses a change whose members are not ascending, or do not have lives exactly if the log's file has one."""
     what = entries.flaw_of_members(members)
     if what:
-        _refuse(log, line, what)
+        _refuse(log, entry, what)
     with_life = [life is not None for _, life in members]
     if adds_lives and any(with_life):
-        _refuse(log, line, 'a member has a life already: leave --lives out')
+        _refuse(log, entry, 'a member has a life already: leave --lives out')
     if log.life is None and any(with_life):
-        _refuse(log, line, 'a member has a life, and the name of the file has none: call it P.L.log, such as %d.1.log' % log.process)
+        _refuse(log, entry, 'a member has a life, and the name of the file has none: call it P.L.log, such as %d.1.log' % log.process)
     if log.life is not None and not adds_lives and not all(with_life):
-        _refuse(log, line, 'a member has no life, and the name of the file has one: --lives adds lives to members')
+        _refuse(log, entry, 'a member has no life, and the name of the file has one: --lives adds lives to members')
 
 
 class Scan:
@@ -75,6 +78,8 @@ class Scan:
         self.sees = sees
         self.is_known = is_known
         self.plain = entries.PLAIN_TO_NUMBER if is_numbered_anew else entries.PLAIN
+        # The lists of members that there are, and the first change that lists each member: its log, its entry and its configuration.
+        self.lists, self.listed = set(), {}
         # Long ring numbers that are in range, which come again in nearly each line.
         self.long = []
 
@@ -96,22 +101,36 @@ class Scan:
 
     def _take_changes(self, log, block, offset):
         """Takes note of the changes of a block, which begins at this offset."""
-        counted, line = 0, log.entries
+        counted, before = 0, log.entries
         for at in change_lines(block):
-            line += block.count(b'\n', counted, at)
+            before += block.count(b'\n', counted, at)
             counted = at
             words = block[at:block.index(b'\n', at)].split(b' ')
             members = read_members(words[2:])
-            _check_change(log, line + 1, members, self.adds_lives)
+            _check_change(log, before + 1, members, self.adds_lives)
             log.last = words[1]
+            if members not in self.lists:
+                self.lists.add(members)
+                for member in members:
+                    self.listed.setdefault(member, (log, before + 1, words[1]))
             if self.keeps_changes:
-                log.changes.append(Change(offset + at, line, words[1], members))
+                log.changes.append(Change(offset + at, before, words[1], members))
 
-    def read(self, log):
-        """Reads one log."""
+    def read(self, log, make_plain=None):
+        """Reads one log. If it has more than entries, `make_plain` lets it have these alone, and it is read from its beginning again."""
+        if not self._read_blocks(log, make_plain is not None):
+            make_plain()
+            log.entries, log.last = 0, b''
+            log.changes.clear()
+            self._read_blocks(log, False)
+
+    def _read_blocks(self, log, stops):
+        """Reads the blocks of a log. Returns False if it stops at one that has more than entries."""
         offset, block = 0, b''
         for block in blocks(log.path, 0, log.size):
             if not self.is_known and not self._is_plain(block):
+                if stops:
+                    return False
                 _check_lines(log, block, log.entries, self.is_numbered_anew)
             self._take_changes(log, block, offset)
             if self.sees:
@@ -122,14 +141,20 @@ class Scan:
             if log.ending == 'quiet':
                 _refuse(log, log.entries + 1, 'quiet comes after a failure')
             log.ending = 'failed'
+        return True
 
-    def read_all(self, logs, changes):
-        """Reads all logs, and returns those that have an entry."""
+    def read_all(self, logs, working, keeps_times, changes):
+        """Reads all logs, and returns those that have an entry. Those with more than entries are written into a folder for temporary files."""
+        checksums = Checksums()
         for log in logs:
             cut_off = measure(log)
-            self.read(log)
+            plain = Plain(log, os.path.join(working, log.name + '.plain'), checksums,
+                          os.path.join(working, log.name + '.times') if keeps_times else None)
+            self.read(log, partial(plain.write, bool(cut_off)))
+            plain.tell(changes)
             if cut_off:
-                changes.add('%s, line %d: left out: %s' % (log.name, log.entries + 1, shown(cut_off)))
+                changes.add('%s, line %d: left out: %s' % (log.name, log.line_of(log.entries + 1), shown(cut_off)))
+        checksums.check()
         for log in logs:
             if not log.entries:
                 tell('%s has no entry, and is left out' % log.name)

@@ -4,6 +4,7 @@ from collections import Counter
 
 from joining.accounts import Account, pieces, regular_at
 from joining.folder import Log
+from joining.line_numbers import LineNumbers
 from joining.scan import Scan
 from joining.trouble import MOST_TOLD, Refused, some, tell, tell_each
 
@@ -70,16 +71,33 @@ class Rewriting:
             lines[place - first] = self._moved_line(index) + lines[place - first]
         return b''.join(lines)
 
+    def line_numbers(self):
+        """Which line of the log's own file each entry is when the log is written."""
+        log, numbers, entry, line, gone, placed = self.account.log, LineNumbers(), 1, 1, 0, 0
+        while line <= log.entries or placed < len(self.placed):
+            if placed < len(self.placed) and self.placed[placed][0] <= line:
+                numbers.add(entry, log.line_of(self.account.lines[self.placed[placed][1]]))
+                entry, placed = entry + 1, placed + 1
+            elif gone < len(self.gone) and self.gone[gone] == line:
+                line, gone = line + 1, gone + 1
+            else:
+                nexts = [*self.gone[gone:gone + 1], *(place for place, _ in self.placed[placed:placed + 1]), log.entries + 1]
+                for first, last, own in log.lines.rows(line, min(nexts) - 1):
+                    numbers.add(entry, own)
+                    entry, line = entry + last - first + 1, last + 1
+        return numbers
+
     def list_changes(self):
         """Adds each change to the list."""
         account = self.account
         for _, index in self.placed:
             place, moved, taken = account.places[index], self._moved_line(index), self._taken_line(index)
-            where = 'just before line %d' % place if place <= account.log.entries else 'the end'
+            where = 'just before line %d' % account.log.line_of(place) if place <= account.log.entries else 'the end'
             self.changes.add('%s, line %d: moved to %s, as %s: %s' % (
-                account.log.name, account.lines[index], where, moved[:-1].decode(), taken[:-1].decode()))
+                account.log.name, account.log.line_of(account.lines[index]), where, moved[:-1].decode(), taken[:-1].decode()))
         for index in sorted(account.left_out):
-            self.changes.add('%s, line %d: left out: %s' % (account.log.name, account.lines[index], self._taken_line(index)[:-1].decode()))
+            self.changes.add('%s, line %d: left out: %s' % (
+                account.log.name, account.log.line_of(account.lines[index]), self._taken_line(index)[:-1].decode()))
 
     def tell(self):
         """Reports what was moved, what was left out, and what stays."""
@@ -132,9 +150,10 @@ def move_sends(logs, working, scan_words, asked, changes):
     _check_orders(accounts, asked.own_order_unknown)
     moved = []
     for log, account in zip(logs, accounts):
-        path = os.path.join(working, log.name)
+        path = os.path.join(working, log.name + '.moved')
         rewriting = Rewriting(account, changes)
-        new = Log(log.name, path, log.process, log.life, size=rewriting.write(path), added=log.added, source=log)
+        new = Log(log.name, path, log.process, log.life, size=rewriting.write(path), added=log.added, file=log.file,
+                  lines=rewriting.line_numbers(), times=log.times)
         rewriting.tell()
         rewriting.list_changes()
         Scan(is_known=True, **scan_words).read(new)

@@ -14,7 +14,7 @@ def reserve():
         sys.stderr = os.fdopen(2, 'w', encoding='utf-8', errors='backslashreplace', closefd=False)
 
 
-def _give_up(stream, number):
+def give_up(stream, number):
     """Lets a stream that takes nothing more end in /dev/null, so that the end of this process does not try it again."""
     with open(os.devnull, 'wb') as it:
         os.dup2(it.fileno(), number)
@@ -26,10 +26,12 @@ def _give_up(stream, number):
 
 def say(text, end='\n'):
     """Writes a message to standard error, if that takes it."""
+    if sys.stderr is None:
+        return
     try:
         print(text, end=end, file=sys.stderr, flush=True)
     except (OSError, ValueError):
-        _give_up(sys.stderr, 2)
+        give_up(sys.stderr, 2)
 
 
 def write(content):
@@ -40,6 +42,6 @@ def write(content):
         sys.stdout.buffer.write(content)
         sys.stdout.buffer.flush()
     except (OSError, ValueError):
-        _give_up(sys.stdout, 1)
+        give_up(sys.stdout, 1)
         return False
     return True

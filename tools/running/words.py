@@ -2,11 +2,17 @@
 import argparse
 import sys
 
-from running import streams
+from running import signals, streams
 
 
 class Words(argparse.ArgumentParser):
-    """Usage errors have the status 64, as those of totem have."""
+    """Usage errors have the status 64, as those of totem have, and help that can't be written the status 4."""
+
+    def print_help(self, file=None):
+        """Writes the help to standard output."""
+        if not streams.write(self.format_help().encode()):
+            streams.say('%s: write failed' % self.prog.split(' ')[0])
+            sys.exit(4)
 
     def error(self, message):
         streams.say('%s%s: %s' % (self.format_usage(), self.prog, message))
@@ -19,4 +25,5 @@ def status_of(call, *given):
         status = call(*given)
     except SystemExit as end:
         status = end.code or 0
+    signals.ignore_to_the_end()
     return status if streams.write(b'') or sys.stdout is None else 4

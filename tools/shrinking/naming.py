@@ -108,3 +108,12 @@ def of_least_version(run):
     if run.version == 1 or any(not log.process.endswith(':1') for log in run.logs):
         return run._replace(version=min(run.version, 2))
     return Names(process=lambda process: process.partition(':')[0]).of(run)._replace(version=1)
+
+
+def changed(before, run):
+    """The names of a run that had others before, each with that other one: first processes, then configurations, then messages."""
+    pairs = [('process ' + new.process, 'process ' + old.process) for old, new in zip(before.logs, run.logs)]
+    entries = [pair for old, new in zip(before.logs, run.logs) for pair in zip(old.entries, new.entries)]
+    pairs += [(new.configuration, old.configuration) for old, new in entries]
+    pairs += [(new.message, old.message) for old, new in entries]
+    return [(new, old) for new, old in dict.fromkeys(pairs) if new != old]

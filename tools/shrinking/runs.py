@@ -30,14 +30,25 @@ def kinds_of(run, verdict):
     return told
 
 
+def is_sent(run, place):
+    """Whether any log sends the message that is delivered at a place."""
+    message = entry_at(run, place).message
+    return any(entry.kind == 'send' and entry.message == message for log in run.logs for entry in log.entries)
+
+
 class Aim:
-    """What has to stay the same: the broken specifications, or only that this one is among them; and, if asked for, the kinds of the events
-    that the first fault of each names."""
+    """What has to stay the same: the broken specifications, or only that this one is among them; whether a message that breaks 1.3 was sent
+    elsewhere or nowhere; and, if asked for, the kinds of the events that the first fault of each names."""
 
     def __init__(self, run, verdict, specification=None, same_places=False):
         self.broken = (specification,) if specification else verdict.broken
         self.is_among = bool(specification)
         self.kinds = self._kinds(run, verdict) if same_places else None
+        self.sent = self._sent(run, verdict)
+
+    def _sent(self, run, verdict):
+        places = [places[0] for specification, places in verdict.faults if specification == '1.3' and specification in self.broken]
+        return is_sent(run, places[0]) if places else None
 
     def _kinds(self, run, verdict):
         told = kinds_of(run, verdict)
@@ -49,13 +60,15 @@ class Aim:
             return False
         if not (set(self.broken) <= set(verdict.broken) if self.is_among else self.broken == verdict.broken):
             return False
+        if self.sent != self._sent(run, verdict):
+            return False
         return self.kinds is None or self.kinds == self._kinds(run, verdict)
 
 
 class RunShrinker:
     """Makes a broken run small. `tell` is called with the progress."""
 
-    def __init__(self, program, text, jobs=1, tell=None, **asked):
+    def __init__(self, program, text, jobs=1, tell=None, keep_names=False, **asked):
         verdict = program.audit(text)
         if verdict is None:
             raise Refused(program.flaw(text, is_script=False))
@@ -67,6 +80,9 @@ class RunShrinker:
         self.run = read(text)
         self.verdict = verdict
         self.aim = Aim(self.run, verdict, **asked)
+        self.keep_names = keep_names
+        # The run with the names that it had, if it has new ones.
+        self.before = None
         self.trials = Trials(self._holds, lambda run: digest(write(run)), jobs, self._take)
         self.tell = tell or (lambda lines, tried: None)
 
@@ -96,5 +112,10 @@ class RunShrinker:
             before = self.run.lines
             for kind in KINDS:
                 fewest(*kind(self.run), self.trials)
-        for with_small_numbers in NAMINGS:
+        self.before = self.run
+        for with_small_numbers in NAMINGS if not self.keep_names else ():
             self.trials.first([lambda: with_small_numbers(self.run)])
+
+    def names(self):
+        """The names that the run has now, each with the one that it had before, if they differ."""
+        return naming.changed(self.before, self.run) if self.before else []

@@ -54,7 +54,7 @@ def cost(commands):
 class ScriptShrinker:
     """Makes the script of a broken run short. `tell` is called with the progress."""
 
-    def __init__(self, program, text, jobs=1, tell=None, **asked):
+    def __init__(self, program, text, jobs=1, tell=None, keep_names=False, **asked):
         run = program.play(text)
         if run is None:
             raise Refused(program.flaw(text, is_script=True))
@@ -68,6 +68,9 @@ class ScriptShrinker:
         self.aim = Aim(read_run(run), verdict, **asked)
         self.trials = Trials(self._holds, self._digest, jobs, self._take)
         self.tell = tell or (lambda lines, tried: None)
+        self.keep_names = keep_names
+        # The names of the processes that have new ones.
+        self.processes = {}
 
     @property
     def text(self):
@@ -115,7 +118,12 @@ class ScriptShrinker:
             self._move_events()
         self._leave_out_pairs()
         small = {process: index for index, process in enumerate(_processes(self.commands), 1)}
-        self.trials.first([lambda: _with_names(self.commands, small)])
+        if not self.keep_names and self.trials.first([lambda: _with_names(self.commands, small)]) is not None:
+            self.processes = small
+
+    def names(self):
+        """The names that the script has now, each with the one that it had before, if they differ."""
+        return [('process %d' % new, 'process %d' % old) for old, new in self.processes.items() if new != old]
 
     def _leave_out_processes(self):
         """Tries to leave out each process, or to let it crash, without all that would have come to it after that."""

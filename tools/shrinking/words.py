@@ -15,7 +15,8 @@ DESCRIPTION = """Makes a broken run small:
 
 For a run with the verdict no, it searches for the smallest run that breaks the same specifications. It leaves out whole processes, whole
 configurations, messages with all their deliveries and single entries, as long as the program still names these specifications.
-Then it gives processes, rings and messages small numbers. It explains the small run on standard error.
+A message that breaks 1.3 because it was sent elsewhere keeps a send. Then it gives processes, rings and messages small numbers, unless
+--keep-names says otherwise. It explains the small run on standard error, and lists there which names it had before.
 
 With --script it does the same for a script whose run is broken (`totem sim`): it leaves out, moves and joins steps."""
 EXAMPLES = """The run is read from standard input if no file is given. The program crates/totem/out/totem judges each run that is tried, or
@@ -43,6 +44,7 @@ def read_words(words):
     parser.add_argument('--specification', metavar='S', help='only this one of the broken specifications has to stay broken, such as 5')
     parser.add_argument('--same-places', action='store_true',
                         help='the first fault of each specification has to name the same kinds of events too')
+    parser.add_argument('--keep-names', action='store_true', help='processes, rings and messages keep their numbers')
     add_words_of_program(parser)
     asked = parser.parse_args(words)
     if asked.jobs < 1:
@@ -80,7 +82,8 @@ class Progress:
 def _read(asked, program, text):
     """What makes this text small."""
     progress = Progress()
-    words = {'jobs': asked.jobs, 'tell': progress.tell, 'specification': asked.specification, 'same_places': asked.same_places}
+    words = {'jobs': asked.jobs, 'tell': progress.tell, 'keep_names': asked.keep_names, 'specification': asked.specification,
+             'same_places': asked.same_places}
     return (ScriptShrinker if asked.script else RunShrinker)(program, text, **words), progress
 
 
@@ -108,6 +111,14 @@ def _tell_outcome(asked, program, text, small):
     streams.say('\n'.join(faults) + '\n\n' + program.explain(run), end='')
 
 
+def _tell_names(names):
+    """Reports new names, each with the one before."""
+    if names:
+        streams.say('shrink: new names, and what they were before:')
+        width = max(len(new) for new, _ in names)
+        streams.say('\n'.join('  %s  %s' % (new.ljust(width), old) for new, old in names))
+
+
 def _do(asked):
     """Makes the text small, writes the outcome, and only then reports it. Returns the status."""
     program = Program(asked.program, makes_runs=asked.script)
@@ -119,10 +130,13 @@ def _do(asked):
     small = shrinker.text
     is_written = streams.write(small)
     signals.end_as_usual()
+    try:
+        if not why:
+            _tell_outcome(asked, Program(program.path), text, small)
+    finally:
+        _tell_names(shrinker.names())
     if why:
         streams.say('shrink: %s; so this is only the smallest that was found until then' % why)
-    else:
-        _tell_outcome(asked, Program(program.path), text, small)
     if not is_written:
         streams.say('shrink: write failed')
         return 4

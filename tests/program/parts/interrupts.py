@@ -1,5 +1,5 @@
 """`tools/hunt` and `tools/shrink` with programs that hang or fail, interrupted and killed: nothing runs on, and nothing that was found is
-lost."""
+lost. Also `tools/logs`, interrupted, and help that can't be written."""
 import os
 import resource
 import signal
@@ -11,6 +11,7 @@ from functools import partial
 
 from harness import process
 from parts.shrunk import THREE, TOOLS, YES, call
+from parts.texts import EXAMPLES
 
 sys.path.insert(0, TOOLS)
 # pylint: disable=wrong-import-position
@@ -111,8 +112,8 @@ def end(started):
 
 # ---- hunts
 
-def end_hunt(number, status, _program):
-    """A hunt that is ended or killed: its processes end too, and the programs that they run."""
+def end_hunt(numbers, status, _program):
+    """A hunt that is ended or killed: its processes end too, and the programs that they run; it says no more than that."""
     with tempfile.TemporaryDirectory() as folder:
         started = start('hunt', '--seeds', '0', '99999', '--jobs', '2', '--keep', os.path.join(folder, 'found'),
                         '--program', write_program(folder, HANGS))
@@ -120,14 +121,15 @@ def end_hunt(number, status, _program):
             started.kill()
             return 'no program was started: %s' % end(started)
         workers = children_of(started.pid)
-        started.send_signal(number)
-        started.send_signal(number)
+        for number in numbers:
+            started.send_signal(number)
         came = end(started)
         wrong = not until(lambda: not any(map(is_running, workers + numbers_in(folder))), 5) and 'something runs on'
         for left in filter(is_running, workers + numbers_in(folder)):
             os.kill(left, signal.SIGKILL)
         seen = b'0 runs: 0 packets came, 0 rings were installed; 0 yes, 0 no\n' if status == 0 else b''
-        return wrong or len(workers) != 2 or (came.status, came.output) != (status, seen) and 'came: %s' % came
+        wanted = process.Answer(status, seen, b'hunt: interrupted\n' if status == 0 else b'')
+        return wrong or len(workers) != 2 or came != wanted and 'came: %s' % came
 
 
 def lose_worker(_program):
@@ -362,10 +364,72 @@ def shrink_closed(number, status, output, _program):
         return None if (came.returncode, came.stdout) == (status, output) else 'came: %r' % came
 
 
+# ---- all tools
+
+def help_nowhere(tool, words, path, _program):
+    """Help that can't be written is one line, and the status 4."""
+    file = os.open(path, os.O_WRONLY) if path else None
+    came, _ = process.run([os.path.join(TOOLS, tool), *words, '--help'], others={1: file}, environment=os.environ)
+    if file is not None:
+        os.close(file)
+    wanted = process.Answer(4, b'', b'%s: write failed\n' % tool.encode())
+    return None if came == wanted else 'came: %s' % came
+
+
+def help_to_nobody(tool, words, _program):
+    """The same if nobody reads it any more."""
+    reader, writer = os.pipe()
+    os.close(reader)
+    came = call(tool, [*words, '--help'], output=writer)
+    os.close(writer)
+    return None if (came.status, came.errors) == (4, b'%s: write failed\n' % tool.encode()) else 'came: %r' % came.errors
+
+
+def interrupt_logs(words, name, numbers, _program):
+    """An interrupt while a file is read (here one that nobody writes) is one line and a status, and nothing is written."""
+    with tempfile.TemporaryDirectory() as folder:
+        os.mkfifo(os.path.join(folder, name))
+        started = start('logs', *(word.replace('FOLDER', folder) for word in words))
+        time.sleep(process.allowed(1))
+        for number in numbers:
+            started.send_signal(number)
+        came = end(started)
+    return None if came == process.Answer(130, b'', b'logs: interrupted\n') else 'came: %s' % came
+
+
+def interrupt_blocked_logs(_program):
+    """An interrupt ends it though nobody reads the run that it writes."""
+    with tempfile.TemporaryDirectory() as folder:
+        with open(os.path.join(folder, '1.log'), 'w', encoding='ascii') as it:
+            it.write('conf r4.1 1\n' + 'dlv r4.1 4.1#1\n' * 100000)
+        started = start('logs', 'join', folder)
+        time.sleep(process.allowed(2))
+        started.send_signal(signal.SIGINT)
+        has_ended = until(lambda: started.poll() is not None)
+        came = end(started)
+    return None if has_ended and (came.status, came.errors) == (130, b'logs: interrupted\n') else 'came: %s' % came
+
+
+def of_all_tools():
+    """Help that can't be written, and `tools/logs` interrupted."""
+    for tool, *words in (['logs'], ['logs', 'join'], ['logs', 'where'], ['shrink'], ['hunt']):
+        what = ' '.join([tool, *words])
+        yield 'help of %s on a full device' % what, partial(help_nowhere, tool, words, '/dev/full')
+        yield 'help of %s with a closed output' % what, partial(help_nowhere, tool, words, None)
+        yield 'help of %s that nobody reads' % what, partial(help_to_nobody, tool, words)
+    for numbers in ((signal.SIGINT,), (signal.SIGINT, signal.SIGTERM, signal.SIGINT)):
+        for words, name in ((['join', 'FOLDER'], '1.log'), (['join', '--lives', '--clock', 'FOLDER/times', os.path.join(EXAMPLES, 'logs', 'lives')], 'times'),
+                            (['where', 'FOLDER/map', '1@1'], 'map')):
+            what = 'logs %s interrupted while it reads, with the signals %s' % (' '.join(words), ' '.join(str(int(number)) for number in numbers))
+            yield what, partial(interrupt_logs, words, name, numbers)
+    yield 'logs interrupted while nobody reads', interrupt_blocked_logs
+
+
 def interrupts():
     """Hunts and shrinking that are ended, and programs that fail."""
-    for number, status in ((signal.SIGKILL, -signal.SIGKILL), (signal.SIGHUP, 0), (signal.SIGTERM, 0), (signal.SIGINT, 0)):
-        yield 'a hunt and the signal %d' % number, partial(end_hunt, number, status)
+    for numbers, status in (((signal.SIGKILL,), -signal.SIGKILL), ((signal.SIGHUP,) * 2, 0), ((signal.SIGTERM,) * 2, 0), ((signal.SIGINT,) * 2, 0),
+                            ((signal.SIGINT, signal.SIGTERM), 0), ((signal.SIGHUP, signal.SIGINT, signal.SIGTERM, signal.SIGINT), 0)):
+        yield 'a hunt and the signals %s' % ' '.join(str(int(number)) for number in numbers), partial(end_hunt, numbers, status)
     yield 'a hunt and a closed terminal, ignored', keep_hunting
     yield 'a hunt that loses a process', lose_worker
     for what, text, told in (('no verdict', '#!/bin/sh\ncat >/dev/null; exit 9\n', b' sim` ended with status 9'),
@@ -396,3 +460,4 @@ def interrupts():
         yield 'shrink, ' + what, partial(shrink_wrongly, text, told)
     yield 'shrink, output closed', partial(shrink_closed, 1, 4, b'')
     yield 'shrink, errors closed', partial(shrink_closed, 2, 0, SMALL)
+    yield from of_all_tools()

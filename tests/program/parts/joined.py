@@ -97,6 +97,50 @@ FOLDERS = {
         'logs: 2.log: is closed as quiet\n'),
 }
 
+MANY = ''.join('conf r%d.1 1 %d %d\n' % (4 * number, 2 * number, 2 * number + 1) for number in range(1, 26))
+# Folders whose names have a pattern, and those with members that have no log.
+NAMES = {
+    'names with a pattern': (
+        '--pattern node{P}.log', {'node10.log': 'conf r4.2 2 10\n', 'node2.log': 'conf r4.2 2 10\nfail\n', '3.log': 'nothing\n', 'node.txt': ''},
+        'logs: node2.log, line 2: this is not an entry: fail '),
+    'a number with a leading zero': (
+        '--pattern node{P}.log', {'node01.log': 'conf r4.1 1\n', 'node2.log': 'conf r4.1 1\n'},
+        'logs: node01.log: the number is not a process, or not a life: they are written without leading zeros\n'),
+    'two names of one life': (
+        '--pattern a{P}.log --pattern b{P}', {'a1.log': 'conf r4.1 1\n', 'b1': 'conf r4.1 1\n'}, 'logs: a1.log and b1 are two logs of one life\n'),
+    'no name with a pattern': ('--pattern node{P}.log --pattern {P}', {'1.log': 'conf r4.1 1\n'}, ' has no file node{P}.log or {P}\n'),
+    'a life past its range, in a pattern': (
+        '--pattern {L}of{P}', {'65536of1': 'conf r4.1 1:1\n'}, 'logs: 65536of1: life 65536 is past 65535\n'),
+    'a process past its range, in a pattern': ('--pattern p{P}', {'p65536': ''}, 'logs: p65536: process 65536 is past 65535; --renumber '),
+}
+FOLDERS.update({
+    'names with a pattern, and others': (
+        '--pattern node{P}.log', {'node10.log': 'conf r4.2 2 10\n', 'node2.log': 'conf r4.2 2 10\n', '3.log': 'no entry', 'node.txt': 'x'},
+        'totem-run 1\nlog 2\nconf r4.2 2 10\nopen\nlog 10\nconf r4.2 2 10\nopen\nend\n',
+        "logs: not read, since their names have no --pattern: '3.log', 'node.txt'\n"),
+    'patterns with lives': (
+        '--pattern {L}.of.{P}+ --pattern {P}(first)', {'2.of.1+': 'conf r8.1 1:2\n', '1.of.1+': 'conf r4.1 1:1\nfail r4.1\n'},
+        'totem-run 2\nlog 1:1\nconf r4.1 1:1\nfail r4.1\nfailed\nlog 1:2\nconf r8.1 1:2\nopen\nend\n', ''),
+    'a zero that belongs to the pattern': (
+        '--pattern node0{P} --pattern node{P}', {'node01': 'conf r4.1 1 10\n', 'node10': 'conf r4.1 1 10\n'},
+        'totem-run 1\nlog 1\nconf r4.1 1 10\nopen\nlog 10\nconf r4.1 1 10\nopen\nend\n', ''),
+    'members without a log': (
+        '', {'1.log': '#\nconf r4.1 1 2\nconf r8.1 1 2 3\n', '3.log': '', '4.log': 'conf r4.1 1 2 7\n'},
+        'totem-run 1\nlog 1\nconf r4.1 1 2\nconf r8.1 1 2 3\nopen\nlog 4\nconf r4.1 1 2 7\nopen\nend\n',
+        'logs: 1.log: blank lines and comments left out: 1\nlogs: 3.log has no entry, and is left out\n'
+        'logs: there is no log of 2, a member of r4.1 (1.log, line 2)\nlogs: there is no log of 3, a member of r8.1 (1.log, line 3)\n'
+        'logs: there is no log of 7, a member of r4.1 (4.log, line 1)\nlogs: totem refuses a run that has members without a log (MissingLog)\n'),
+    'all members without a log, however many': (
+        '', {'1.log': MANY}, 'totem-run 1\nlog 1\n%sopen\nend\n' % MANY,
+        ''.join('logs: there is no log of %d, a member of r%d.1 (1.log, line %d)\n' % (number, number // 2 * 4, number // 2)
+                for number in range(2, 52)) + 'logs: totem refuses a run that has members without a log (MissingLog)\n'),
+    'members without a log, with lives': (
+        '', {'2.1.log': 'conf r4.1 1:1 2:1\nconf r8.1 1:2 2:1\n'},
+        'totem-run 2\nlog 2:1\nconf r4.1 1:1 2:1\nconf r8.1 1:2 2:1\nopen\nend\n',
+        'logs: there is no log of 1:1, a member of r4.1 (2.1.log, line 1)\nlogs: there is no log of 1:2, a member of r8.1 (2.1.log, line 2)\n'
+        'logs: totem refuses a run that has members without a log (MissingLog)\n'),
+})
+
 ONE = {'1.log': 'conf r4.1 1\n'}
 # Folders that are refused: the arguments, the files, and the messages.
 REFUSED = {
@@ -111,7 +155,7 @@ REFUSED = {
     'a name with a leading zero': ('', {**ONE, '02.log': 'conf r4.1 2\n'}, 'logs: 02.log: the name is not a process: '),
     'a name that is not a process': ('', {**ONE, 'node.log': ''}, 'logs: node.log: the name is not a process: '),
     'a process past its range': ('', {'65536.log': ''}, 'logs: 65536.log: process 65536 is past 65535; --renumber '),
-    'a line that is not an entry': ('', {**ONE, '2.log': 'conf r4.1 1\n\n'}, 'logs: 2.log, line 2: this is not an entry: '),
+    'a line that is not an entry': ('', {**ONE, '2.log': 'conf r4.1 1\nnothing\n'}, 'logs: 2.log, line 2: this is not an entry: '),
     'a line that begins well': (
         '', {'1.log': 'conf r4.1 1\nsend r4.1 4.1#1\nquiet\n'},
         'logs: 1.log, line 2: this is not an entry: send r4.1 4.1#1 (such as send '),
@@ -220,7 +264,7 @@ def try_help(_program):
     """The help explains each of the options."""
     came = join(['--help'], EXAMPLES)
     words = (b'--failed', b'--quiet', b'--lives', b'--member', b'--clock', b'--absent', b'--own-sends', b'--own-order-unknown', b'--late-sends',
-             b'--renumber', b'--table', b'--cut', b'--entries', b'--trim', b'--changes', b'tools/logs join FOLDER > my.run')
+             b'--renumber', b'--table', b'--cut', b'--entries', b'--trim', b'--changes', b'--map', b'--pattern', b'tools/logs join FOLDER > my.run')
     return None if came.status == 0 and all(word in came.output for word in words) else 'came: %s' % came
 
 
@@ -273,13 +317,14 @@ def joined():
     yield 'the folder own-logs', try_own_logs
     for what, (words, files, wanted, told) in FOLDERS.items():
         yield what, partial(try_folder, words, files, wanted, told)
-    for what, (words, files, said) in REFUSED.items():
+    for what, (words, files, said) in {**REFUSED, **NAMES}.items():
         yield what, partial(try_refused, words, files, said)
     yield 'logs that are too long', try_too_long
     for words in ('--nothing', '--fail 1', '--clock times', '--member r4.1=1:1', '--absent 2:1', '--own-order-unknown', '--late-sends',
                   '--table table', '--entries 5', '--cut /', '--cut /no/such/folder --entries 1', '--cut=', '--lives --clock=', '--changes=',
-                  '--renumber --table /tmp/one --changes /tmp/../tmp/one', '--lives --clock /tmp/one --changes /tmp/../tmp/one',
-                  '--lives --renumber --clock /tmp/one --table /tmp/one',
+                  '--renumber --table one --changes ./one', '--lives --clock one --changes ./one',
+                  '--lives --renumber --clock one --table one', '--map=', '--map one --changes ./one', '--lives --clock one --map one',
+                  '--pattern=', '--pattern node.log', '--pattern {P}{L}', '--pattern {P}-{P}', '--pattern {P}.{L}.{L}', '--pattern a/{P}',
                   '--changes %s' % os.path.join(EXAMPLES, 'own-logs', '1.log')):
         yield 'the words %s' % words, partial(try_words, words)
     yield 'no folder', try_no_folder

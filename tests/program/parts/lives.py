@@ -1,6 +1,7 @@
 """Folders whose members get lives from `tools/logs join --lives`, and those of which it asks for a life."""
 
 ONE = 'logs: life 1 is added to the members 1: no log is of another life of theirs\n'
+NO_LOG = 'logs: there is no log of 2:1, a member of r4.1 (1.log, line 1)\nlogs: totem refuses a run that has members without a log (MissingLog)\n'
 # Folders by what they show: the arguments, the files, the run that they are joined to, and the messages.
 LIVES = {
     'the life whose log changes to the configuration': (
@@ -42,13 +43,21 @@ LIVES = {
         '--lives --member r4.1=2:1', {'1.log': 'conf r4.1 1 2\n', '2.2.log': 'conf r6.2 2\n'},
         'totem-run 2\nlog 1:1\nconf r4.1 1:1 2:1\nopen\nlog 2:2\nconf r6.2 2:2\nopen\nend\n',
         'logs: r4.1: member 2, which never came, is 2:1: the call says so\n' + ONE +
-        'logs: 2.2.log: member 2 is 2:2 where this log changes to the configuration: 1 (r6.2)\n'),
+        'logs: 2.2.log: member 2 is 2:2 where this log changes to the configuration: 1 (r6.2)\n' + NO_LOG),
     'the life that ran when the configuration was changed to': (
         '--lives --clock FOLDER/times',
         {'1.log': 'conf r4.1 1 2\n', '2.1.log': 'conf r5.2 2\n', '2.2.log': 'conf r6.2 2\n',
          'times': '1 start 2:1\n5 start 2:2\n6.5 conf r4.1\n'},
         'totem-run 2\nlog 1:1\nconf r4.1 1:1 2:2\nopen\nlog 2:1\nconf r5.2 2:1\nopen\nlog 2:2\nconf r6.2 2:2\nopen\nend\n',
         'logs: r4.1: member 2, which never came, is 2:2: by the clock\n' + ONE +
+        'logs: 2.1.log: member 2 is 2:1 where this log changes to the configuration: 1 (r5.2)\n'
+        'logs: 2.2.log: member 2 is 2:2 where this log changes to the configuration: 1 (r6.2)\n'),
+    'the life that ran when the configuration was changed to, by dates': (
+        '--lives --clock FOLDER/times',
+        {'1.log': '2026-11-29T07:45:30Z conf r4.1 1 2\n', '2.1.log': 'conf r5.2 2\n', '2.2.log': 'conf r6.2 2\n',
+         'times': '2026-11-29T07:45:27Z start 2:1\n2026-11-29T08:45:28.5+01:00 start 2:2\n2026-11-29T07:45:28.75Z conf r4.1\n'},
+        'totem-run 2\nlog 1:1\nconf r4.1 1:1 2:2\nopen\nlog 2:1\nconf r5.2 2:1\nopen\nlog 2:2\nconf r6.2 2:2\nopen\nend\n',
+        'logs: 1.log: times left out: 1\nlogs: r4.1: member 2, which never came, is 2:2: by the clock\n' + ONE +
         'logs: 2.1.log: member 2 is 2:1 where this log changes to the configuration: 1 (r5.2)\n'
         'logs: 2.2.log: member 2 is 2:2 where this log changes to the configuration: 1 (r6.2)\n'),
     'the only life that ran beside that which changes to it': (
@@ -69,7 +78,7 @@ LIVES = {
         'totem-run 2\nlog 1:1\nconf r4.1 1:1 2:1\nopen\nlog 2:2\nconf r6.2 2:2\nopen\nend\n',
         'logs: r4.1: member 2, which never came, is 2:1: the call says so\n'
         'logs: r4.1: member 2 is taken for 2:1, which did not run then, by the clock\n' + ONE +
-        'logs: 2.2.log: member 2 is 2:2 where this log changes to the configuration: 1 (r6.2)\n'),
+        'logs: 2.2.log: member 2 is 2:2 where this log changes to the configuration: 1 (r6.2)\n' + NO_LOG),
     'two lives that change to one configuration, and did not run at one time by the clock': (
         '--lives --clock FOLDER/times',
         {'1.log': 'conf r4.1 1 2\n', '2.1.log': 'conf r2.2 2\n', '2.2.log': 'conf r4.1 1 2\n', 'times': '0 start 1:1\n3 end 1:1\n5 start 2:2\n'},
@@ -97,6 +106,14 @@ UNKNOWN = {
         'logs: 1.log, line 3: which life of 2 is a member of r4.1? No log of it changes there: 2:1 or 2:2\n  Name each with --member '),
     'a member without any log': ('--lives', {'1.log': 'conf r4.1 1 2\n'}, '1.log, line 1: which life of 2 is a member of r4.1? '
                                  'No log of it changes there: there is no log of it\n'),
+    'all members without any log, however often they are listed': (
+        '--lives', {'1.log': ''.join('conf r%d.1 1 2 3 4 %d\n' % (4 * number, 10 + number) for number in range(1, 30)), '3.1.log': 'conf r9.3 3\n',
+                    '3.2.log': 'conf r10.3 3\n'},
+        'logs: 1.log, line 1: which life of 2 is a member of r4.1? No log of it changes there: there is no log of it\n'
+        '  1.log, line 1: which life of 4 is a member of r4.1? No log of it changes there: there is no log of it\n' +
+        ''.join('  1.log, line %d: which life of %d is a member of r%d.1? No log of it changes there: there is no log of it\n' % (
+            number, 10 + number, 4 * number) for number in range(1, 30)) +
+        '  1.log, line 1: which life of 3 is a member of r4.1? No log of it changes there: 3:1 or 3:2\n'),
     'a life whose log may be lost': (
         '--lives', LOST,
         'logs: 1.log, line 1: which life of 2 is a member of r4.1? No log of it changes there: 2:1 or 2:2\n'
@@ -137,6 +154,8 @@ UNKNOWN = {
         'which life of 2 is a member of r4.1? No log of it changes there: 2:1 or 2:2\n'),
     'a line of a clock that is none': (
         '--lives --clock FOLDER/times', {**TWO_LIVES, 'times': '1 start 2:1\n2 begin 2:2\n'}, '/times, line 2: a line is TIME start '),
+    'a time of a clock that is none': (
+        '--lives --clock FOLDER/times', {**TWO_LIVES, 'times': '2026-11-31T07:45:27Z start 2:1\n'}, '/times, line 1: a line is TIME start '),
     'a clock with a life past its range': (
         '--lives --clock FOLDER/times', {**TWO_LIVES, 'times': '5 start 2:65536\n'}, '/times, line 1: life 65536 is past 65535\n'),
     'a clock in which a life starts twice': (

@@ -136,7 +136,7 @@ def try_table(_program):
 def try_nothing_made(_program):
     """If logs can't be cut, no folder is made."""
     with tempfile.TemporaryDirectory() as folder:
-        write_files(folder, {'1.log': 'conf r4.1 1\n\n'})
+        write_files(folder, {'1.log': 'conf r4.1 1\nnothing\n'})
         came = join(['--cut', os.path.join(folder, 'parts')], folder)
         left = os.listdir(folder)
     return None if came.status == 1 and left == ['1.log'] else 'came: %s, and %r' % (came, left)

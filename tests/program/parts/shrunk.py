@@ -62,6 +62,68 @@ open
 end
 """
 SMALL_OWN = b'totem-run 1\nlog 1\nconf r4.1 1\nsend r4.1 a 4.1#1\nconf t8.1/1 1\nconf r8.1 1\nopen\nend\n'
+# A program that knows little: 2.2 is broken by an entry that is not in the configuration of the last change, and 1.3 by the first delivery of
+# a message that is not sent in the last regular one.
+KNOWS_LITTLE = """#!/bin/sh
+[ "$1" = audit ] || { cat >/dev/null; echo "In words."; exit 1; }
+exec awk '/^log / { who = $2; at = 0; now = ""; next }
+    NF > 1 && !/^totem-run/ { at++ }
+    $1 == "send" { sent[$4] = sent[$4] " " $2 " " }
+    $1 == "conf" { now = $2; inside = $2 ~ /^r/ ? $2 : inside }
+    NF > 1 && !/^totem-run/ && $2 != now { print "verdict no\\nfault 2.2 " who "@" at "\\nend"; bad = 1; exit 1 }
+    $1 == "dlv" { place[++count] = who "@" at; message[count] = $3; configuration[count] = inside }
+    END {
+        if (bad) exit 1
+        for (i = 1; i <= count; i++)
+            if (!index(sent[message[i]], " " configuration[i] " ")) { print "verdict no\\nfault 1.3 " place[i] "\\nend"; exit 1 }
+        print "verdict yes\\nend"
+    }'
+"""
+# A message that is sent on one ring and delivered on the next, and its small runs; and what is told of its new names.
+ELSEWHERE = b"""totem-run 2
+log 3:2
+conf r8.3 3:2 5:1
+send r8.3 a 8.3#33
+send r8.3 s 8.3#34
+dlv r8.3 8.3#34
+conf t12.3/3 3:2 5:1
+conf r12.3 3:2 5:1
+dlv r12.3 8.3#33
+open
+log 5:1
+conf r8.3 3:2 5:1
+dlv r8.3 8.3#34
+conf t12.3/3 3:2 5:1
+conf r12.3 3:2 5:1
+dlv r12.3 8.3#33
+open
+end
+"""
+SMALL_ELSEWHERE = b"""totem-run 2
+log 1:1
+conf r4.1 1:1
+send r4.1 a 4.1#1
+conf r8.1 1:1
+dlv r8.1 4.1#1
+open
+end
+"""
+KEPT_ELSEWHERE = b"""totem-run 2
+log 3:2
+conf r8.3 3:2
+send r8.3 a 8.3#33
+conf r12.3 3:2
+dlv r12.3 8.3#33
+open
+end
+"""
+NEW_NAMES = b"""shrink: new names, and what they were before:
+  process 1:1  process 3:2
+  r4.1         r8.3
+  r8.1         r12.3
+  4.1#1        8.3#33
+"""
+SMALL_NOWHERE = b'totem-run 2\nlog 1:1\nconf r8.1 1:1\ndlv r8.1 4.3#1\nopen\nend\n'
 YES = b'totem-run 1\nlog 1\nconf r4.1 1\nopen\nend\n'
 # What is refused: the arguments, the input, and the message.
 REFUSED = {
@@ -100,6 +162,19 @@ def try_recording(program):
     given = call('logs', ['join', folder]).output
     told = b'lines became one of 9\nfault 1.4 1@2 1@5\n\nNo: the run breaks extended virtual synchrony.\n'
     return try_shrunk([], given, DELIVERED_TWICE, told, program)
+
+
+def try_story(words, given, wanted, told, _program):
+    """A message that breaks 1.3 stays sent if it was, and new names are told with the old ones."""
+    with tempfile.TemporaryDirectory() as folder:
+        path = os.path.join(folder, 'program')
+        with open(path, 'w', encoding='ascii') as it:
+            it.write(KNOWS_LITTLE)
+        os.chmod(path, 0o755)
+        came = call('shrink', [*words, '--jobs', '1', '--program', path], given)
+    names = came.errors.partition(b'In words.\n')[2]
+    is_right = (came.status, came.output, names) == (0, wanted, told)
+    return None if is_right else 'came: %s\n  wanted: %r, and told %r' % (came, wanted, told)
 
 
 def try_refused(words, given, said, program):
@@ -165,6 +240,11 @@ def shrunk():
     yield 'a recording', try_recording
     yield 'three specifications', partial(try_shrunk, [], THREE, SMALL_THREE, b'\nfault 7.1 1@3\n')
     yield 'one of them', partial(try_shrunk, ['--specification', '3'], THREE, SMALL_OWN, b'\nfault 3 1@2\n')
+    yield 'a message that was sent elsewhere', partial(try_story, [], ELSEWHERE, SMALL_ELSEWHERE, NEW_NAMES)
+    yield 'a message that was sent elsewhere, with its names', partial(try_story, ['--keep-names'], ELSEWHERE, KEPT_ELSEWHERE, b'')
+    nowhere = ELSEWHERE.replace(b'send r8.3 a 8.3#33\n', b'')
+    yield 'a message that was sent nowhere', partial(try_story, [], nowhere, SMALL_NOWHERE, NEW_NAMES.replace(
+        b'  r4.1         r8.3\n', b'').replace(b'4.1#1', b'4.3#1'))
     for what, (words, given, said) in REFUSED.items():
         yield what, partial(try_refused, words, given, said)
     for tool, words in (('shrink', '--nothing'), ('shrink', '--jobs 0'), ('hunt', ''), ('hunt', '--seeds 7'), ('hunt', '--seeds 7 3'),
