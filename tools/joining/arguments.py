@@ -17,7 +17,7 @@ a file P.L.log for each life L of process P. A last line that was cut off is lef
 entry is a failure, with `quiet` if that is its last line, otherwise with `open`.
 
 A line may have a time before it (2026-11-29T07:45:27.25Z, 2026-11-29T08:45:27.25+01:00, or in seconds, 1795938327.25), which must not go
-back within a file; a delivery may have a checksum of 8 hexadecimal digits behind it (dlv r4.1 4.1#7 crc=0123abcd), which must be the
+back within a file; a delivery may have a checksum of 8 hexadecimal digits after it (dlv r4.1 4.1#7 crc=0123abcd), which must be the
 same in all logs. Times, checksums, blank lines, and comments, which begin with #, do not go into the run (such logs are rewritten into the
 folder for temporary files)."""
 EXAMPLES = """For example, for a cluster in which process 2 was killed and the others were shut down cleanly:

@@ -94,7 +94,7 @@ def flaw(line, is_numbered_anew):
     if WITHOUT_MEMBERS.fullmatch(line):
         return 'a change must name its members: %s (if it is the first callback of the layer, leave the line out)' % shown(line)
     if b' crc=' in line:
-        return 'a checksum is crc= and 8 hexadecimal digits, behind a delivery: %s' % shown(line)
+        return 'a checksum is crc= and 8 hexadecimal digits, after a delivery: %s' % shown(line)
     example = _EXAMPLES.get(line.split(b' ')[0].rstrip(b'\n'))
     if example:
         return 'this is not an entry: %s (such as %s)' % (shown(line), example)

@@ -1,4 +1,4 @@
-"""What the lines of a log may have beside entries: a time before each line, a checksum behind a delivery, blank lines and comments. All of that
+"""What the lines of a log may have beside entries: a time before each line, a checksum after a delivery, blank lines and comments. All of that
 is left out before anything else is done with the log; the lines of its file keep their numbers in all messages."""
 import os
 import re

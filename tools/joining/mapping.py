@@ -9,7 +9,7 @@
 
 A log of the run has a line with its process, as the run names it, the CRC-32 of its entries in the run, and its file. The lines after it have
 its entries in their order: the entries from the first number to the second one are lines in a row of that file, from the third number on. A
-single entry may have the time of its line behind it. `added` is an entry that no line has (--failed). If the logs are cut into several runs,
+single entry may have the time of its line after it. `added` is an entry that no line has (--failed). If the logs are cut into several runs,
 each begins with a line `run part-1.run`."""
 import mmap
 import os

@@ -21,7 +21,7 @@ class Origin(NamedTuple):
 
     def __str__(self):
         if self.line is None:
-            return 'added by join behind the last line of %s' % self.file
+            return 'added by join after the last line of %s' % self.file
         return '%s, line %d%s' % (self.file, self.line, ', ' + self.time if self.time else '')
 
 

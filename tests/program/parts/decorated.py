@@ -80,7 +80,7 @@ def undecorated(logs, text):
             told[counted[1], counted[2]] = int(counted[3])
         elif numbered and numbered[1] in logs:
             log = logs[numbered[1]]
-            # (what comes behind the second colon is text of the log)
+            # (what comes after the second colon is text of the log)
             head, colon, rest = line.partition(', as ') if ': moved to ' in line else line.partition(': ')
             kept.append(LINE.sub(lambda found, log=log: 'line %d' % log.number(int(found[1])), head) + colon + rest)
         else:

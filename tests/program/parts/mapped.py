@@ -20,7 +20,7 @@ LINES = {
                       'send r4.1 a 4.1#2\n2026-11-29T05:15:28-02:30 send r4.1 a 4.1#3\n2026-11-29T08:45:28.000000001+01:00 # later\n'},
         ONE % 'send r4.1 a 4.1#1\ndlv r4.1 4.1#1\nsend r4.1 a 4.1#2\nsend r4.1 a 4.1#3\n',
         'logs: 1.log: blank lines and comments left out: 1\nlogs: 1.log: times left out: 5\n'),
-    'a failure and a claim with times, and blank lines behind them': (
+    'a failure and a claim with times, and blank lines after them': (
         '', {'1.log': '1 conf r4.1 1\n2 quiet\n\n', '2.log': '1 conf r4.1 1\n2 fail r4.1\n\n'},
         'totem-run 3\nlog 1:1\nconf r4.1 1:1\nquiet\nlog 2:1\nconf r4.1 1:1\nfail r4.1\nfailed\nend\n',
         'logs: 1.log: blank lines and comments left out: 1\nlogs: 1.log: times left out: 2\n'
@@ -35,7 +35,7 @@ LINES = {
         'logs: 1.log: checksums left out: 1\nlogs: 2.log: times left out: 1\nlogs: 2.log: checksums left out: 1\n'),
 }
 NO_TIME = 'logs: 1.log, line 2: this is not a time: %s (such as '
-NO_CHECKSUM = 'logs: 1.log, line 2: a checksum is crc= and 8 hexadecimal digits, behind a delivery: '
+NO_CHECKSUM = 'logs: 1.log, line 2: a checksum is crc= and 8 hexadecimal digits, after a delivery: '
 # Folders that are refused: the arguments, the files, and the messages. The numbers are those of the lines in the files.
 LINES_REFUSED = {
     'a time that goes back': (
@@ -45,21 +45,21 @@ LINES_REFUSED = {
         '', {'1.log': '2026-11-29T07:45:27Z conf r4.1 1\n2026-11-29T08:45:26+01:00 # x\n'}, 'logs: 1.log, line 2: the time goes back: '),
     'a time that goes back after a line without one': ('', {'1.log': '5 conf r4.1 1\ndlv r4.1 4.1#1\n4.9 dlv r4.1 4.1#2\n'},
                                                        'logs: 1.log, line 3: the time goes back: 4.9 comes after 5\n'),
-    'a line behind others with more than entries': (
+    'a line after others with more than entries': (
         '', {'1.log': '# one\n1 conf r4.1 1\n\n2 conf t8.1/1 1\nnothing\n'}, 'logs: 1.log, line 5: this is not an entry: nothing '),
-    'members behind a comment': ('', {'1.log': '#\nconf r4.1 2 1\n'}, 'logs: 1.log, line 2: members are not in ascending order: '),
-    'a claim behind a comment, and a line behind it': ('', {'1.log': '#\nconf r4.1 1\nquiet\nsend'}, 'logs: 1.log, line 3: quiet is not the last '),
-    'a claim with a time, and a line behind it': ('', {'1.log': '1 conf r4.1 1\n2 quiet\n3 conf'}, 'logs: 1.log, line 2: quiet is not the last '),
+    'members after a comment': ('', {'1.log': '#\nconf r4.1 2 1\n'}, 'logs: 1.log, line 2: members are not in ascending order: '),
+    'a claim after a comment, and a line after it': ('', {'1.log': '#\nconf r4.1 1\nquiet\nsend'}, 'logs: 1.log, line 3: quiet is not the last '),
+    'a claim with a time, and a line after it': ('', {'1.log': '1 conf r4.1 1\n2 quiet\n3 conf'}, 'logs: 1.log, line 2: quiet is not the last '),
     'two claims': ('', {'1.log': 'conf r4.1 1\n1 quiet\n\nquiet\n'}, 'logs: 1.log, line 2: quiet is not the last line\n'),
     'a claim after a failure and a blank line': (
         '', {'1.log': 'conf r4.1 1\nfail r4.1\n\n7 quiet\n\n'}, 'logs: 1.log, line 4: quiet comes after a failure\n'),
     'a life that is asked for': (
         '--lives', {'1.log': '#\n#\nconf r4.1 1 2\n', '2.1.log': 'conf r5.2 2\n', '2.2.log': 'conf r6.2 2\n'},
         'logs: 1.log, line 3: which life of 2 is a member of r4.1?'),
-    'sends in another order, behind comments': (
+    'sends in another order, after comments': (
         '--own-sends', {'1.log': '#\nconf r4.1 1\nsend r4.1 a 4.1#1\n#\nsend r4.1 a 4.1#2\n#\ndlv r4.1 4.1#2\ndlv r4.1 4.1#1\n'},
         'logs: 1.log: sends 4.1#1 (line 3) and then 4.1#2 (line 5), and delivers the first one in line 8 and the second one in line 7\n'),
-    'no place to cut, behind comments and moved sends': (
+    'no place to cut, after comments and moved sends': (
         '--own-sends --trim', {
             '1.log': '#\nconf r4.1 1 2\nsend r4.1 a 4.1#1\nconf t8.1/1 1 2\nconf r8.1 1 2\nconf t12.1/1 1 2\nconf r12.1 1 2\ndlv r12.1 4.1#1\n',
             '2.log': 'conf r4.1 1 2\nconf t12.1/1 1 2\nconf r12.1 1 2\n#\nconf t8.1/1 1 2\nconf r8.1 1 2\n'},
@@ -71,7 +71,7 @@ LINES_REFUSED = {
     'many messages with two checksums': (
         '', {'%d.log' % log: 'conf r4.1 1 2\n' + ''.join('dlv r4.1 4.1#%d crc=0000000%d\n' % (number, log) for number in range(1, 26)) for log in (1, 2)},
         '  4.1#20 has two checksums: crc=00000001 in 1.log, line 21, and crc=00000002 in 2.log, line 21\n  .. and 5 more\n'),
-    'a checksum behind a send': ('', {'1.log': 'conf r4.1 1\nsend r4.1 a 4.1#1 crc=0123abcd\n'}, NO_CHECKSUM),
+    'a checksum after a send': ('', {'1.log': 'conf r4.1 1\nsend r4.1 a 4.1#1 crc=0123abcd\n'}, NO_CHECKSUM),
     'a checksum of seven digits': ('', {'1.log': 'conf r4.1 1\ndlv r4.1 4.1#1 crc=0123abc\n'}, NO_CHECKSUM),
     'a checksum that is no number': ('', {'1.log': 'conf r4.1 1\ndlv r4.1 4.1#1 crc=0123abcg\n'}, NO_CHECKSUM),
     **{'the time %s' % time: ('', {'1.log': '#\n%s conf r4.1 1\n' % time}, NO_TIME % time) for time in (
@@ -93,7 +93,7 @@ MAPS = {
     'an entry that is added, and lives that are written': (
         '--failed 2 --quiet 1', {'1.log': 'conf r4.1 1 2\n', '2.log': 'conf r4.1 1 2\n'},
         'totem-map 1\nlog 1:1 1.log\n1 1\nlog 2:1 2.log\n1 1\n2 added\nend\n',
-        ('2:1@2 2:1@1', '2:1@2: added by join behind the last line of 2.log\n2:1@1: 2.log, line 1\n')),
+        ('2:1@2 2:1@1', '2:1@2: added by join after the last line of 2.log\n2:1@1: 2.log, line 1\n')),
     'an entry that is added and left out again': (
         '--failed 2 --trim', {'1.log': 'conf r4.1 1 2\n', '2.log': 'conf r4.1 1 2\n'},
         'totem-map 1\nlog 1 1.log\n1 1\nlog 2 2.log\n1 1\nend\n', ('2@1', '2@1: 2.log, line 1\n')),
@@ -108,32 +108,32 @@ MAPS = {
     'parts': (
         '--cut FOLDER/parts --entries 4 --failed 1', {'1.log': 'conf r4.1 1\nconf t8.1/1 1\n\nconf r8.1 1\n#\nsend r8.1 a 8.1#1\n'},
         'totem-map 1\nrun part-1.run\nlog 1 1.log\n1-2 1\n3 4\nrun part-2.run\nlog 1 1.log\n1 4\n2 6\n3 added\nend\n',
-        ('--part 2 1@1 1@3', '1@1: 1.log, line 4\n1@3: added by join behind the last line of 1.log\n')),
+        ('--part 2 1@1 1@3', '1@1: 1.log, line 4\n1@3: added by join after the last line of 1.log\n')),
 }
 GOOD = 'totem-map 1\nlog 1 %08x 1.log\n1-2 1\n3 4 1.5\n4 added\nlog 2:7 %08x 2.7.log\n1 1\nend\n' % (
     zlib.crc32(b'conf r4.1 1\nsend r4.1 a 4.1#1\ndlv r4.1 4.1#1\nfail r4.1\n'), zlib.crc32(b'conf r4.1 1\n'))
 PARTS = 'totem-map 1\nrun part-1.run\nlog 1 01234567 1.log\n1 1\nrun part-2.run\nlog 1 89abcdef 1.log\n1-2 1\nend\n'
 # Maps that are broken, or have no such place: the map, the arguments, and the message.
 BROKEN = {
-    'an entry behind the last one': (GOOD, '1@1 1@5', 'logs: MAP, line 2: log 1 has 4 entries, so there is no 1@5\n'),
+    'an entry after the last one': (GOOD, '1@1 1@5', 'logs: MAP, line 2: log 1 has 4 entries, so there is no 1@5\n'),
     'a log that is not there': (GOOD, '2@1', 'logs: MAP has no log 2, so there is no 2@1: its logs are 1, 2:7\n'),
     'no map': (GOOD[6:], '1@1', 'logs: MAP, line 1: this is no map: its first line is not `totem-map 1`\n'),
     'nothing': ('', '1@1', 'logs: MAP, line 1: the map ends without the line `end`\n'),
     'no end': (GOOD[:-4], '1@1', 'logs: MAP, line 8: the map ends without the line `end`\n'),
     'an end that was cut off': (GOOD[:-1], '1@1', 'logs: MAP, line 8: the line is cut off\n'),
-    'a line behind the end': (GOOD + '\n', '1@1', 'logs: MAP, line 9: the map goes on after its end\n'),
+    'a line after the end': (GOOD + '\n', '1@1', 'logs: MAP, line 9: the map goes on after its end\n'),
     'a blank line': (GOOD.replace('log 2', '\nlog 2'), '1@1', 'logs: MAP, line 6: this line does not belong here: \n'),
     'entries that are left out': (GOOD.replace('3 4', '4 4'), '1@1', 'logs: MAP, line 4: the entries of log 1 are not in their order\n'),
     'entries that come twice': (GOOD.replace('3 4', '2 4'), '1@1', 'logs: MAP, line 4: the entries of log 1 are not in their order\n'),
     'entries in falling order': (GOOD.replace('1-2', '1-0'), '1@1', 'logs: MAP, line 3: this line does not belong here: 1-0 1\n'),
-    'an entry behind one that was added': (GOOD.replace('4 added', '4 added\n5 5'), '1@1', 'logs: MAP, line 6: the entries of log 1 are not in '),
+    'an entry after one that was added': (GOOD.replace('4 added', '4 added\n5 5'), '1@1', 'logs: MAP, line 6: the entries of log 1 are not in '),
     'a time of several entries': (GOOD.replace('1-2 1', '1-2 1 1.5'), '1@1', 'logs: MAP, line 3: this line does not belong here: 1-2 1 1.5\n'),
     'several entries that were added': (GOOD.replace('4 added', '4-5 added'), '1@1', 'logs: MAP, line 5: this line does not belong here: '),
     'a time that is none': (GOOD.replace('1.5', '1.5.1'), '1@3', 'logs: MAP, line 4: this is no time: 1.5.1\n'),
     'a log without an entry': (GOOD.replace('\n1 1\n', '\n'), '1@1', 'logs: MAP, line 7: log 2:7 has no entry\n'),
     'a log that comes twice': (GOOD.replace('2:7 ', '1 '), '1@1', 'logs: MAP, line 6: log 1 comes twice\n'),
     'a row without a log': (GOOD.replace(GOOD.split('\n')[1] + '\n', ''), '1@1', 'logs: MAP, line 2: this line does not belong here: 1-2 1\n'),
-    'a part behind a log': (GOOD.replace('log 2:7', 'run part-1.run\nlog 2:7'), '1@1', 'logs: MAP, line 6: this line does not belong here: '),
+    'a part after a log': (GOOD.replace('log 2:7', 'run part-1.run\nlog 2:7'), '1@1', 'logs: MAP, line 6: this line does not belong here: '),
     'parts in another order': (PARTS.replace('part-2', 'part-3'), '--part 1 1@1', 'logs: MAP, line 5: this line does not belong here: '),
     'a part that is not said': (PARTS, '1@1', 'logs: MAP is the map of 2 parts: say --part 1, or which one it is\n'),
     'a part that is not there': (PARTS, '--part 3 1@1', 'logs: MAP has no part 3: --part is 1 to 2\n'),
@@ -229,7 +229,7 @@ def try_fit(_program):
         write_files(folder, {'MAP': GOOD, 'RUN': RUN})
         came = where(['--run', 'RUN', 'MAP', '2:7@1', '1@3', '1@4'], folder)
     wanted = b'2:7@1: 2.7.log, line 1: conf r4.1 1\n1@3: 1.log, line 4, 1.5: dlv r4.1 4.1#1\n' \
-        b'1@4: added by join behind the last line of 1.log: fail r4.1\n'
+        b'1@4: added by join after the last line of 1.log: fail r4.1\n'
     return None if came == process.Answer(0, wanted, b'') else 'came: %s\n  wanted: %r' % (came, wanted)
 
 

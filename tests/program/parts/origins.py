@@ -11,7 +11,7 @@ from harness.joins import Case, Tool
 from parts.decorated import Decorated, undecorated
 
 FOUND = re.compile(r'(\S+): (\S+\.log), line (\d+)(?:, (\S+))?')
-ADDED = re.compile(r'(\S+): added by join behind the last line of (\S+\.log)')
+ADDED = re.compile(r'(\S+): added by join after the last line of (\S+\.log)')
 
 
 def places_of(run):
