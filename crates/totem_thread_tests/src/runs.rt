@@ -119,7 +119,10 @@ fn both_counts<R: Threads + Wait + Sync>(
     let Ok((_, books)) = run_nodes(rt, alloc, plan, &Quiet, &mut watch) else {
         return Err(Fail::from("no run"));
     };
-    let traffic = watch.traffic.ok_or("no traffic was reported")?;
+    let traffic = watch.traffic;
+    let Some(traffic) = traffic else {
+        return Err(Fail::from("no traffic was reported"));
+    };
     let others = u64::from(plan.nodes).saturating_sub(1);
     Ok((counted(others, &books), traffic))
 }
