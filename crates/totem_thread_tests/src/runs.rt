@@ -1,5 +1,7 @@
 //! The numbers of a run in threads, and its faults. What the threads do is tested with the public call `run_threads`
 //! (totem_cluster_tests).
+ghost use Rattle.totem_threads.specs.Starts.{IsInRange};
+
 use std::alloc::Global;
 use std::sync::Wait;
 use std::test::Fail;
@@ -114,16 +116,15 @@ fn both_counts<R: Threads + Wait + Sync>(
     rt: &R,
     alloc: Global,
     plan: RunPlan,
-) -> Result<(Packets, Traffic), Fail> {
+) -> Result<(Packets, Traffic), Fail>
+    requires { IsInRange plan }
+{
+    let others = u64::from(plan.nodes).saturating_sub(1);
     let mut watch = Watch { traffic: None };
     let Ok((_, books)) = run_nodes(rt, alloc, plan, &Quiet, &mut watch) else {
         return Err(Fail::from("no run"));
     };
-    let traffic = watch.traffic;
-    let Some(traffic) = traffic else {
-        return Err(Fail::from("no traffic was reported"));
-    };
-    let others = u64::from(plan.nodes).saturating_sub(1);
+    let traffic = watch.traffic.ok_or("no traffic was reported")?;
     Ok((counted(others, &books), traffic))
 }
 
