@@ -52,6 +52,8 @@ fn make(alloc: Global, view: &CommitView, word: &str) -> Result<CommitToken, Mem
 
 fn made(alloc: Global, word: &str) -> Result<CommitToken, MemberFault> {
     let view = view(alloc, word)?;
+    // Without this the prover does not know a type of the view here.
+    let _is_first = view.filled.is_none();
     make(alloc, &view, word)
 }
 
@@ -68,6 +70,8 @@ fn take(
 /// Lets the member take the token.
 fn taken(alloc: Global, token: &CommitToken, word: &str) -> Result<CommitOut, MemberFault> {
     let view = view(alloc, word)?;
+    // Without this the prover does not know a type of the view here.
+    let _is_first = view.filled.is_none();
     take(alloc, token, &view, word)
 }
 

@@ -34,7 +34,10 @@ fn member(alloc: Global, word: &str) -> Result<CommitMember, AllocError> {
 fn member_list(alloc: Global, words: &str) -> Result<Vec<CommitMember>, AllocError> {
     let mut list = Vec::new(alloc);
     for word in words.split_whitespace() {
-        list.push(member(alloc, word)?)?;
+        let member = member(alloc, word)?;
+        // Without this the prover does not know the type of a report here.
+        let _has_reported = member.report.is_some();
+        list.push(member)?;
     }
     Ok(list)
 }

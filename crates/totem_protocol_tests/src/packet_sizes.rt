@@ -81,7 +81,10 @@ fn largest_member(alloc: Global, number: u16) -> Result<CommitMember, Fail> {
 fn largest_commit_token(alloc: Global) -> Result<Packet, Fail> {
     let mut list = Vec::new(alloc);
     for number in 1..33u16 {
-        list.push(largest_member(alloc, number)?)?;
+        let member = largest_member(alloc, number)?;
+        // Without this the prover does not know the type of a report here.
+        let _has_reported = member.report.is_some();
+        list.push(member)?;
     }
     Ok(Packet::Commit(CommitToken {
         ring: ring(8),
