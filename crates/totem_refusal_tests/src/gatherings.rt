@@ -27,11 +27,10 @@ fn join(processes: Processes, failed: Processes) -> Join {
     }
 }
 
-/// Returns the number of members on which there is consensus.
-fn agreed(out: &GatherOut) -> usize {
-    match &out.members {
+fn len(set: Option<Processes>) -> usize {
+    match set {
         None => 0,
-        Some(members) => members.as_slice().len(),
+        Some(set) => set.len(),
     }
 }
 
@@ -42,7 +41,8 @@ fn on_join(alloc: Global, gathering: &mut Gather, join: &Join) -> Result<GatherO
 /// Takes a Join. Returns the number of members on which there is consensus then.
 fn hear(alloc: Global, gathering: &mut Gather, join: &Join) -> Result<usize, MemberFault> {
     let out = on_join(alloc, gathering, join)?;
-    Ok(agreed(&out))
+    let members = out.members;
+    Ok(len(members))
 }
 
 /// Takes a Join of 2, which knows 1, 2 and 3.
@@ -64,7 +64,8 @@ fn on_timeout(alloc: Global, gathering: &mut Gather) -> Result<GatherOut, Member
 
 fn time_out(alloc: Global, gathering: &mut Gather) -> Result<usize, MemberFault> {
     let out = on_timeout(alloc, gathering)?;
-    Ok(agreed(&out))
+    let members = out.members;
+    Ok(len(members))
 }
 
 /// Process 1 gathers with 2 and 3: it gets a Join of 2, gives up 3, which is silent, and gets a Join of 2, which gave up 3 too. Returns
@@ -81,7 +82,7 @@ fn sizes(gathering: &Gather) -> [usize; 3] {
     [
         gathering.join().processes.len(),
         gathering.gathered().len(),
-        gathering.consensus().map_or(0, |members| members.len()),
+        len(gathering.consensus()),
     ]
 }
 
