@@ -1,5 +1,6 @@
 """Threads refused, and memory refused in several threads: the audit's workers, and a run of nodes."""
 import re
+from dataclasses import replace
 
 from harness import process, rows
 from harness.sweep import MEMORY, Sweeper, one_of
@@ -61,7 +62,8 @@ def threads_of(asked, tally, words, wanted, is_right):
         return asked.shim.run([asked.program, *words], **told)
 
     def judge(ended):
-        if ended.met and ended.answer == MEMORY:
+        # (a ring is woven after its run has said what came of it)
+        if ended.met and replace(ended.answer, errors=SUMMARY.sub(b'', ended.answer.errors, count=1)) == MEMORY:
             return None
         is_told = SUMMARY.fullmatch(ended.answer.errors) or ended.met and not ended.answer.errors
         if ended.answer.status == 0 and is_told and is_right(asked, ended.answer.output):
