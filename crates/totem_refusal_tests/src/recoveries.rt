@@ -106,7 +106,10 @@ fn reporting(me: u16, delivered: u32) -> CommitMember {
 
 fn once_members(alloc: Global) -> Result<Vec<CommitMember>, AllocError> {
     let mut members = Vec::new(alloc);
-    members.push(reporting(1, 2))?;
+    let first = reporting(1, 2);
+    // Without this the prover does not know the type of a report here.
+    let _has_reported = first.report.is_some();
+    members.push(first)?;
     members.push(reporting(2, 3))?;
     Ok(members)
 }
