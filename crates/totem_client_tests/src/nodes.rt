@@ -25,6 +25,10 @@ pub fn seq(node: &NodeCore) -> u32 {
     node.seq()
 }
 
+pub fn has_crashed(node: &NodeCore) -> bool {
+    node.has_crashed()
+}
+
 pub fn copy(alloc: Global, node: &NodeCore) -> Result<NodeCore, AllocError> {
     node.try_clone(alloc)
 }

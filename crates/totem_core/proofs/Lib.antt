@@ -1,8 +1,6 @@
-pub mod Stepping
 pub mod Telling
 pub mod Growing
 pub mod Entering
-pub mod Foretelling
+pub mod Agreeing
 pub mod Visits
 pub mod FirstLives
-pub mod Passing

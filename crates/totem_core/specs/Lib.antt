@@ -6,7 +6,6 @@ pub mod Visiting
 pub mod Table
 pub mod Answers
 pub mod Transitions
-pub mod Refusals
 pub mod NewVisits
 pub mod Replay
 pub mod FirstLives

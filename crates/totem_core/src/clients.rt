@@ -1,8 +1,6 @@
-//! Decides whether a client's message is refused, and queues one that is not; and the crash (docs/PROTOCOL.md, "The node").
-ghost use Rattle.std.specs.Prelude.{◌≡◌, Ok, Err, IfSome, false};
-ghost use Rattle.totem_names.specs.declared.message.Service.{Service};
+//! A client's message, and the crash (docs/PROTOCOL.md, "The node").
+ghost use Rattle.std.specs.Prelude.{◌≡◌, Ok, Err};
 ghost use Rattle.totem_core.specs.Table.{on_submit, on_crash};
-ghost use Rattle.totem_core.specs.Refusals.{IsTaken, Tells};
 ghost use Rattle.totem_core.specs.Answers.{IsStep};
 
 use crate::fault::NodeFault;
@@ -19,30 +17,21 @@ use totem_ring::MOST_WAITING;
 const LONGEST: usize = 1024;
 
 impl NodeCore {
-    /// Returns why the node would refuse a client's message: its payload is too long, or 16 messages wait.
-    pub(crate) fn submit_refusal(&self, payload: &Bytes) -> Option<NodeFault>
-        ensures { (service : Service) → Tells result false (on_submit self.now service payload.now) }
-    {
-        if payload.len() > LONGEST {
-            return Some(NodeFault::Range);
-        }
-        if self.waiting.len() >= MOST_WAITING {
-            return Some(NodeFault::Full);
-        }
-        None
-    }
-
-    /// Queues a client's message, which is not refused, for the next visit.
-    #[tactic(auto, using(crate::proofs::Passing::payload_fits, crate::proofs::Passing::message_waits))]
+    /// Queues a client's message for the next visit. `Range` if its payload is too long, `Full` if 16 messages wait.
     pub(crate) fn on_submit(
         &mut self,
         alloc: Global,
         service: Service,
         payload: Bytes,
     ) -> Result<StepOut, NodeFault>
-        requires { IsTaken false (on_submit self.old service payload) }
         ensures { IsStep self.old self.new result (on_submit self.old service payload) }
     {
+        if payload.len() > LONGEST {
+            return Err(NodeFault::Range);
+        }
+        if self.waiting.len() >= MOST_WAITING {
+            return Err(NodeFault::Full);
+        }
         self.waiting.push(Body::App {
             service,
             payload: Payload::of(payload),

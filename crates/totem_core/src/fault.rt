@@ -2,7 +2,6 @@
 ghost use Rattle.std.specs.Prelude.{◌≡◌};
 ghost use Rattle.totem_core.specs.declared.fault.NodeFault.TheVariants.{Stranger, Memory};
 ghost use Rattle.totem_core.specs.Faults.{fault_number, fault_name, of_ring, of_member};
-ghost use Rattle.totem_core.specs.Refusals.{of_its_ring};
 
 use std::alloc::{AllocError, AllocFailed};
 use thiserror::Error;
@@ -114,15 +113,5 @@ impl From<MemberFault> for NodeFault {
             MemberFault::Range => NodeFault::Range,
             MemberFault::Memory => NodeFault::Memory,
         }
-    }
-}
-
-/// Returns a ring's refusal as the node's.
-pub(crate) fn of_its_ring(refusal: Option<RingFault>) -> Option<NodeFault>
-    ensures { result ≡ of_its_ring refusal }
-{
-    match refusal {
-        None => None,
-        Some(fault) => Some(fault.into()),
     }
 }

@@ -1,21 +1,20 @@
-//! Whether a node may begin to gather, how it begins, and what it does at consensus (docs/PROTOCOL.md, "The node").
-ghost use Rattle.std.specs.Prelude.{◌≡◌, IsTrue};
+//! How a node begins to gather, and what it does at consensus (docs/PROTOCOL.md, "The node").
+ghost use Rattle.std.specs.Prelude.{◌≡◌, Ok, IfOk};
 ghost use Rattle.std.specs.Option.{option_copied};
-ghost use Rattle.totem_packets.specs.Sets.{is_least};
-ghost use Rattle.totem_member.specs.Gathers.{gathered};
+ghost use Rattle.totem_member.specs.Gathers.{consensus};
 ghost use Rattle.totem_member.specs.Steps.{Begins};
 ghost use Rattle.totem_core.specs.Nodes.{committed_to};
-ghost use Rattle.totem_core.specs.Gathering.{join_broadcast, commit_passed_on, commit_begun, at_consensus, look_at_consensus, taking, gather_base, gathering_anew, to_gather};
+ghost use Rattle.totem_core.specs.Gathering.{join_broadcast, commit_passed_on, gather_base, gathering_anew, to_gather};
 ghost use Rattle.totem_core.specs.Outcomes.{Gives};
-ghost use Rattle.totem_core.specs.Refusals.{begins_at_the_end, Tells};
-ghost use Rattle.totem_core.specs.Transitions.{IsTransition};
+ghost use Rattle.totem_core.specs.Transitions.{token_at, looking, IsTransition};
 
 use crate::fault::NodeFault;
 use crate::node_core::NodeCore;
+use crate::reporting::greater;
 use crate::state::State;
 use crate::transition::Transition;
-use std::alloc::Global;
-use totem_member::{Gather, Phase, first_commit};
+use std::alloc::{AllocError, Global};
+use totem_member::{CommitView, Gather, Phase, first_commit};
 use totem_names::ProcId;
 use totem_packets::{CommitToken, Join, Number, Packet, Processes, TooMany};
 use totem_ring::To;
@@ -33,16 +32,6 @@ pub fn commit_passed_on(me: ProcId, token: CommitToken) -> (To, Packet)
 {
     let next = token.members.processes().next_after(me);
     (To::One(next), Packet::Commit(token))
-}
-
-/// Returns the gathering after the Join that caused it, if there is one.
-fn taking(alloc: Global, mut gather: Gather, cause: Option<&Join>) -> Result<Gather, NodeFault>
-    ensures { Gives result (taking gather (option_copied cause.entry)) }
-{
-    if let Some(join) = cause {
-        gather.on_join(alloc, join)?;
-    }
-    Ok(gather)
 }
 
 impl NodeCore {
@@ -69,40 +58,69 @@ impl NodeCore {
         Gather::new(alloc, self.me, &base, self.seq)
     }
 
-    /// Returns why the node would not begin to gather, with the processes `extra` and because of the Join `cause`.
-    #[tactic(auto, using(crate::proofs::Foretelling::refuses_many, crate::proofs::Foretelling::refuses_a_stranger, crate::proofs::Foretelling::takes_a_cause, crate::proofs::Foretelling::begins_alone))]
-    pub(crate) fn gather_refusal(
+    /// Returns the commit token that the node makes at consensus on these members, if it is the least of them. `seq` is the greatest
+    /// ring number that its gathering knows. `Range` if no number is left for the ring.
+    pub(crate) fn token_at(
         &self,
         alloc: Global,
-        extra: &[ProcId],
-        cause: Option<&Join>,
-    ) -> Option<NodeFault>
-        ensures { Tells result (begins_at_the_end self.now extra.now (option_copied cause.entry)) (to_gather self.now extra.now (option_copied cause.entry)) }
+        members: Option<Processes>,
+        seq: Number,
+    ) -> Result<Option<CommitToken>, NodeFault>
+        ensures { Gives result (token_at self.now members seq) }
     {
-        let Ok(gather) = self.new_gather(alloc, extra) else {
-            return Some(NodeFault::Stranger);
+        let Some(members) = members else {
+            return Ok(None);
         };
-        let Some(join) = cause else {
-            return None;
-        };
-        if gather.is_stranger(join) {
-            return Some(NodeFault::Stranger);
+        if !members.is_least(self.me) {
+            return Ok(None);
         }
-        None
+        let view = CommitView {
+            me: self.me,
+            members,
+            seq: greater(self.seq, seq),
+            filled: self.filled,
+            phase: Phase::Gather,
+            started: false,
+        };
+        Ok(Some(first_commit(alloc, &view, self.report())?))
     }
 
-    /// Returns the transition in which the least member makes the commit token and sends it on.
-    fn commit_begun(
+    /// Returns the transition of a gathering for which the node has made this commit token: to Commit if there is consensus, and
+    /// otherwise one that stays in Gather with this count of timers. The gathering's Join is broadcast if it is to be sent `again`.
+    #[tactic(auto, using(crate::proofs::Agreeing::agreed))]
+    pub(crate) fn transition_of(
         &self,
         alloc: Global,
+        quiet: u8,
         gather: Gather,
-        mut packets: Vec<(To, Packet)>,
-    ) -> Result<Transition, NodeFault>
-        requires { IsTrue (is_least (gathered gather) self.now.me) }
-        ensures { IsTransition result self.now (commit_begun self.now gather packets.items) }
+        again: bool,
+        token: Option<CommitToken>,
+    ) -> Result<Transition, AllocError>
+        requires { token_at self.now (consensus gather) gather.seq ≡ Ok token }
+        ensures { IfOk result (λ transition. IsTransition (Ok transition) self.now (looking (record self.now { quiet = quiet }) gather again)) }
     {
-        let view = self.commit_view(Phase::Gather, &gather, false);
-        let token = first_commit(alloc, &view, self.report())?;
+        let mut packets = Vec::new(alloc);
+        if again {
+            packets.push(join_broadcast(&gather))?;
+        }
+        if gather.consensus().is_none() {
+            return Ok(Transition {
+                state: State::Gathering(gather),
+                quiet,
+                seq: self.seq,
+                filled: self.filled,
+                packets,
+            });
+        }
+        let Some(token) = token else {
+            return Ok(Transition {
+                state: State::Committing(gather),
+                quiet: 0,
+                seq: self.seq,
+                filled: self.filled,
+                packets,
+            });
+        };
         let ring = token.ring;
         packets.push(commit_passed_on(self.me, token))?;
         Ok(Transition {
@@ -114,53 +132,9 @@ impl NodeCore {
         })
     }
 
-    /// Returns the transition to Commit, in which the least member makes the commit token.
-    fn at_consensus(
-        &self,
-        alloc: Global,
-        gather: Gather,
-        packets: Vec<(To, Packet)>,
-    ) -> Result<Transition, NodeFault>
-        ensures { IsTransition result self.now (at_consensus self.now gather packets.items) }
-    {
-        if gather.gathered().is_least(self.me) {
-            return self.commit_begun(alloc, gather, packets);
-        }
-        Ok(Transition {
-            state: State::Committing(gather),
-            quiet: 0,
-            seq: self.seq,
-            filled: self.filled,
-            packets,
-        })
-    }
-
-    /// Returns the transition to Commit if there is consensus, and otherwise one that stays in Gather with this count of
-    /// timers.
-    pub(crate) fn look_at_consensus(
-        &self,
-        alloc: Global,
-        quiet: u8,
-        gather: Gather,
-        members: Option<Processes>,
-        packets: Vec<(To, Packet)>,
-    ) -> Result<Transition, NodeFault>
-        ensures { IsTransition result self.now (look_at_consensus (record self.now { quiet = quiet }) gather members packets.items) }
-    {
-        if members.is_some() {
-            return self.at_consensus(alloc, gather, packets);
-        }
-        Ok(Transition {
-            state: State::Gathering(gather),
-            quiet,
-            seq: self.seq,
-            filled: self.filled,
-            packets,
-        })
-    }
-
     /// Returns the transition with a new gathering: it takes the Join that caused it, its own Join is broadcast once,
     /// and consensus is checked.
+    #[tactic(auto, using(crate::proofs::Agreeing::agreed, crate::proofs::Agreeing::refuses, crate::proofs::Agreeing::refuses_anew))]
     fn gathering_anew(
         &self,
         alloc: Global,
@@ -169,11 +143,20 @@ impl NodeCore {
     ) -> Result<Transition, NodeFault>
         ensures { IsTransition result self.now (gathering_anew self.now new (option_copied cause.entry)) }
     {
-        let gather = taking(alloc, new, cause)?;
-        let members = gather.consensus();
-        let mut packets = Vec::new(alloc);
-        packets.push(join_broadcast(&gather))?;
-        self.look_at_consensus(alloc, 0, gather, members, packets)
+        let Some(join) = cause else {
+            let token = self.token_at(alloc, new.consensus(), new.seq())?;
+            return Ok(self.transition_of(alloc, 0, new, true, token)?);
+        };
+        if new.is_stranger(join) {
+            return Err(NodeFault::Stranger);
+        }
+        let token = self.token_at(
+            alloc,
+            new.consensus_after(join),
+            greater(new.seq(), join.seq),
+        )?;
+        let next = new.after_join(alloc, join)?;
+        Ok(self.transition_of(alloc, 0, next, true, token)?)
     }
 
     /// Returns the transition *to gather*, with the processes `extra` and because of the Join `cause`, if it is given.

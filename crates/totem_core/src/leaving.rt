@@ -127,6 +127,7 @@ pub struct NewVisit {
 
 /// Gives the new ring the next bodies of the list to send, lets it take a token, and returns what is written of the
 /// visit.
+#[tactic(auto, using(crate::proofs::Visits::refused_early))]
 pub(crate) fn visit_with_next(
     alloc: Global,
     recovery: &Recovery,
@@ -137,8 +138,11 @@ pub(crate) fn visit_with_next(
     ensures { IsNewVisit result recovery.now installed.now ring.old ring.new token.now }
 {
     let bodies = recovery.coming_bodies();
+    if let Some(fault) = ring.token_refusal_with(bodies, token) {
+        return Err(fault.into());
+    }
     let ring_steps = visit_steps(alloc, ring.ring(), bodies, token)?;
-    let (out, undo) = ring.on_token_with(alloc, bodies, token)?;
+    let (out, undo) = ring.visit_with(alloc, bodies, token)?;
     match written_and_owed(alloc, recovery, installed, ring, &out.handed) {
         Ok((entries, obligation)) => Ok(NewVisit {
             out,

@@ -5,10 +5,8 @@
 //! - `NodeCore::new` returns the node that starts on a ring, in one of its lives, and the first entry of its log (`new_node`,
 //!   specs/Nodes; `first_change`, specs/Replay).
 //! - `NodeCore::step` is the defined step, for every state and input: with `Ok` the state, the packets, the entries and the steps
-//!   on rings are exactly those of `step` (specs/Table). A refused step changes nothing, and has the defined fault or `Memory`
-//!   (`IsStep`, specs/Answers).
-//! - `NodeCore::refusal` returns why a step would be refused, without taking it or allocating memory, with one exception that its
-//!   contract names (`Tells`, specs/Refusals).
+//!   on rings are exactly those of `step` (specs/Table). A refused step changes nothing, and has the defined fault, or `Memory` if it
+//!   would otherwise be taken (`IsStep`, specs/Answers).
 //!
 //! A step waits for nothing, and reads no clock: timers and packets are inputs. So scripts (totem_script), books (totem_books) and
 //! threads (totem_threads) all run the same node. That the logs meet the specifications is not claimed (docs/PROTOCOL.md, "Why runs
@@ -32,7 +30,6 @@ mod ring_step;
 mod state;
 mod step;
 mod timers;
-mod token_refusal;
 mod tokens;
 mod told;
 mod transition;

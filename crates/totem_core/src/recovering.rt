@@ -68,6 +68,7 @@ fn tell_adopting(
 }
 
 /// Takes a message of the new ring. The installed ring may adopt the message that it carries.
+#[tactic(auto, using(crate::proofs::Visits::message_refused))]
 pub fn message_on_new(
     alloc: Global,
     installed: &mut RingState,

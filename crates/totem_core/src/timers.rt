@@ -1,7 +1,6 @@
-//! Decides whether a timer is refused, and takes one that is not (docs/PROTOCOL.md, "The node").
-ghost use Rattle.std.specs.Prelude.{◌≡◌, IfOk};
+//! A timer (docs/PROTOCOL.md, "The node").
+ghost use Rattle.std.specs.Prelude.{◌≡◌};
 ghost use Rattle.totem_core.specs.Table.{late, is_quiet, on_timer};
-ghost use Rattle.totem_core.specs.Refusals.{IsTaken, timer_at_the_end, Tells};
 ghost use Rattle.totem_core.specs.Transitions.{IsTransition, IsTimerTransition, IsCounting};
 ghost use Rattle.totem_core.specs.Answers.{IsStep};
 
@@ -29,34 +28,18 @@ impl NodeCore {
         self.quiet >= QUIET
     }
 
-    /// Returns why the node would refuse a timer, of which only one that makes it gather may be refused.
-    #[tactic(auto, using(crate::proofs::Foretelling::gathers_on))]
-    pub(crate) fn timer_refusal(&self, alloc: Global) -> Option<NodeFault>
-        ensures { Tells result (timer_at_the_end self.now self.now.state) (on_timer self.now self.now.state) }
-    {
-        if let State::Gathering(_) = &self.state {
-            return None;
-        }
-        if !self.is_quiet() {
-            return None;
-        }
-        self.gather_refusal(alloc, &[], None)
-    }
-
     /// Returns the transition in which a gathering gives up those that did not agree in time.
+    #[tactic(auto, using(crate::proofs::Agreeing::agreed, crate::proofs::Agreeing::refuses))]
     fn late(&self, alloc: Global, gather: &Gather) -> Result<Transition, NodeFault>
         ensures { IsTransition result self.now (late self.now gather.now) }
     {
-        let mut next = gather.try_clone(alloc)?;
-        let out = next.on_timeout(alloc)?;
-        let mut packets = Vec::new(alloc);
-        packets.push(join_broadcast(&next))?;
-        self.look_at_consensus(alloc, 0, next, out.members, packets)
+        let token = self.token_at(alloc, gather.consensus_after_timeout(), gather.seq())?;
+        let next = gather.after_timeout(alloc)?;
+        Ok(self.transition_of(alloc, 0, next, true, token)?)
     }
 
-    /// Returns the transition that this timer causes, which is not refused, or `None` if it is only counted.
+    /// Returns the transition that this timer causes, or `None` if it is only counted.
     fn timer_transition(&self, alloc: Global) -> Result<Option<Transition>, NodeFault>
-        requires { IsTaken (timer_at_the_end self.now self.now.state) (on_timer self.now self.now.state) }
         ensures { IsTimerTransition result self.now }
     {
         if let State::Gathering(gather) = &self.state {
@@ -87,9 +70,8 @@ impl NodeCore {
         }
     }
 
-    /// Takes a timer that has run out and is not refused.
+    /// Takes a timer that has run out.
     pub(crate) fn on_timer(&mut self, alloc: Global) -> Result<StepOut, NodeFault>
-        requires { IsTaken (timer_at_the_end self.old self.old.state) (on_timer self.old self.old.state) }
         ensures { IsStep self.old self.new result (on_timer self.old self.old.state) }
     {
         if let Some(transition) = self.timer_transition(alloc)? {

@@ -1,8 +1,6 @@
-//! Takes a token that is not refused (`token_refusal`), and sends a token again (docs/PROTOCOL.md, "The node").
-ghost use Rattle.std.specs.Prelude.{◌≡◌, None, Err, IfOk, IfSome, false};
-ghost use Rattle.totem_ring.specs.Refusals.{token_refusal};
-ghost use Rattle.totem_ring.specs.Steps.{given};
-ghost use Rattle.totem_core.specs.Refusals.{IsTaken};
+//! A token, and a token that is sent again (docs/PROTOCOL.md, "The node"). What its ring has against a token, such as that it is old or
+//! repeated, is in totem_ring `refusals`; commit tokens are in `commits`.
+ghost use Rattle.std.specs.Prelude.{◌≡◌, Err, IfOk, IfSome};
 ghost use Rattle.totem_core.specs.Visiting.{visit_told, visit_installed};
 ghost use Rattle.totem_core.specs.Table.{on_token};
 ghost use Rattle.totem_core.specs.Answers.{IsTold, IsStep, IsResent};
@@ -18,22 +16,24 @@ use totem_names::ConfId;
 use totem_packets::{Body, Token};
 use totem_ring::{Act, RingState};
 
-/// Gives these bodies to a ring, lets it take a token, and returns what a node reports of it: the sends are written first, then the
-/// deliveries.
-#[tactic(auto, using(crate::proofs::Visits::room_with))]
+/// Lets a ring take a token as if these bodies waited too, and returns what a node reports of it: the sends are written first, then
+/// the deliveries.
+#[tactic(auto, using(crate::proofs::Visits::room_with, crate::proofs::Visits::refused_early))]
 fn visit_told(
     alloc: Global,
     ring: &mut RingState,
     bodies: &[Body],
     token: &Token,
 ) -> Result<StepOut, NodeFault>
-    requires { token_refusal (given ring.old bodies.now) token.now ≡ None }
     ensures { IsTold ring.old ring.new result (visit_told ring.old bodies.now token.now) }
 {
+    if let Some(fault) = ring.token_refusal_with(bodies, token) {
+        return Err(fault.into());
+    }
     let conf = ConfId::Regular(ring.ring());
     let mut entries = visit_sends(alloc, ring, bodies, token)?;
     let ring_steps = visit_steps(alloc, ring.ring(), bodies, token)?;
-    let (out, undo) = ring.on_token_with(alloc, bodies, token)?;
+    let (out, undo) = ring.visit_with(alloc, bodies, token)?;
     match write_deliveries(&mut entries, &conf, &out.handed) {
         Ok(()) => Ok(StepOut {
             packets: out.packets,
@@ -60,14 +60,8 @@ pub fn resend(alloc: Global, ring: &RingState) -> Result<StepOut, NodeFault>
 }
 
 impl NodeCore {
-    /// Takes the installed ring's token, which the ring would not refuse.
-    #[tactic(auto, using(crate::proofs::Visits::installed_takes))]
-    pub(crate) fn visit_installed(
-        &mut self,
-        alloc: Global,
-        token: &Token,
-    ) -> Result<StepOut, NodeFault>
-        requires { IsTaken false (visit_installed self.old token.now) }
+    /// Takes a token on the installed ring.
+    fn visit_installed(&mut self, alloc: Global, token: &Token) -> Result<StepOut, NodeFault>
         ensures { IsStep self.old self.new result (visit_installed self.old token.now) }
     {
         let told = visit_told(alloc, &mut self.installed, &self.waiting, token)?;
@@ -76,15 +70,14 @@ impl NodeCore {
         Ok(told)
     }
 
-    /// Takes a token that is not refused.
+    /// Takes a token.
     pub(crate) fn on_token(&mut self, alloc: Global, token: &Token) -> Result<StepOut, NodeFault>
-        requires { IsTaken false (on_token self.old token.now self.old.state) }
         ensures { IsStep self.old self.new result (on_token self.old token.now self.old.state) }
     {
         match &mut self.state {
             State::Operational => self.visit_installed(alloc, token),
-            State::Gathering(_) => unreachable!(),
-            State::Committing(_) => unreachable!(),
+            State::Gathering(_) => Err(NodeFault::Stale),
+            State::Committing(_) => Err(NodeFault::Stale),
             State::InRecovery(x) => {
                 let visit = visit_with_next(
                     alloc,

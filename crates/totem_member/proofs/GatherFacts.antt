@@ -1,6 +1,7 @@
 -- The invariant of a gathering: the failed processes are known, and the process itself has not failed.
-use Rattle.std.proofs.Common.{◌≡◌, ℕ, ◌<◌, ◌≤◌, ◌==◌, ◌&&◌, ⊎_elim, true, false, not, List, [], length, filter, refl, sym, ◌∙◌, ap, arith, Result, Ok, Err}
-use Rattle.std.specs.Prelude.{nat_lt, IsOk}
+use Rattle.std.proofs.Common.{◌≡◌, ℕ, ◌<◌, ◌≤◌, ◌==◌, ◌&&◌, ⊎_elim, Bool, true, false, not, List, [], length, filter, refl, sym, ◌∙◌, ap, arith, None, Some, Result, Ok, Err}
+use Rattle.std.specs.Prelude.{nat_lt, IsOk, IsTrue, IfSome, if◌then◌else◌}
+use Rattle.std.specs.List.{list_all}
 use Rattle.std.proofs.lemmas.Bool.{eq-eqb, eqb-true, eqb-false, ne_eqb, ltb-false, not-true, not-false, and_parts, and_from, and_right, or_cases, or_parts, or_from, or_left, or_right}
 use Rattle.totem_packets.specs.declared.join.Join.{Join}
 use Rattle.totem_packets.specs.declared.too_many.TooMany.{TooMany}
@@ -8,7 +9,7 @@ use Rattle.totem_member.specs.declared.join_sets.Sets.{Sets}
 use Rattle.totem_packets.specs.Rising.{IsProcesses}
 use Rattle.totem_packets.specs.Sets.{has, is_within, with_process, union, Makes}
 use Rattle.totem_packets.proofs.SetFacts.{Up, up_of, up_with, up_union, has_with, has_union, part_is}
-use Rattle.totem_member.specs.Gathers.{Gather, IsGather, IsStanding, gathered, agrees, is_stranger, turning_away, joined}
+use Rattle.totem_member.specs.Gathers.{Gather, IsGather, IsStanding, gathered, agrees, consensus, is_stranger, turning_away, joined}
 use Rattle.totem_member.proofs.Within.{IsPart, part_of, within_from, no_longer, above, has_filter}
 
 -- the sender and the sets of a Join that is not refused
@@ -184,6 +185,14 @@ given_up g is = record {
 -- the process itself is gathered
 pub gathered_has_me : (g : Gather) → IsGather g → has (gathered g) g.me ≡ true
 gathered_has_me g is = has_filter (λ p. not (has g.sets.failed p)) g.sets.processes g.me ∙ and_from (has g.sets.processes g.me) (not (has g.sets.failed g.me)) is.standing.mine is.standing.standing
+
+-- and so each consensus has it
+pub consensus_has_me : (g : Gather) → IsGather g → IfSome (consensus g) (λ m. IsTrue (has m g.me))
+consensus_has_me g is = by_all (list_all (agrees g) (gathered g))
+  where
+    by_all : (all : Bool) → IfSome (if all then Some (gathered g) else None) (λ m. IsTrue (has m g.me))
+    by_all true = gathered_has_me g is
+    by_all false = tt
 
 -- a new gathering keeps the invariant
 pub begins : (me : ℕ) (base : List ℕ) → IsProcesses base → IsStanding me (record { processes = with_process base me; failed = [] })

@@ -1,4 +1,5 @@
 pub mod FilledMembers
 pub mod Within
+pub mod Hearing
 pub mod GatherFacts
 pub mod Ways

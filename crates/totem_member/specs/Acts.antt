@@ -1,18 +1,11 @@
 -- How a member takes a commit token (docs/PROTOCOL.md, "The commit token").
-use Rattle.std.specs.Prelude.{ℕ, map, Result, Ok, Err}
+use Rattle.std.specs.Prelude.{ℕ, map}
 use Rattle.totem_packets.specs.declared.commit.CommitToken.{CommitToken}
 use Rattle.totem_packets.specs.declared.commit.Round.TheVariants.{Second}
 use Rattle.totem_packets.specs.declared.commit_member.Report.{Report}
-use Rattle.totem_member.specs.declared.views.CommitOut.{CommitOut}
 use Rattle.totem_member.specs.declared.views.Act.{Act}
 use Rattle.totem_member.specs.declared.views.Act.TheVariants.{Filled, Entered, Started}
-use Rattle.totem_member.specs.declared.fault.MemberFault.{MemberFault}
 use Rattle.totem_member.specs.Commits.{filled_by}
-
--- how the token was taken, or its refusal
-abbrev pub act_of : Result CommitOut MemberFault → Result Act MemberFault
-act_of (Ok out) = Ok out.act
-act_of (Err fault) = Err fault
 
 -- the token after it is taken: with the member's report, in its second round, or unchanged
 abbrev pub passed_on : CommitToken → ℕ → Report → Act → CommitToken

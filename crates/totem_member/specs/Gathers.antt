@@ -80,6 +80,15 @@ abbrev pub noting : List Noted → Join → List Noted
 noting noted j =
     filter (λ n. not (n.proc == j.sender)) noted ++ record { proc = j.sender; sets = record { processes = j.processes; failed = j.failed } } ∷ []
 
+-- what is noted once this Join is, if there is one
+abbrev pub noted_with : List Noted → Option Join → List Noted
+noted_with noted None = noted
+noted_with noted (Some j) = noting noted j
+
+-- the gathering with these sets, and with the Join noted, if there is one
+abbrev pub with_sets : Gather → Option Join → Sets → Gather
+with_sets g heard sets = record g { sets = sets; noted = noted_with g.noted heard }
+
 -- the gathering after this Join, of which nothing is noted if it says that the process failed
 abbrev pub after_join : Gather → Join → Gather
 after_join g j = record {

@@ -1,7 +1,10 @@
 //! How a member takes a commit token (docs/PROTOCOL.md, "The commit token").
-ghost use Rattle.std.specs.Prelude.{◌≡◌, is_some};
+ghost use Rattle.std.specs.Prelude.{◌≡◌, ◌≢◌, ◌≤◌, length, true, is_some, MatchResult, Ok, Err};
+ghost use Rattle.totem_packets.specs.OldRings.{obligation_union};
 ghost use Rattle.totem_member.specs.Commits.{on_commit, report_of, same_report, is_report, is_filled_ring, may_fill, may_enter, may_start};
-ghost use Rattle.totem_member.specs.Acts.{act_of};
+ghost use Rattle.totem_member.specs.Acts.{passed_on};
+ghost use Rattle.totem_member.specs.declared.fault.MemberFault.TheVariants.{Memory};
+ghost use Rattle.totem_member.specs.declared.views.Act.TheVariants.{Entered};
 
 use crate::fault::MemberFault;
 use crate::views::{Act, CommitView, Phase};
@@ -93,13 +96,15 @@ fn may_start(token: &CommitToken, view: &CommitView) -> bool
 }
 
 /// Returns how the member takes this commit token, or why it refuses it. `Range` if it would enter a ring whose
-/// obligation union has more than 32 processes. `on_commit` takes the token in this way. Takes no memory.
+/// obligation union has more than 32 processes. `passed_on` makes the token that goes on. Takes no memory.
 pub fn commit_act(
     token: &CommitToken,
     view: &CommitView,
     report: &Report,
 ) -> Result<Act, MemberFault>
-    ensures { result ≡ act_of (on_commit token.now view.now report.now) }
+    ensures act { MatchResult result (λ act. on_commit token.now view.now report.now ≡ Ok (record { act = act; token = passed_on token.now view.now.me report.now act }))
+        (λ fault. (fault ≢ Memory) × (on_commit token.now view.now report.now ≡ Err fault)) }
+    ensures entered { result ≡ Ok Entered → (may_enter token.now view.now report.now ≡ true) × (length (obligation_union report.now.ring token.now.members) ≤ 32) }
 {
     if !token.members.are(&view.members) {
         return Err(MemberFault::Stale);

@@ -83,7 +83,7 @@ pub fn first_commit(
 }
 
 /// Returns the token after the member has taken it in this way.
-fn passed_on(
+pub fn passed_on(
     alloc: Global,
     token: &CommitToken,
     me: ProcId,
@@ -109,7 +109,7 @@ fn passed_on(
 
 /// Takes a commit token in one of three ways, or refuses it (docs/PROTOCOL.md, "The commit token"). `report` is what
 /// the member would report now.
-#[tactic(auto, using(crate::proofs::Ways::answer, crate::proofs::Ways::refused, crate::proofs::Ways::grown))]
+#[tactic(auto, using(crate::proofs::Ways::refused, crate::proofs::Ways::grown))]
 pub fn on_commit(
     alloc: Global,
     token: &CommitToken,

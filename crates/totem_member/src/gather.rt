@@ -1,7 +1,8 @@
 ghost use Rattle.std.specs.Prelude.{◌≡◌, Ok, IfOk, IsOk, IfSome, IsTrue, false, not, filter, ◌==◌};
 ghost use Rattle.std.specs.List.{list_all};
+ghost use Rattle.std.specs.Option.{option_copied};
 ghost use Rattle.totem_packets.specs.Sets.{has};
-ghost use Rattle.totem_member.specs.Gathers.{join, gathered, agrees, consensus, is_stranger, after_join, after_timeout, noted_equal, on_join, on_timeout, IsGather, IsStanding};
+ghost use Rattle.totem_member.specs.Gathers.{join, gathered, agrees, consensus, is_stranger, after_join, after_timeout, noted_equal, same_sets, with_sets, on_join, on_timeout, IsGather, IsStanding};
 ghost use Rattle.totem_member.specs.Steps.{IsStep, Begins};
 
 use crate::fault::MemberFault;
@@ -147,29 +148,56 @@ impl Gather {
         self.sets.processes.without(&self.sets.failed)
     }
 
+    /// Returns whether the process agrees with these sets, if the Join `heard` is noted first.
+    #[tactic(auto, using(crate::proofs::Hearing::noted_last))]
+    fn agrees_with(&self, heard: Option<&Join>, sets: &Sets, proc: ProcId) -> bool
+        ensures { result ≡ agrees (with_sets self.now (option_copied heard.entry) sets.now) proc }
+    {
+        if proc == self.me {
+            return true;
+        }
+        if let Some(join) = heard {
+            if proc == join.sender {
+                return join.processes.is(&sets.processes) && join.failed.is(&sets.failed);
+            }
+        }
+        noted_equal(&self.noted, proc, sets)
+    }
+
     fn agrees(&self, proc: ProcId) -> bool
         ensures { result ≡ agrees self.now proc }
     {
-        proc == self.me || noted_equal(&self.noted, proc, &self.sets)
+        self.agrees_with(None, &self.sets, proc)
     }
 
-    fn all_agree(&self, members: &Processes) -> bool
-        ensures { result ≡ list_all (agrees self.now) members.now }
+    fn all_agree(&self, heard: Option<&Join>, sets: &Sets, members: &Processes) -> bool
+        ensures { result ≡ list_all (agrees (with_sets self.now (option_copied heard.entry) sets.now)) members.now }
     {
-        members.as_slice().iter().all(|proc| self.agrees(*proc))
+        members
+            .as_slice()
+            .iter()
+            .all(|proc| self.agrees_with(heard, sets, *proc))
+    }
+
+    /// Returns the processes on which there is consensus with these sets, if the Join `heard` is noted first.
+    fn consensus_with(&self, heard: Option<&Join>, sets: &Sets) -> Option<Processes>
+        ensures { result ≡ consensus (with_sets self.now (option_copied heard.entry) sets.now) }
+    {
+        let members = sets.processes.without(&sets.failed);
+        if self.all_agree(heard, sets, &members) {
+            return Some(members);
+        }
+        None
     }
 
     /// Returns the processes on which there is consensus, or `None` if there is no consensus yet.
+    #[tactic(auto, using(crate::proofs::GatherFacts::consensus_has_me))]
     pub fn consensus(&self) -> Option<Processes>
         ensures value { result ≡ consensus self.now }
         ensures mine { IfSome result (λ m. IsTrue (has m self.now.me)) }
     {
         self.keeps_its_rule();
-        let members = self.gathered();
-        if self.all_agree(&members) {
-            return Some(members);
-        }
-        None
+        self.consensus_with(None, &self.sets)
     }
 
     /// Returns whether this Join would be refused because its sender can't be gathered with.
@@ -224,7 +252,8 @@ impl Gather {
         Ok(noted)
     }
 
-    fn after_join(&self, alloc: Global, join: &Join) -> Result<Gather, AllocError>
+    /// Returns the gathering after this Join, whose sender can be gathered with.
+    pub fn after_join(&self, alloc: Global, join: &Join) -> Result<Gather, AllocError>
         requires { is_stranger self.now join.now ≡ false }
         ensures { IfOk result (λ g. g ≡ after_join self.now join.now) }
     {
@@ -241,6 +270,25 @@ impl Gather {
         })
     }
 
+    /// Returns the processes on which there is consensus after this Join, or `None` if there is no consensus then. Takes no memory.
+    pub fn consensus_after(&self, join: &Join) -> Option<Processes>
+        requires { is_stranger self.now join.now ≡ false }
+        ensures { result ≡ consensus (after_join self.now join.now) }
+    {
+        let sets = self.sets_after(join);
+        if join.failed.contains(self.me) {
+            return self.consensus_with(None, &sets);
+        }
+        self.consensus_with(Some(join), &sets)
+    }
+
+    /// Returns whether the two gatherings know the same processes, and think that the same have failed.
+    pub fn has_same_sets(&self, other: &Gather) -> bool
+        ensures { result ≡ same_sets self.now.sets other.now.sets }
+    {
+        self.sets.are(&other.sets)
+    }
+
     /// Takes a received Join. `Stranger` if its sender can't be gathered with.
     pub fn on_join(&mut self, alloc: Global, join: &Join) -> Result<GatherOut, MemberFault>
         ensures step { IsStep self.old self.new result (on_join self.old join.now) }
@@ -251,7 +299,7 @@ impl Gather {
         }
         let next = self.after_join(alloc, join)?;
         let members = next.consensus();
-        let again = !next.sets.are(&self.sets);
+        let again = !next.has_same_sets(self);
         *self = next;
         Ok(GatherOut { again, members })
     }
@@ -283,7 +331,8 @@ impl Gather {
         }
     }
 
-    fn after_timeout(&self, alloc: Global) -> Result<Gather, AllocError>
+    /// Returns the gathering after a timeout: the processes that don't agree count as failed from now on.
+    pub fn after_timeout(&self, alloc: Global) -> Result<Gather, AllocError>
         ensures { IfOk result (λ g. g ≡ after_timeout self.now) }
     {
         Ok(Gather {
@@ -292,6 +341,13 @@ impl Gather {
             seq: self.seq,
             noted: self.noted.as_slice().to_vec(alloc)?,
         })
+    }
+
+    /// Returns the processes on which there is consensus after a timeout, or `None` if there is no consensus then. Takes no memory.
+    pub fn consensus_after_timeout(&self) -> Option<Processes>
+        ensures { result ≡ consensus (after_timeout self.now) }
+    {
+        self.consensus_with(None, &self.sets_without_late())
     }
 
     /// Gives up the processes that don't agree, after a timeout: from now on they count as failed.

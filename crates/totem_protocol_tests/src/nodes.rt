@@ -226,12 +226,13 @@ fn copied_input(alloc: Global, word: &str) -> Result<Input, Fail> {
     Ok(given.try_clone(alloc)?)
 }
 
-/// Adds why the node would refuse this input, or that it would take it.
+/// Adds why a copy of the node refuses this input, or that it takes it.
 fn push_refusal(alloc: Global, text: &mut String, node: &NodeCore, word: &str) -> Result<(), Fail> {
     let given = input(alloc, word)?;
-    Ok(match node.refusal(alloc, &given) {
-        None => text.push_str("taken")?,
-        Some(fault) => text.push_str(fault.name())?,
+    let mut copy = node.try_clone(alloc)?;
+    Ok(match copy.step(alloc, given) {
+        Ok(_) => text.push_str("taken")?,
+        Err(fault) => text.push_str(fault.name())?,
     })
 }
 
@@ -257,7 +258,7 @@ fn push_copied_step(
     Ok(push_copied_answer(alloc, text, node.step(alloc, given))?)
 }
 
-/// Takes the step of a word: after `copied-` by copies, and after `would-` only its refusal is reported.
+/// Takes the step of a word: after `copied-` by copies, and after `would-` by a copy of the node, of which only the refusal is reported.
 fn push_word(
     alloc: Global,
     text: &mut String,
@@ -408,7 +409,7 @@ const LIVES: [Row; 17] = [
         inputs: "submit1 submit1 submit1 submit1 submit1 submit1 submit1 submit1 submit1 submit1 submit1 submit1 submit1 submit1 submit1 submit1 submit1",
         told: "conf r4.1 1 2; / / / / / / / / / / / / / / / / / Full",
     },
-    // What would be refused is reported without a step.
+    // What would be refused is reported, and the node itself takes no step.
     Row {
         members: 2,
         inputs: "would-token would-from2 would-from7 would-commit would-join3 would-alien4 would-second would-submit1024 would-submit1025 would-timer would-crash token would-token",

@@ -1,4 +1,3 @@
-pub mod AtOnce
 pub mod Prefixes
 pub mod Nth
 pub mod HeldOnes

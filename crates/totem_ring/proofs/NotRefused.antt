@@ -1,9 +1,11 @@
 -- The tests that a token passes if it isn't refused.
-use Rattle.std.proofs.Common.{◌≡◌, ◌<◌, nat_le, Bool, true, false, not, if◌then◌else◌, ◌&&◌, Some, None, refl, eqb-true, leb-false}
+use Rattle.std.proofs.Common.{◌≡◌, ◌<◌, nat_le, Bool, true, false, not, if◌then◌else◌, ◌&&◌, [], Some, None, refl, ap, eqb-true, leb-false}
+use Rattle.std.proofs.lemmas.List.{append-nil}
 use Rattle.totem_packets.specs.declared.token.Token.{Token}
 use Rattle.totem_ring.specs.declared.fault.RingFault.TheVariants.{OtherRing, Repeat, Range}
 use Rattle.totem_ring.specs.Rings.{Ring, same_ring, taker_of}
 use Rattle.totem_ring.specs.Refusals.{is_token_in_range, token_refusal}
+use Rattle.totem_ring.specs.Steps.{given}
 
 pub record IsTaken (s : Ring) (t : Token) : Type 0 where
   pub new : s.last < t.token_seq
@@ -26,3 +28,7 @@ token_is_taken s t h =
       new = leb-false t.token_seq s.last both.0;
       mine = eqb-true (taker_of s.members t.token_seq) s.me (first_of_three _ _ _ both.1);
     }
+
+-- if no bodies are given, nothing more is waiting
+pub given_nothing : (s : Ring) (t : Token) → token_refusal (given s []) t ≡ token_refusal s t
+given_nothing s t = ap (λ waiting. token_refusal (record s { waiting = waiting }) t) (append-nil s.waiting)

@@ -1,5 +1,5 @@
 -- The code of a visit does what the visit is defined to do.
-use Rattle.std.proofs.Common.{Vec, Global, ◌≡◌, ℕ, ◌+◌, ◌^◌, ◌<◌, List, [], ◌∷◌, ◌++◌, length, Option, Some, None, Ok, false, not, refl, sym, ◌∙◌, ap, arith}
+use Rattle.std.proofs.Common.{Vec, Global, ◌≡◌, ℕ, ◌+◌, ◌^◌, ◌<◌, List, [], ◌∷◌, ◌++◌, length, Option, Some, None, false, not, refl, sym, ◌∙◌, ap, arith}
 use Rattle.std.specs.Prelude.{All, filter, min, max}
 use Rattle.std.specs.List.{filter_map}
 use Rattle.totem_packets.specs.declared.message.Body.{Body}
@@ -14,11 +14,10 @@ use Rattle.totem_ring.specs.Rings.{up_to, Ring, Held, message_at, holds, with_me
 use Rattle.totem_ring.specs.Refusals.{token_refusal, holds_above}
 use Rattle.totem_ring.specs.Requests.{with_requests}
 use Rattle.totem_ring.specs.Visits.{Sending, broadcasts, numbered, aru_set, missing}
-use Rattle.totem_ring.specs.Steps.{after_token, on_token}
+use Rattle.totem_ring.specs.Steps.{after_token}
 use Rattle.totem_ring.specs.declared.undo.RingUndo.TheVariants.{Visit as OfVisit}
 use Rattle.totem_ring.specs.Answers.{IsDone}
-use Rattle.totem_ring.specs.Undoing.{AnswersUndoably}
-use Rattle.totem_ring.proofs.Undone.{undoably}
+use Rattle.totem_ring.specs.Undoing.{IsDoneUndoably}
 use Rattle.totem_ring.specs.Departures.{IsAnswered, IsDeparture}
 use Rattle.totem_ring.proofs.Numbering.{length-numbered}
 use Rattle.totem_ring.proofs.VisitSteps.{has_passed, numbered_above, forgotten}
@@ -69,7 +68,7 @@ pub departs : (s : Ring) (t : Token) (held : Held) (answered : Answered) (own le
     → token_refusal s t ≡ None → own ≡ numbered s t.seq s.waiting → lent ≡ own → held ≡ with_messages s.held lent → IsAnswered s.held t.rtr answered
     → IsDeparture (record s { held = held }) t answered own d
     → n ≡ length d.handed.items → last ≡ t.token_seq → waiting.items ≡ [] → waited.items ≡ s.waiting → kept ≡ s.kept
-    → AnswersUndoably (Ok (record { packets = d.packets; handed = d.handed }, OfVisit t.seq s.handed s.safe_to s.sent_aru s.last waited kept)) s (record {
+    → IsDoneUndoably (record { packets = d.packets; handed = d.handed }) (OfVisit t.seq s.handed s.safe_to s.sent_aru s.last waited kept) s (record {
       me = s.me;
       ring = s.ring;
       members = s.members;
@@ -80,7 +79,7 @@ pub departs : (s : Ring) (t : Token) (held : Held) (answered : Answered) (own le
       last = last;
       waiting = waiting.items;
       kept = Some d.leaving;
-    }) (on_token s t)
+    }) (after_token s t)
 departs s t held answered own lent n last waiting waited kept d passed own_is lent_is held_is asked h n_is last_is waiting_is waited_is kept_is =
     let seq : ℕ = t.seq + length own in
     let aru : ℕ = (aru_set s.me (aru_of held) seq t.aru t.aru_id).0 in
@@ -116,9 +115,10 @@ departs s t held answered own lent n last waiting waited kept d passed own_is le
           ∙ ap (λ ms. (broadcasts (filter_map (message_at s.held) t.rtr) ++ broadcasts ms) ++ (ToOne (next_of s), AToken d.leaving) ∷ []) own_is;
     }) in
     let back : up_to t.seq held ≡ s.held = back_again s t s.held held (up_to t.seq held) own lent passed own_is refl lent_is held_is refl in
-    undoably (token_refusal s t) (after_token s t) _ _ s _ passed
-    (rw (waiting_is, last_is) done)
-    (ap (λ (x : Held × List Body × Option Token). record s { held = x.0; waiting = x.1; kept = x.2 }) (triple back waited_is kept_is))
+    record {
+      is_done = rw (waiting_is, last_is) done;
+      undone = ap (λ (x : Held × List Body × Option Token). record s { held = x.0; waiting = x.1; kept = x.2 }) (triple back waited_is kept_is);
+    }
   where
     triple : {a b : Held} {c d : List Body} {e f : Option Token} → a ≡ b → c ≡ d → e ≡ f → ◌≡◌ {A = Held × List Body × Option Token} (a, c, e) (b, d, f)
     triple p q r = cc

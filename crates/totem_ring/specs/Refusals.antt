@@ -43,13 +43,6 @@ has_room s t = nat_lt t.token_seq (2 ^ 64 - 1) && nat_lt (t.seq + length s.waiti
 abbrev pub is_token_in_range : Ring → Token → Bool
 is_token_in_range s t = (taker_of s.members t.token_seq == s.me) && is_sound s t && has_room s t
 
--- what refuses a token at once, whatever is waiting here
-abbrev pub refusal_at_once : Ring → Token → Option RingFault
-refusal_at_once s t =
-    if not (same_ring t.ring s.ring) then Some OtherRing
-    else if nat_le t.token_seq s.last then Some Repeat
-    else None
-
 abbrev pub token_refusal : Ring → Token → Option RingFault
 token_refusal s t =
     if not (same_ring t.ring s.ring) then Some OtherRing

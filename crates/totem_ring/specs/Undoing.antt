@@ -40,13 +40,7 @@ AnswersUndoably (Ok x) old new (Err refusal) = ⊥
 AnswersUndoably (Err fault) old new (Ok done) = IsRefused fault old new Memory
 AnswersUndoably (Err fault) old new (Err refusal) = IsRefused fault old new refusal
 
--- the same for a visit for which bodies were given to the ring
+-- the same as IsDoneUndoably for a visit for which bodies were given to the ring
 pub record IsVisitedUndoably (out : RingOut) (visit : VisitUndo) (old new : Ring) (done : Done) : Type 0 where
   pub is_done : IsDone out new done
   pub undone : visit_taken_back visit new ≡ old
-
-abbrev pub AnswersGiven : Result (RingOut × VisitUndo) RingFault → Ring → Ring → Result Done RingFault → Type 0
-AnswersGiven (Ok x) old new (Ok done) = IsVisitedUndoably x.0 x.1 old new done
-AnswersGiven (Ok x) old new (Err refusal) = ⊥
-AnswersGiven (Err fault) old new (Ok done) = IsRefused fault old new Memory
-AnswersGiven (Err fault) old new (Err refusal) = IsRefused fault old new refusal

@@ -4,7 +4,8 @@
 //! - `submit`, `on_message`, `on_token`, `on_resend` and `adopt` of `RingState` are the defined steps, for every state and packet
 //!   (specs/Steps). With `Ok` state, packets and deliveries are those of the step; a refusal, `Memory` included, leaves the state
 //!   as it was (`Answers`, specs/Answers).
-//! - `message_refusal` and `token_refusal_with` return why a step would be refused, without taking it (specs/Refusals).
+//! - `message_refusal` and `token_refusal_with` return why a step would be refused, without taking it (specs/Refusals). `visit_with`
+//!   takes a token that is not refused, with further bodies.
 //! - `undo` and `undo_visit` take the last step back: the state is exactly the one before it (`taken_back`, specs/Undoing).
 //! - `first_token` is the token with which a ring begins (specs/Rings), made without allocating memory.
 //! - Of the lists of messages that any two members deliver to their nodes, one is a prefix of the other, in every schedule, with

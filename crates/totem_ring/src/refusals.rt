@@ -1,5 +1,5 @@
 //! Why a member's ring refuses a message or a token, such as an old or a repeated one (docs/PROTOCOL.md, "The ring"). Whether a node
-//! refuses it depends on its state, too: that is decided in totem_core, `messages` and `token_refusal`.
+//! refuses it depends on its state, too: that is decided in totem_core, `messages` and `tokens`.
 ghost use Rattle.std.specs.Prelude.{◌≡◌};
 ghost use Rattle.totem_ring.specs.Refusals.{is_none_or_member, is_above};
 
@@ -26,7 +26,7 @@ pub fn is_above(seq: u32, numbers: &[Number]) -> bool
 impl RingState {
     ghost use Rattle.totem_ring.specs.Rings.{taker_of};
     ghost use Rattle.totem_ring.specs.Steps.{given};
-    ghost use Rattle.totem_ring.specs.Refusals.{message_refusal, refusal_at_once, token_refusal, is_sound, has_room, is_token_in_range};
+    ghost use Rattle.totem_ring.specs.Refusals.{message_refusal, token_refusal, is_sound, has_room, is_token_in_range};
 
     /// Returns why this message would be refused on receipt or when adopted, or `None` if it would be taken.
     pub fn message_refusal(&self, message: &Message) -> Option<RingFault>
@@ -44,9 +44,9 @@ impl RingState {
         None
     }
 
-    /// Returns why a token is refused whatever is waiting here: it is of another ring, or was taken before.
-    pub fn token_refusal_at_once(&self, token: &Token) -> Option<RingFault>
-        ensures { result ≡ refusal_at_once self.now token.now }
+    /// Returns why this token would be refused if these bodies were given to the ring, or `None` if it would be taken.
+    pub fn token_refusal_with(&self, bodies: &[Body], token: &Token) -> Option<RingFault>
+        ensures { result ≡ token_refusal (given self.now bodies.now) token.now }
     {
         if !is_same_ring(token.ring, self.ring) {
             return Some(RingFault::OtherRing);
@@ -54,24 +54,13 @@ impl RingState {
         if token.token_seq.get() <= self.last {
             return Some(RingFault::Repeat);
         }
-        None
-    }
-
-    /// Returns why this token would be refused if these bodies were given to the ring, or `None` if it would be taken.
-    #[tactic(auto, using(crate::proofs::AtOnce::refused_at_once, crate::proofs::AtOnce::refused_later))]
-    pub fn token_refusal_with(&self, bodies: &[Body], token: &Token) -> Option<RingFault>
-        ensures { result ≡ token_refusal (given self.now bodies.now) token.now }
-    {
-        if let Some(fault) = self.token_refusal_at_once(token) {
-            return Some(fault);
-        }
         if !self.is_token_in_range_with(bodies, token) {
             return Some(RingFault::Range);
         }
         None
     }
 
-    #[tactic(auto, using(crate::proofs::AtOnce::given_nothing))]
+    #[tactic(auto, using(crate::proofs::NotRefused::given_nothing))]
     pub(crate) fn token_refusal(&self, token: &Token) -> Option<RingFault>
         ensures { result ≡ token_refusal self.now token.now }
     {

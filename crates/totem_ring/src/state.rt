@@ -288,7 +288,7 @@ impl RingState {
         }
     }
 
-    /// Takes the last visit back, with the bodies that were given for it. `on_token_with` returns the undo.
+    /// Takes the last visit back, with the bodies that were given for it. `visit_with` returns the undo.
     pub fn undo_visit(&mut self, visit: VisitUndo)
         ensures { self.new ≡ visit_taken_back visit self.old }
     {

@@ -138,19 +138,12 @@ impl ActorState {
         Ok(out.packets)
     }
 
-    /// Returns whether the process has crashed: whether its node would refuse to crash once more.
-    fn has_crashed(&self, alloc: Global) -> bool
-        ensures { result ≡ self.now.node.crashed }
-    {
-        self.node.refusal(alloc, &Input::Crash).is_some()
-    }
-
     /// Returns whether the process may return: it has crashed, and numbers are left for its next life and for that life's
     /// ring.
-    pub fn may_return(&self, alloc: Global) -> bool
+    pub fn may_return(&self) -> bool
         ensures { result ≡ may_return self.now }
     {
-        self.has_crashed(alloc) && self.proc.life() < u16::MAX && self.node.seq() <= u32::MAX - STEP
+        self.node.has_crashed() && self.proc.life() < u16::MAX && self.node.seq() <= u32::MAX - STEP
     }
 
     /// Begins the next life of the process, and returns the ring on which it is alone. The entries of the life before are

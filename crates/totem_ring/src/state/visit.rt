@@ -1,5 +1,5 @@
-//! The visit of a token that is not refused.
-ghost use Rattle.std.specs.Prelude.{◌≡◌, ◌+◌, ◌^◌, ◌<◌, length, IfOk};
+//! The visit of a token. Module `refusals` says why a token is refused.
+ghost use Rattle.std.specs.Prelude.{◌≡◌, ◌+◌, ◌^◌, ◌<◌, length, None, IfOk, MatchResult};
 
 use crate::departure::{Departure, sendings, set_aru};
 use crate::fault::RingFault;
@@ -12,12 +12,13 @@ use std::mem;
 use totem_packets::{Body, Message, Number, Requests, Token, TokenSeq};
 
 impl RingState {
-    ghost use Rattle.totem_ring.specs.Steps.{on_token, given};
+    ghost use Rattle.totem_ring.specs.Refusals.{token_refusal};
+    ghost use Rattle.totem_ring.specs.Steps.{on_token, after_token, given};
     ghost use Rattle.totem_packets.specs.Rising.{IsRequests};
     ghost use Rattle.totem_ring.specs.Visits.{numbered};
     ghost use Rattle.totem_ring.specs.Departures.{IsDeparture, token_left};
     ghost use Rattle.totem_ring.specs.Answers.{Answers};
-    ghost use Rattle.totem_ring.specs.Undoing.{AnswersUndoably, AnswersGiven};
+    ghost use Rattle.totem_ring.specs.Undoing.{AnswersUndoably, IsDoneUndoably, IsVisitedUndoably};
 
     /// Makes messages of the waiting bodies, numbered from `seq` + 1.
     fn numbered(&self, alloc: Global, seq: u32) -> Result<Vec<Message>, AllocError>
@@ -82,23 +83,17 @@ impl RingState {
         })
     }
 
-    /// Takes a received token, as `on_token` does. The returned undo can take the visit back.
-    pub fn on_token_with_undo(
-        &mut self,
-        alloc: Global,
-        token: &Token,
-    ) -> Result<(RingOut, RingUndo), RingFault>
-        ensures { AnswersUndoably result self.old self.new (on_token self.old token.now) }
+    /// Takes a token that is not refused. The returned undo can take the visit back.
+    fn visit(&mut self, alloc: Global, token: &Token) -> Result<(RingOut, RingUndo), AllocError>
+        requires { token_refusal self.old token.now ≡ None }
+        ensures { MatchResult result (λ x. IsDoneUndoably x.0 x.1 self.old self.new (after_token self.old token.now)) (λ e. self.new ≡ self.old) }
     {
-        if let Some(fault) = self.token_refusal(token) {
-            return Err(fault);
-        }
         let answered = answer(alloc, &self.held, &token.rtr)?;
         let own = self.numbered(alloc, token.seq)?;
         self.held.hold_all(token.seq, &own)?;
         let Ok(departure) = self.departure(alloc, token, answered, own) else {
             self.held.forget_above(token.seq);
-            return Err(RingFault::Memory);
+            return Err(AllocError);
         };
         let undo = RingUndo::Visit {
             seq: token.seq,
@@ -121,26 +116,38 @@ impl RingState {
         Ok((out, undo))
     }
 
-    /// Takes a received token as if these bodies were waiting too, after those that are. The returned undo can take the
-    /// visit back, and the bodies with it.
-    pub fn on_token_with(
+    /// Takes a received token, as `on_token` does. The returned undo can take the visit back.
+    pub fn on_token_with_undo(
+        &mut self,
+        alloc: Global,
+        token: &Token,
+    ) -> Result<(RingOut, RingUndo), RingFault>
+        ensures { AnswersUndoably result self.old self.new (on_token self.old token.now) }
+    {
+        if let Some(fault) = self.token_refusal(token) {
+            return Err(fault);
+        }
+        Ok(self.visit(alloc, token)?)
+    }
+
+    /// Takes a token as if these bodies were waiting too, after those that are. `token_refusal_with` says whether the ring would
+    /// refuse it then. The returned undo can take the visit back, and the bodies with it.
+    pub fn visit_with(
         &mut self,
         alloc: Global,
         bodies: &[Body],
         token: &Token,
-    ) -> Result<(RingOut, VisitUndo), RingFault>
-        ensures { AnswersGiven result self.old self.new (on_token (given self.old bodies.now) token.now) }
+    ) -> Result<(RingOut, VisitUndo), AllocError>
+        requires { token_refusal (given self.old bodies.now) token.now ≡ None }
+        ensures { MatchResult result (λ x. IsVisitedUndoably x.0 x.1 self.old self.new (after_token (given self.old bodies.now) token.now)) (λ e. self.new ≡ self.old) }
     {
-        if let Some(fault) = self.token_refusal_with(bodies, token) {
-            return Err(fault);
-        }
         let waited = self.waiting.len();
         self.give(bodies)?;
-        match self.on_token_with_undo(alloc, token) {
+        match self.visit(alloc, token) {
             Ok((out, undo)) => Ok((out, VisitUndo { undo, waited })),
-            Err(fault) => {
+            Err(e) => {
                 self.waiting.truncate(waited);
-                Err(fault)
+                Err(e)
             }
         }
     }

@@ -1,11 +1,10 @@
-use Rattle.std.proofs.Common.{sym, ap, ◌∙◌}
+use Rattle.std.proofs.Common.{ap, ◌∙◌}
 use Rattle.std.specs.Prelude.{Err}
 use Rattle.std.proofs.lemmas.Result.{err_from_is_err_and}
-use Rattle.totem_member.proofs.Ways.{answer, grown}
+use Rattle.totem_member.proofs.Ways.{grown}
 use Rattle.totem_member.proofs.commit.on_commit.Goals as goal
 
 pub returns-in_err-token : goal.returns-in_err-token
 returns-in_err-token c =
     let p = err_from_is_err_and c.from_residual-in_err-token.result c.from_residual-in_err-token.ensures.1 in
-    grown c.args.token.now c.args.view.now c.args.report c.in_ok-act.act c.from_residual-in_err-token.result
-    (answer c.args.token.now c.args.view.now c.args.report c.in_ok-act.act (sym c.in_ok-act.was ∙ c.commit_act.ensures)) (p.1 ∙ ap (λ e. Err e) p.2)
+    grown _ c.from_residual-in_err-token.result _ c.in_ok-act.ensures.act (p.1 ∙ ap (λ e. Err e) p.2)

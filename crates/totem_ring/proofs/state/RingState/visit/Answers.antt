@@ -1,18 +1,17 @@
-use Rattle.std.proofs.Common.{Vec, Global, [], ◌≡◌, ◌+◌, ◌<◌, List, Some, None, Ok, sym, ◌∙◌, ap, subst}
+use Rattle.std.proofs.Common.{Vec, Global, [], ◌≡◌, ◌+◌, ◌<◌, List, Some, None, sym, ◌∙◌, ap, subst}
 use Rattle.std.specs.Prelude.{All}
 use Rattle.totem_packets.specs.declared.message.Message.{Message}
 use Rattle.totem_ring.specs.declared.outcome.RingOut.{RingOut}
 use Rattle.totem_ring.specs.Rings.{Ring}
 use Rattle.totem_ring.specs.Refusals.{token_refusal}
 use Rattle.totem_ring.specs.Visits.{numbered}
-use Rattle.totem_ring.specs.Steps.{on_token}
+use Rattle.totem_ring.specs.Steps.{after_token}
 use Rattle.totem_ring.specs.declared.undo.RingUndo.{RingUndo}
 use Rattle.totem_ring.specs.declared.undo.RingUndo.TheVariants.{Visit as OfVisit}
-use Rattle.totem_ring.specs.Undoing.{AnswersUndoably}
+use Rattle.totem_ring.specs.Undoing.{IsDoneUndoably}
 use Rattle.totem_packets.specs.declared.message.Body.{Body}
-use Rattle.totem_ring.proofs.Undone.{undoable_memory}
 use Rattle.totem_ring.proofs.VisitAnswers.{own_above, own_fits, back_again, departs}
-use Rattle.totem_ring.proofs.state.RingState.on_token_with_undo.Goals as goal
+use Rattle.totem_ring.proofs.state.RingState.visit.Goals as goal
 
 pub hold_all-requires-clause-above : goal.hold_all-requires-clause-above
 hold_all-requires-clause-above c =
@@ -20,14 +19,14 @@ hold_all-requires-clause-above c =
     subst P (sym c.deref.ensures.value) (own_above c.args.self.now c.args.token.now _ c.in_ok-own.ensures)
 
 pub departure-requires-clause-seq : goal.departure-requires-clause-seq
-departure-requires-clause-seq c = own_fits c.args.self.now c.args.token.now _ (sym c.token_refusal.ensures ∙ c.in_default.is) c.in_ok-own.ensures
+departure-requires-clause-seq c = own_fits c.args.self.now c.args.token.now _ c.requires c.in_ok-own.ensures
 
-pub returns-in_default-departure : goal.returns-in_default-departure
-returns-in_default-departure c =
+pub returns-in_default : goal.returns-in_default
+returns-in_default c =
     let back : c.forget_above.new.self ≡ c.self.inside.held =
-    back_again c.args.self.now c.args.token.now _ _ _ _ _ (sym c.token_refusal.ensures ∙ c.in_default.is) c.in_ok-own.ensures (ap (λ (s : Ring). s.held) c.self.view_is)
+    back_again c.args.self.now c.args.token.now _ _ _ _ _ c.requires c.in_ok-own.ensures (ap (λ (s : Ring). s.held) c.self.view_is)
     c.deref.ensures.value c.in_ok-hold_all.ensures.ok c.forget_above.ensures in
-    undoable_memory _ _ _ _ (sym c.token_refusal.ensures ∙ c.in_default.is) (rw back c.self.view_is)
+    rw back c.self.view_is
 
 pub returns : goal.returns
 returns c =
@@ -55,11 +54,11 @@ returns c =
       kept = Some c.in-Ok.departure.leaving;
     } in
     let P : Ring → Type 0 = λ (now : Ring).
-    token_refusal now c.args.token.now ≡ None → c.in_ok-own.own.items ≡ numbered now c.args.token.now.seq now.waiting → AnswersUndoably (Ok (out, undo)) now new (on_token now c.args.token.now) in
+    token_refusal now c.args.token.now ≡ None → c.in_ok-own.own.items ≡ numbered now c.args.token.now.seq now.waiting → IsDoneUndoably out undo now new (after_token now c.args.token.now) in
     let empty : c.replace.new.dest.items ≡ [] = ap (λ (v : Vec Body Global). v.items) c.replace.ensures.after ∙ c.new.ensures.items in
     let waited : c.replace.result.items ≡ c.self.inside.waiting.items = ap (λ (v : Vec Body Global). v.items) c.replace.ensures.value in
     subst P c.self.view_is
     (λ passed own. departs inside c.args.token.now c.hold_all.new.self c.in_ok-answered.answered c.in_ok-own.own.items c.deref.result.now c.len.result c.get-self-inside.result
     c.replace.new.dest c.replace.result c.take.result c.in-Ok.departure passed own c.deref.ensures.value c.in_ok-hold_all.ensures.ok c.in_ok-answered.ensures c.in-Ok.ensures
     (c.len.ensures ∙ c.in-Ok.departure.handed.ok.0) c.get-self-inside.ensures.value empty waited c.take.ensures.value)
-    (sym c.token_refusal.ensures ∙ c.in_default.is) c.in_ok-own.ensures
+    c.requires c.in_ok-own.ensures
