@@ -2,7 +2,7 @@
 use Rattle.std.specs.Prelude.{◌==◌, if◌then◌else◌}
 use Rattle.totem_net.specs.declared.copies.Fate.{Fate}
 use Rattle.totem_net.specs.declared.drawn.Drawn.{Drawn}
-use Rattle.totem_net.specs.Debts.{more}
+use Rattle.totem_net.specs.Sums.{more}
 
 abbrev pub no_fates : Drawn
 no_fates = record { fates = 0; lost = 0; repeated = 0 }

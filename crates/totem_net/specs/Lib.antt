@@ -8,6 +8,7 @@ pub mod Waiting
 pub mod Ways
 pub mod Settling
 pub mod Turns
-pub mod Debts
+pub mod Sums
+pub mod Credits
 pub mod Drawn
 pub mod Logged

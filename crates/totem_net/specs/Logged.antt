@@ -1,6 +1,6 @@
 -- What the nodes of a run have logged, counted (docs/PROTOCOL.md, "A run in threads").
 use Rattle.totem_net.specs.declared.progress.Logged.{Logged}
-use Rattle.totem_net.specs.Debts.{more}
+use Rattle.totem_net.specs.Sums.{more}
 
 abbrev pub nothing : Logged
 nothing = record { deliveries = 0; configurations = 0 }

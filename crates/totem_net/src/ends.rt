@@ -13,27 +13,20 @@ use totem_names::ProcId;
 #[derive(Drop)]
 pub struct Outlet {
     node: ProcId,
-    /// Whether the thread is given the channel messages of turns.
-    of_turn: bool,
     inbound: Sender<Inbound>,
 }
 
 impl Outlet {
-    pub(crate) fn new(
-        node: ProcId,
-        of_turn: bool,
-        inbound: &Sender<Inbound>,
-    ) -> Result<Outlet, AllocError> {
+    pub(crate) fn new(node: ProcId, inbound: &Sender<Inbound>) -> Result<Outlet, AllocError> {
         Ok(Outlet {
             node,
-            of_turn,
             inbound: inbound.clone()?,
         })
     }
 
     /// Returns another outlet of this node.
     pub fn try_clone(&self) -> Result<Outlet, AllocError> {
-        Outlet::new(self.node, self.of_turn, &self.inbound)
+        Outlet::new(self.node, &self.inbound)
     }
 
     /// Sends an encoded packet to every other node. If the switch has ended, the packet is dropped, which is no error.
@@ -57,11 +50,7 @@ impl Outlet {
     /// Reports to the switch that a channel message has been handled, and what the node has logged at it. Before that the thread has to
     /// send the packets that resulted.
     pub fn tell_done<R: Wait>(&self, rt: &R, logged: Logged) -> Result<(), AllocError> {
-        let done = Inbound::Done {
-            of_turn: self.of_turn,
-            logged,
-        };
-        give(rt, &self.inbound, done)
+        give(rt, &self.inbound, Inbound::Done(logged))
     }
 
     /// Reports to the switch that a thread of this node has ended at a fault. The switch then ends the run. Takes no memory.

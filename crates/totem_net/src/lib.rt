@@ -17,7 +17,7 @@
 
 mod address;
 mod copies;
-mod debt;
+mod credit;
 mod delivery;
 mod drawn;
 mod ends;

@@ -56,11 +56,10 @@ impl Network {
             switch: Switch {
                 inbound,
                 paces,
-                ports: Ports::new(ports),
+                ports: Ports::new(ports, nodes),
                 ways: Ways::new(alloc, nodes, fates)?,
                 turns: Turns::new(nodes, ticks),
                 asked: false,
-                awaited: 0,
                 logged: Logged::nothing(),
                 first,
             },

@@ -37,15 +37,15 @@ impl Port {
             node,
             receiving: ThreadEnd {
                 words: received,
-                outlet: Outlet::new(node, false, inbound)?,
+                outlet: Outlet::new(node, inbound)?,
             },
             timer: ThreadEnd {
                 words: timed,
-                outlet: Outlet::new(node, true, inbound)?,
+                outlet: Outlet::new(node, inbound)?,
             },
             client: ThreadEnd {
                 words: asked,
-                outlet: Outlet::new(node, true, inbound)?,
+                outlet: Outlet::new(node, inbound)?,
             },
         };
         let port = Port {
@@ -66,11 +66,6 @@ impl Port {
     /// Returns how many packets wait.
     pub fn waiting(&self) -> usize {
         self.waiting.len()
-    }
-
-    /// Returns whether any packet waits.
-    pub fn has_waiting(&self) -> bool {
-        !self.waiting.is_empty()
     }
 
     /// Forwards the packet that has waited longest, if there is one, to the receiving thread.

@@ -1,37 +1,36 @@
-//! The ports of all nodes, and what is outstanding.
-use crate::debt::Debt;
+//! The ports of all nodes, and what they still have to forward or to handle.
+use crate::credit::Credit;
 use crate::delivery::Delivery;
 use crate::port::Port;
 use crate::turn::Turn;
 use std::alloc::AllocError;
 use std::sync::Wait;
 
-/// There is a crowd while more than this many packets and channel messages for each node are outstanding.
-const CROWD: u64 = 4;
-
-/// The ports of all nodes. *Outstanding* are the packets that wait to be forwarded, and the channel messages that nodes were given and
-/// still have to handle.
+/// The ports of all nodes. Packets wait at them until a tick forwards them.
 #[derive(Drop)]
 pub struct Ports {
     /// The ports of the nodes, in ascending order.
     ports: Vec<Port>,
-    debt: Debt,
+    credit: Credit,
     /// How many packets wait.
     waiting: u64,
     /// How many packets were forwarded.
     forwarded: u64,
-    /// In a crowd, the place of the port that is looked at first.
+    /// How many channel messages nodes were given and still have to handle.
+    unhandled: u64,
+    /// The place of the port whose packets are forwarded first.
     next: usize,
 }
 
 impl Ports {
-    /// Returns these ports, with nothing outstanding.
-    pub fn new(ports: Vec<Port>) -> Ports {
+    /// Returns the ports of this many nodes, at which nothing waits.
+    pub fn new(ports: Vec<Port>, nodes: u16) -> Ports {
         Ports {
             ports,
-            debt: Debt::new(),
+            credit: Credit::new(nodes),
             waiting: 0,
             forwarded: 0,
+            unhandled: 0,
             next: 0,
         }
     }
@@ -46,25 +45,39 @@ impl Ports {
         Ok(())
     }
 
-    /// Forwards packets that wait: all of them, or in a crowd those for one node, once no node has packets left to handle.
+    /// Forwards the packets that wait, at one port after the other, in ascending order and round again, as far as the credit goes.
     pub fn hand_on<R: Wait>(&mut self, rt: &R) -> Result<(), AllocError> {
-        if self.waiting == 0 {
-            return Ok(());
-        }
-        if !self.are_crowded() {
-            for place in 0..self.ports.len() {
-                self.hand_on_to(rt, place)?;
+        for _ in 0..self.ports.len() {
+            if self.waiting == 0 || self.credit.left == 0 {
+                break;
             }
-            return Ok(());
+            self.hand_on_to_next(rt)?;
         }
-        if self.debt.packets() > 0 {
-            return Ok(());
+        self.credit = self.credit.after_tick();
+        Ok(())
+    }
+
+    /// Forwards the packets that wait at the next port, as far as the credit goes. If none is left there, the port after it is next.
+    fn hand_on_to_next<R: Wait>(&mut self, rt: &R) -> Result<(), AllocError> {
+        if self.next >= self.ports.len() {
+            self.next = 0;
         }
-        let Some(place) = self.next_waiting() else {
+        let Some(port) = self.ports.get_mut(self.next) else {
             return Ok(());
         };
-        self.next = place.saturating_add(1);
-        self.hand_on_to(rt, place)
+        let waiting = port.waiting() as u64;
+        let many = waiting.min(self.credit.left);
+        for _ in 0..many {
+            port.hand_on(rt)?;
+        }
+        if many == waiting {
+            self.next = self.next.saturating_add(1);
+        }
+        self.credit = self.credit.less(many);
+        self.waiting = self.waiting.saturating_sub(many);
+        self.forwarded = self.forwarded.saturating_add(many);
+        self.unhandled = self.unhandled.saturating_add(many);
+        Ok(())
     }
 
     /// Gives a node its turn.
@@ -72,33 +85,18 @@ impl Ports {
         let Some(port) = self.ports.get_mut(usize::from(turn.node.number() - 1)) else {
             return Ok(());
         };
-        self.debt = self.debt.with_turn();
+        self.unhandled = self.unhandled.saturating_add(2);
         port.take_turn(rt, turn.service)
     }
 
-    /// Notes that a node has handled one channel message, of its turn or with a packet.
-    pub fn note_done(&mut self, of_turn: bool) {
-        self.debt = self.debt.less_one(of_turn);
+    /// Notes that a node has handled one channel message.
+    pub fn note_done(&mut self) {
+        self.unhandled = self.unhandled.saturating_sub(1);
     }
 
-    /// Returns how many packets and channel messages are outstanding.
-    pub fn outstanding(&self) -> u64 {
-        self.waiting.saturating_add(self.debt.words)
-    }
-
-    /// Returns whether a node still has to handle channel messages of its turn.
-    pub fn have_turn(&self) -> bool {
-        self.debt.of_turn > 0
-    }
-
-    /// Returns whether there is a crowd.
-    fn are_crowded(&self) -> bool {
-        self.outstanding() > CROWD.saturating_mul(self.count())
-    }
-
-    /// Returns how many nodes there are.
-    pub fn count(&self) -> u64 {
-        self.ports.len() as u64
+    /// Returns whether the nodes have handled all channel messages that they were given.
+    pub fn have_handled_all(&self) -> bool {
+        self.unhandled == 0
     }
 
     /// Returns how many packets were forwarded.
@@ -111,25 +109,5 @@ impl Ports {
         for port in self.ports {
             port.stop(rt);
         }
-    }
-
-    /// Returns the place of the next port for which packets wait, in ascending order and round again.
-    fn next_waiting(&self) -> Option<usize> {
-        let mut places = (self.next..self.ports.len()).chain(0..self.next);
-        places.find(|place| self.ports.get(*place).is_some_and(Port::has_waiting))
-    }
-
-    /// Forwards all packets that wait at the port in this place.
-    fn hand_on_to<R: Wait>(&mut self, rt: &R, place: usize) -> Result<(), AllocError> {
-        let Some(port) = self.ports.get_mut(place) else {
-            return Ok(());
-        };
-        for _ in 0..port.waiting() {
-            port.hand_on(rt)?;
-            self.debt = self.debt.with_packet();
-            self.waiting = self.waiting.saturating_sub(1);
-            self.forwarded = self.forwarded.saturating_add(1);
-        }
-        Ok(())
     }
 }

@@ -24,8 +24,6 @@ pub struct Switch {
     pub(crate) turns: Turns,
     /// Whether the pacing thread waits for an answer.
     pub(crate) asked: bool,
-    /// How many channel messages the nodes have to handle before the next tick passes.
-    pub(crate) awaited: u64,
     /// What the nodes have logged so far.
     pub(crate) logged: Logged,
     /// The packet that is forwarded to the first node before anything else.
@@ -36,9 +34,9 @@ impl Switch {
     /// Forwards packets and gives turns, until the ticks are used up, a node ends at a fault, or there is no sender any more. Then it
     /// sends each thread a stop message. If memory is refused, it stops the threads at once.
     ///
-    /// Keeps pace with the nodes (docs/PROTOCOL.md, "The network"): the pacing thread's tick passes once they have handled as many
-    /// channel messages as were outstanding at the tick before, but at most as many as there are nodes, and all messages of a turn.
-    /// Each thread of a node has to report each channel message that it has handled, and that its node is gone if it ends at a fault.
+    /// Keeps pace with the nodes (docs/PROTOCOL.md, "The network"): the pacing thread's tick passes once they have handled all channel
+    /// messages that they were given, and packets are forwarded at ticks alone. Each thread of a node has to report each channel
+    /// message that it has handled, and that its node is gone if it ends at a fault.
     /// The progress of the run is reported at each tick, and the traffic at the end.
     pub fn run_in_pace<R: Wait, P: Progress>(
         mut self,
@@ -58,7 +56,7 @@ impl Switch {
         alloc: Global,
         progress: &mut P,
     ) -> Result<(), AllocError> {
-        self.begin(rt)?;
+        self.begin()?;
         for _ in rt.forever() {
             if self.turns.are_over() {
                 break;
@@ -69,8 +67,7 @@ impl Switch {
             if !self.take(alloc, &word)? {
                 break;
             }
-            self.ports.hand_on(rt)?;
-            if self.is_due() {
+            if self.asked && self.ports.have_handled_all() {
                 self.tick(rt)?;
                 progress.ticked(self.turns.passed(), self.turns.ticks(), self.logged);
             }
@@ -83,18 +80,20 @@ impl Switch {
         match word {
             Inbound::Packet { address, packet } => self.carry(alloc, address, packet)?,
             Inbound::Tick => self.asked = true,
-            Inbound::Done { of_turn, logged } => self.note_done(*of_turn, *logged),
+            Inbound::Done(logged) => {
+                self.ports.note_done();
+                self.logged = self.logged.and(*logged);
+            }
             Inbound::Gone => return Ok(false),
         }
         Ok(true)
     }
 
-    /// Forwards the first packet, without a fate.
-    fn begin<R: Wait>(&mut self, rt: &R) -> Result<(), AllocError> {
+    /// Takes the first packet, without a fate.
+    fn begin(&mut self) -> Result<(), AllocError> {
         let packet = self.first.clone()?;
         let to = ProcId::of(1);
-        self.ports.take(Delivery { to, packet })?;
-        self.ports.hand_on(rt)
+        self.ports.take(Delivery { to, packet })
     }
 
     /// Takes a packet, and lets what the ways make of it wait for its receivers.
@@ -110,25 +109,13 @@ impl Switch {
         Ok(())
     }
 
-    /// Returns whether a tick passes now.
-    fn is_due(&self) -> bool {
-        self.asked && self.awaited == 0 && !self.ports.have_turn()
-    }
-
-    /// Lets a tick pass: gives a node the turn of this tick, if any, and answers the pacing thread.
+    /// Lets a tick pass: gives a node the turn of this tick, if any, forwards packets, and answers the pacing thread.
     fn tick<R: Wait>(&mut self, rt: &R) -> Result<(), AllocError> {
         if let Some(turn) = self.turns.tick() {
             self.ports.give_turn(rt, turn)?;
         }
-        self.awaited = self.ports.outstanding().min(self.ports.count());
+        self.ports.hand_on(rt)?;
         self.answer(rt)
-    }
-
-    /// Notes that a node has handled a channel message, and what it has logged.
-    fn note_done(&mut self, of_turn: bool, logged: Logged) {
-        self.ports.note_done(of_turn);
-        self.awaited = self.awaited.saturating_sub(1);
-        self.logged = self.logged.and(logged);
     }
 
     /// Answers the pacing thread, if it waits for an answer.

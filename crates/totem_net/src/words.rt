@@ -11,8 +11,8 @@ pub enum Inbound {
     Packet { address: Address, packet: Bytes },
     /// A tick of the pacing thread, which the switch answers with a `Pace`.
     Tick,
-    /// A node has handled a channel message, of its turn or with a packet, has sent what resulted, and has logged this at it.
-    Done { of_turn: bool, logged: Logged },
+    /// A node has handled a channel message, has sent what resulted, and has logged this at it.
+    Done(Logged),
     /// A thread of a node has ended at a fault, so there will be no run.
     Gone,
 }

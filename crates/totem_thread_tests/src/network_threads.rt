@@ -1,5 +1,4 @@
 use bytes::Bytes;
-use crossbeam_channel::Receiver;
 use std::alloc::{AllocError, Global};
 use std::sync::Wait;
 use std::test::Fail;
@@ -7,30 +6,21 @@ use std::thread;
 use std::thread::Threads;
 use totem_names::{ProcId, Service};
 use totem_net::{
-    ClientWord, Fates, Logged, Network, NodeEnds, Outlet, Pacer, PacketWord, Plan, Switch,
-    ThreadEnd, TimerWord, Unwatched,
+    ClientWord, Fates, Logged, Network, NodeEnds, Pacer, PacketWord, Plan, Switch, ThreadEnd,
+    TimerWord, Unwatched,
 };
-
-/// Reports to the switch, if the outlet is still there, that a channel message is done.
-fn tell<R: Wait>(rt: &R, outlet: Option<&Outlet>) -> Result<(), AllocError> {
-    match outlet {
-        Some(outlet) => outlet.tell_done(rt, Logged::nothing()),
-        None => Ok(()),
-    }
-}
 
 /// Adds the packets that a receiving thread gets, and a full stop at its stop message.
 fn received<R: Wait>(
     rt: &R,
-    words: &Receiver<PacketWord>,
-    outlet: Option<&Outlet>,
+    end: &ThreadEnd<PacketWord>,
     all: &mut Vec<u8>,
 ) -> Result<(), AllocError> {
     for _ in rt.forever() {
-        match words.recv(rt) {
+        match end.words.recv(rt) {
             Ok(PacketWord::Packet(packet)) => {
                 all.extend_from_slice(packet.as_slice())?;
-                tell(rt, outlet)?;
+                end.outlet.tell_done(rt, Logged::nothing())?;
             }
             Ok(PacketWord::Stop) => {
                 all.push(b'.')?;
@@ -48,7 +38,7 @@ fn timed<R: Wait>(rt: &R, end: &ThreadEnd<TimerWord>, all: &mut Vec<u8>) -> Resu
         match end.words.recv(rt) {
             Ok(TimerWord::Timer) => {
                 all.push(b't')?;
-                tell(rt, Some(&end.outlet))?;
+                end.outlet.tell_done(rt, Logged::nothing())?;
             }
             Ok(TimerWord::Stop) => {
                 all.push(b'.')?;
@@ -78,7 +68,7 @@ fn asked<R: Wait>(
             Ok(ClientWord::Submit(service)) => {
                 end.outlet.send_to_all(rt, Bytes::from_static(b"x"))?;
                 all.push(letter(service))?;
-                tell(rt, Some(&end.outlet))?;
+                end.outlet.tell_done(rt, Logged::nothing())?;
             }
             Ok(ClientWord::Stop) => {
                 all.push(b'.')?;
@@ -97,134 +87,38 @@ fn network(alloc: Global, ticks: u32, hold: u8) -> Result<Network, Fail> {
     Ok(Network::new(alloc, 3, ticks, Fates::new(1, plan), first)?)
 }
 
-/// Lets a node broadcast its number. The second node sends itself a packet too.
-fn send_some<R: Wait>(rt: &R, alloc: Global, ends: &NodeEnds) -> Result<(), AllocError> {
-    let outlet = &ends.receiving.outlet;
-    let name = ends.node.number().to_be_bytes();
-    outlet.send_to_all(rt, Bytes::copy_from_slice(alloc, &name[1..])?)?;
-    if ends.node.number() == 2 {
-        outlet.send_to(rt, ends.node, Bytes::from_static(b"t"))?;
-    }
-    Ok(())
+/// A packet of one byte that a node sends before the switch runs: to one node, or to all others.
+#[derive(Clone, Copy)]
+struct Early {
+    from: usize,
+    to: Option<u16>,
+    byte: u8,
 }
 
-/// Lets each node send. Keeps the ends by which nodes receive packets, and drops those by which they could send more.
-fn all_send<R: Wait>(
-    rt: &R,
-    alloc: Global,
-    nodes: Vec<NodeEnds>,
-) -> Result<Vec<Receiver<PacketWord>>, AllocError> {
-    for ends in &nodes {
-        send_some(rt, alloc, ends)?;
+impl Early {
+    fn send<R: Wait>(self, rt: &R, alloc: Global, nodes: &[NodeEnds]) -> Result<(), AllocError> {
+        let Some(ends) = nodes.get(self.from) else {
+            return Ok(());
+        };
+        let packet = Bytes::copy_from_slice(alloc, std::slice::from_ref(&self.byte))?;
+        match self.to.and_then(ProcId::new) {
+            Some(to) => ends.receiving.outlet.send_to(rt, to, packet),
+            None => ends.receiving.outlet.send_to_all(rt, packet),
+        }
     }
-    all_send_nothing(alloc, nodes)
 }
 
-/// Keeps the ends by which nodes receive packets, and drops those by which they could send.
-fn all_send_nothing(
-    alloc: Global,
-    nodes: Vec<NodeEnds>,
-) -> Result<Vec<Receiver<PacketWord>>, AllocError> {
-    let mut words = Vec::new(alloc);
-    for ends in nodes {
-        let receiving = ends.receiving;
-        words.push(receiving.words)?;
-    }
-    Ok(words)
-}
-
-fn all_received<R: Wait>(
-    rt: &R,
-    alloc: Global,
-    words: &[Receiver<PacketWord>],
-) -> Result<Vec<u8>, AllocError> {
+/// Returns packets with these bytes that node 1 sends to node 2.
+fn to_second(alloc: Global, bytes: impl Iterator<Item = u8>) -> Result<Vec<Early>, AllocError> {
     let mut all = Vec::new(alloc);
-    for words in words {
-        received(rt, words, None, &mut all)?;
+    for byte in bytes {
+        all.push(Early {
+            from: 0,
+            to: Some(2),
+            byte,
+        })?;
     }
     Ok(all)
-}
-
-/// Returns the packets that the nodes receive from each other, from a switch that runs after all packets are sent.
-fn all_switched<R: Wait>(rt: &R, alloc: Global) -> Result<Vec<u8>, Fail> {
-    let Network {
-        switch,
-        pacer,
-        nodes,
-    } = network(alloc, 8, 0)?;
-    drop(pacer);
-    let words = all_send(rt, alloc, nodes);
-    switch.run_in_pace(rt, alloc, &mut Unwatched)?;
-    Ok(all_received(rt, alloc, &words?)?)
-}
-
-/// The switch forwards each packet to its receivers, and then stops the receiving threads.
-#[test]
-fn packets_go_through_the_switch(rt: HostRuntime) -> Result<(), Fail> {
-    let all = all_switched(&rt, rt.alloc())?;
-    assert_eq!(rt; all.as_slice(), b"1\x02\x03.\x01t\x03.\x01\x02.".as_slice());
-    Ok(())
-}
-
-/// Sends these packets of one byte each to a node.
-fn send_each<R: Wait>(
-    rt: &R,
-    alloc: Global,
-    outlet: &Outlet,
-    to: ProcId,
-    packets: &[u8],
-) -> Result<(), AllocError> {
-    for packet in packets {
-        let packet = Bytes::copy_from_slice(alloc, std::slice::from_ref(packet))?;
-        outlet.send_to(rt, to, packet)?;
-    }
-    Ok(())
-}
-
-/// Sends these packets of one byte each from node 1 to node 2.
-fn send_to_second<R: Wait>(
-    rt: &R,
-    alloc: Global,
-    nodes: &[NodeEnds],
-    packets: &[u8],
-) -> Result<(), AllocError> {
-    let (Some(first), Some(second)) = (nodes.first(), ProcId::new(2)) else {
-        return Ok(());
-    };
-    send_each(rt, alloc, &first.receiving.outlet, second, packets)
-}
-
-/// Sends these packets to node 2, and then keeps the ends by which nodes receive packets.
-fn first_sends<R: Wait>(
-    rt: &R,
-    alloc: Global,
-    nodes: Vec<NodeEnds>,
-    packets: &[u8],
-) -> Result<Vec<Receiver<PacketWord>>, AllocError> {
-    send_to_second(rt, alloc, &nodes, packets)?;
-    all_send_nothing(alloc, nodes)
-}
-
-/// Returns the packets that node 2 receives over a network that holds copies back, if node 1 sent it eight before the switch runs.
-fn held_back<R: Wait>(rt: &R, alloc: Global) -> Result<Vec<u8>, Fail> {
-    let Network {
-        switch,
-        pacer,
-        nodes,
-    } = network(alloc, 8, 3)?;
-    drop(pacer);
-    let words = first_sends(rt, alloc, nodes, b"abcdefgh")?;
-    switch.run_in_pace(rt, alloc, &mut Unwatched)?;
-    Ok(all_received(rt, alloc, &words)?)
-}
-
-// From the seed 1 these packets are held for 3, 0, 0, 3, 2, 2, 1 and 1 further packets.
-/// The switch forwards a copy that is held back after as many further packets as its fate says. What is held at the end is lost.
-#[test]
-fn copies_are_held_back_by_the_switch(rt: HostRuntime) -> Result<(), Fail> {
-    let all = held_back(&rt, rt.alloc())?;
-    assert_eq!(rt; all.as_slice(), b"1.bcadefg..".as_slice());
-    Ok(())
 }
 
 /// A thread of a node.
@@ -252,10 +146,7 @@ impl Given {
         match self.part {
             Part::Client => asked(rt, &ends.client, &mut self.all),
             Part::Timer => timed(rt, &ends.timer, &mut self.all),
-            Part::Receiving => {
-                let end = &ends.receiving;
-                received(rt, &end.words, Some(&end.outlet), &mut self.all)
-            }
+            Part::Receiving => received(rt, &ends.receiving, &mut self.all),
         }
     }
 
@@ -307,26 +198,101 @@ fn run_all<R: Threads + Wait + Sync>(
     )
 }
 
-/// Runs a network whose node 1 sent these packets to node 2 before the switch runs.
+/// Runs a network for this many ticks, in which these packets are sent before the switch runs.
 fn give_all<R: Threads + Wait + Sync>(
     rt: &R,
     alloc: Global,
-    before: &[u8],
+    ticks: u32,
+    hold: u8,
+    early: &[Early],
     given: &mut [Given],
 ) -> Result<(), Fail> {
     let Network {
         switch,
         pacer,
         nodes,
-    } = network(alloc, 48, 0)?;
-    send_to_second(rt, alloc, &nodes, before)?;
+    } = network(alloc, ticks, hold)?;
+    for packet in early {
+        packet.send(rt, alloc, &nodes)?;
+    }
     Ok(run_all(rt, alloc, switch, pacer, &nodes, given)?)
+}
+
+/// Returns what the receiving threads of such a network get, one after the other.
+fn received_by_all<R: Threads + Wait + Sync>(
+    rt: &R,
+    alloc: Global,
+    ticks: u32,
+    hold: u8,
+    early: &[Early],
+) -> Result<Vec<u8>, Fail> {
+    let mut given = nothing_given(alloc)?;
+    give_all(rt, alloc, ticks, hold, early, &mut given)?;
+    let mut all = Vec::new(alloc);
+    for one in &given {
+        if let Part::Receiving = one.part {
+            all.extend_from_slice(&one.all)?;
+        }
+    }
+    Ok(all)
+}
+
+/// Three nodes broadcast, and the second one sends itself a packet too.
+const BROADCASTS: [Early; 4] = [
+    Early {
+        from: 0,
+        to: None,
+        byte: b'a',
+    },
+    Early {
+        from: 1,
+        to: None,
+        byte: b'b',
+    },
+    Early {
+        from: 1,
+        to: Some(2),
+        byte: b't',
+    },
+    Early {
+        from: 2,
+        to: None,
+        byte: b'c',
+    },
+];
+
+/// The switch forwards each packet to its receivers, and then stops the receiving threads.
+#[test]
+fn packets_go_through_the_switch(rt: HostRuntime) -> Result<(), Fail> {
+    let all = received_by_all(&rt, rt.alloc(), 7, 0, &BROADCASTS)?;
+    assert_eq!(rt; all.as_slice(), b"1bc.atc.ab.".as_slice());
+    Ok(())
+}
+
+// From the seed 1 these packets are held for 3, 0, 0, 3, 2, 2, 1 and 1 further packets.
+/// The switch forwards a copy that is held back after as many further packets as its fate says. What is held at the end is lost.
+#[test]
+fn copies_are_held_back_by_the_switch(rt: HostRuntime) -> Result<(), Fail> {
+    let early = to_second(rt.alloc(), b'a'..=b'h')?;
+    let all = received_by_all(&rt, rt.alloc(), 7, 3, &early)?;
+    assert_eq!(rt; all.as_slice(), b"1.bcadefg..".as_slice());
+    Ok(())
+}
+
+/// No packet is lost because its receiver has many others to handle.
+#[test]
+fn no_packet_is_lost_for_want_of_room(rt: HostRuntime) -> Result<(), Fail> {
+    let early = to_second(rt.alloc(), 128..=192)?;
+    let all = received_by_all(&rt, rt.alloc(), 48, 0, &early)?;
+    let many = all.iter().filter(|byte| **byte >= 128);
+    assert_eq!(rt; many.count(), 65);
+    Ok(())
 }
 
 /// Returns what the client and timer threads of a network get, and the last bytes of what its receiving threads get.
 fn all_given<R: Threads + Wait + Sync>(rt: &R, alloc: Global) -> Result<Vec<u8>, Fail> {
     let mut given = nothing_given(alloc)?;
-    give_all(rt, alloc, b"", &mut given)?;
+    give_all(rt, alloc, 48, 0, &[], &mut given)?;
     let mut all = Vec::new(alloc);
     for one in &given {
         all.extend_from_slice(one.told())?;
@@ -339,29 +305,5 @@ fn all_given<R: Threads + Wait + Sync>(rt: &R, alloc: Global) -> Result<Vec<u8>,
 fn each_thread_has_its_words(rt: HostRuntime) -> Result<(), Fail> {
     let all = all_given(&rt, rt.alloc())?;
     assert_eq!(rt; all.as_slice(), b"as.sa.as.tt.tt.tt....".as_slice());
-    Ok(())
-}
-
-/// Returns which of the packets that were sent to node 2 before the switch ran it received, if there were 65: the bytes from 128 on.
-fn received_of_many<R: Threads + Wait + Sync>(rt: &R, alloc: Global) -> Result<Vec<u8>, Fail> {
-    let mut before = Vec::new(alloc);
-    before.extend(128..=192u8)?;
-    let mut given = nothing_given(alloc)?;
-    give_all(rt, alloc, &before, &mut given)?;
-    let mut all = Vec::new(alloc);
-    if let Some(second) = given.get(7) {
-        for byte in second.all.iter().filter(|byte| **byte >= 128) {
-            all.push(*byte)?;
-        }
-    }
-    Ok(all)
-}
-
-/// No packet is lost because its receiver has many others to handle.
-#[test]
-fn no_packet_is_lost_for_want_of_room(rt: HostRuntime) -> Result<(), Fail> {
-    let all = received_of_many(&rt, rt.alloc())?;
-    assert_eq!(rt; all.len(), 65);
-    assert!(rt; all.is_sorted());
     Ok(())
 }
