@@ -2,7 +2,7 @@
 use crate::address::Address;
 use crate::progress::Logged;
 use crate::sending::give;
-use crate::words::{ClientWord, Inbound, PacketWord, TimerWord};
+use crate::words::{ClientWord, Inbound, PacketWord, Sent, TimerWord};
 use bytes::Bytes;
 use crossbeam_channel::{Receiver, Sender};
 use std::alloc::AllocError;
@@ -31,8 +31,7 @@ impl Outlet {
 
     /// Sends an encoded packet to every other node. If the switch has ended, the packet is dropped, which is no error.
     pub fn send_to_all<R: Wait>(&self, rt: &R, packet: Bytes) -> Result<(), AllocError> {
-        let address = Address::AllBut(self.node);
-        give(rt, &self.inbound, Inbound::Packet { address, packet })
+        self.send(rt, Address::AllBut(self.node), packet)
     }
 
     /// Sends an encoded packet to one node, which may be this one. If the switch has ended, the packet is dropped, which is no
@@ -43,8 +42,16 @@ impl Outlet {
         receiver: ProcId,
         packet: Bytes,
     ) -> Result<(), AllocError> {
-        let address = Address::One(receiver);
-        give(rt, &self.inbound, Inbound::Packet { address, packet })
+        self.send(rt, Address::One(receiver), packet)
+    }
+
+    fn send<R: Wait>(&self, rt: &R, address: Address, packet: Bytes) -> Result<(), AllocError> {
+        let sent = Sent {
+            sender: self.node,
+            address,
+            packet,
+        };
+        give(rt, &self.inbound, Inbound::Packet(sent))
     }
 
     /// Reports to the switch that a channel message has been handled, and what the node has logged at it. Before that the thread has to

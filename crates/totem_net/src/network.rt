@@ -8,7 +8,7 @@ use crate::pacer::Pacer;
 use crate::port::Port;
 use crate::ports::Ports;
 use crate::progress::Logged;
-use crate::switch::Switch;
+use crate::switch::{Stage, Switch};
 use crate::turns::Turns;
 use crate::ways::Ways;
 use bytes::Bytes;
@@ -60,6 +60,7 @@ impl Network {
                 ways: Ways::new(alloc, nodes, fates)?,
                 turns: Turns::new(nodes, ticks),
                 asked: false,
+                stage: Stage::Tick,
                 logged: Logged::nothing(),
                 first,
             },

@@ -3,11 +3,12 @@ ghost use Rattle.std.specs.Prelude.{◌≡◌, IfOk};
 
 use crate::ends::{NodeEnds, Outlet, ThreadEnd};
 use crate::sending::give;
-use crate::words::{ClientWord, Inbound, PacketWord, TimerWord};
+use crate::words::{ClientWord, Inbound, PacketWord, Sent, TimerWord};
 use bytes::Bytes;
 use crossbeam_channel::{Sender, unbounded};
 use std::alloc::{AllocError, Global};
 use std::collections::VecDeque;
+use std::mem;
 use std::sync::Wait;
 use totem_names::{ProcId, Service};
 
@@ -19,6 +20,8 @@ pub struct Port {
     client: Sender<ClientWord>,
     /// In the order in which they arrived.
     waiting: VecDeque<Bytes>,
+    /// What the node has sent, in that order, until it has handled all that it was given.
+    sent: Vec<Sent>,
 }
 
 impl Port {
@@ -53,8 +56,20 @@ impl Port {
             timer,
             client,
             waiting: VecDeque::new(alloc),
+            sent: Vec::new(alloc),
         };
         Ok((port, ends))
+    }
+
+    /// Keeps a packet that the node sends.
+    pub fn keep(&mut self, sent: Sent) -> Result<(), AllocError> {
+        self.sent.push(sent)?;
+        Ok(())
+    }
+
+    /// Takes out what the node has sent.
+    pub fn take_sent(&mut self, alloc: Global) -> Vec<Sent> {
+        mem::replace(&mut self.sent, Vec::new(alloc))
     }
 
     /// Takes a packet that arrives for the node. It waits until `hand_on` forwards it.
@@ -76,9 +91,13 @@ impl Port {
         }
     }
 
-    /// Gives the node its turn: a channel message for its timer thread, and one for its client thread.
-    pub fn take_turn<R: Wait>(&mut self, rt: &R, service: Service) -> Result<(), AllocError> {
-        give(rt, &self.timer, TimerWord::Timer)?;
+    /// Lets the node's timer run out.
+    pub fn time_out<R: Wait>(&mut self, rt: &R) -> Result<(), AllocError> {
+        give(rt, &self.timer, TimerWord::Timer)
+    }
+
+    /// Lets the node's client submit a message of this service.
+    pub fn submit<R: Wait>(&mut self, rt: &R, service: Service) -> Result<(), AllocError> {
         give(rt, &self.client, ClientWord::Submit(service))
     }
 

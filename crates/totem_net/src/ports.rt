@@ -3,8 +3,10 @@ use crate::credit::Credit;
 use crate::delivery::Delivery;
 use crate::port::Port;
 use crate::turn::Turn;
-use std::alloc::AllocError;
+use crate::words::Sent;
+use std::alloc::{AllocError, Global};
 use std::sync::Wait;
+use totem_names::ProcId;
 
 /// The ports of all nodes. Packets wait at them until a tick forwards them.
 #[derive(Drop)]
@@ -35,10 +37,35 @@ impl Ports {
         }
     }
 
+    fn port(&mut self, node: ProcId) -> Option<&mut Port> {
+        self.ports.get_mut(usize::from(node.number() - 1))
+    }
+
+    /// Keeps a packet that a node sends.
+    pub fn keep(&mut self, sent: Sent) -> Result<(), AllocError> {
+        match self.port(sent.sender) {
+            Some(port) => port.keep(sent),
+            None => Ok(()),
+        }
+    }
+
+    /// Takes out what the node at this place has sent.
+    pub fn take_sent(&mut self, alloc: Global, place: usize) -> Vec<Sent> {
+        match self.ports.get_mut(place) {
+            Some(port) => port.take_sent(alloc),
+            None => Vec::new(alloc),
+        }
+    }
+
+    /// Returns how many nodes there are.
+    pub fn count(&self) -> usize {
+        self.ports.len()
+    }
+
     /// Takes a packet that arrives for a node. It waits until `hand_on` forwards it.
     pub fn take(&mut self, delivery: Delivery) -> Result<(), AllocError> {
         let Delivery { to, packet } = delivery;
-        if let Some(port) = self.ports.get_mut(usize::from(to.number() - 1)) {
+        if let Some(port) = self.port(to) {
             port.take(packet)?;
             self.waiting = self.waiting.saturating_add(1);
         }
@@ -80,13 +107,24 @@ impl Ports {
         Ok(())
     }
 
-    /// Gives a node its turn.
-    pub fn give_turn<R: Wait>(&mut self, rt: &R, turn: Turn) -> Result<(), AllocError> {
-        let Some(port) = self.ports.get_mut(usize::from(turn.node.number() - 1)) else {
+    /// Lets the timer of the turn's node run out.
+    pub fn time_out<R: Wait>(&mut self, rt: &R, turn: Turn) -> Result<(), AllocError> {
+        let Some(port) = self.port(turn.node) else {
             return Ok(());
         };
-        self.unhandled = self.unhandled.saturating_add(2);
-        port.take_turn(rt, turn.service)
+        port.time_out(rt)?;
+        self.unhandled = self.unhandled.saturating_add(1);
+        Ok(())
+    }
+
+    /// Lets the client of the turn's node submit the turn's message.
+    pub fn submit<R: Wait>(&mut self, rt: &R, turn: Turn) -> Result<(), AllocError> {
+        let Some(port) = self.port(turn.node) else {
+            return Ok(());
+        };
+        port.submit(rt, turn.service)?;
+        self.unhandled = self.unhandled.saturating_add(1);
+        Ok(())
     }
 
     /// Notes that a node has handled one channel message.

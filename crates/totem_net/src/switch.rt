@@ -1,17 +1,25 @@
 //! The switch, through which all packets go.
-use crate::address::Address;
 use crate::delivery::Delivery;
 use crate::ports::Ports;
 use crate::progress::{Logged, Progress, Traffic};
 use crate::sending::give;
 use crate::turns::Turns;
 use crate::ways::Ways;
-use crate::words::{Inbound, Pace};
+use crate::words::{Inbound, Pace, Sent};
 use bytes::Bytes;
 use crossbeam_channel::{Receiver, Sender};
 use std::alloc::{AllocError, Global};
 use std::sync::Wait;
 use totem_names::ProcId;
+
+/// What a tick does next. A turn's timer runs out first, then its message is submitted, and then packets are forwarded, each once the
+/// nodes have handled what they were given before.
+#[derive(Clone, Copy, Debug, PartialEq, Eq)]
+pub enum Stage {
+    Tick,
+    Submit,
+    Forward,
+}
 
 /// The state of the switch's thread (docs/PROTOCOL.md, "The network"). If it is dropped without being run, each thread of
 /// the network sees its channel end.
@@ -24,6 +32,7 @@ pub struct Switch {
     pub(crate) turns: Turns,
     /// Whether the pacing thread waits for an answer.
     pub(crate) asked: bool,
+    pub(crate) stage: Stage,
     /// What the nodes have logged so far.
     pub(crate) logged: Logged,
     /// The packet that is forwarded to the first node before anything else.
@@ -58,31 +67,39 @@ impl Switch {
     ) -> Result<(), AllocError> {
         self.begin()?;
         for _ in rt.forever() {
-            if self.turns.are_over() {
+            if self.turns.are_over() && matches!(self.stage, Stage::Tick) {
                 break;
             }
             let Ok(word) = self.inbound.recv(rt) else {
                 break;
             };
-            if !self.take(alloc, &word)? {
+            if !self.take(word)? {
                 break;
             }
             if self.asked && self.ports.have_handled_all() {
-                self.tick(rt)?;
-                progress.ticked(self.turns.passed(), self.turns.ticks(), self.logged);
+                self.carry_sent(alloc)?;
+                self.advance(rt)?;
+                self.report(progress);
             }
         }
         Ok(())
     }
 
+    /// Reports the progress of the run at the end of a tick.
+    fn report<P: Progress>(&self, progress: &mut P) {
+        if self.stage == Stage::Tick {
+            progress.ticked(self.turns.passed(), self.turns.ticks(), self.logged);
+        }
+    }
+
     /// Handles a channel message. Returns whether the run continues.
-    fn take(&mut self, alloc: Global, word: &Inbound) -> Result<bool, AllocError> {
+    fn take(&mut self, word: Inbound) -> Result<bool, AllocError> {
         match word {
-            Inbound::Packet { address, packet } => self.carry(alloc, address, packet)?,
+            Inbound::Packet(sent) => self.ports.keep(sent)?,
             Inbound::Tick => self.asked = true,
             Inbound::Done(logged) => {
                 self.ports.note_done();
-                self.logged = self.logged.and(*logged);
+                self.logged = self.logged.and(logged);
             }
             Inbound::Gone => return Ok(false),
         }
@@ -96,24 +113,55 @@ impl Switch {
         self.ports.take(Delivery { to, packet })
     }
 
-    /// Takes a packet, and lets what the ways make of it wait for its receivers.
-    fn carry(
-        &mut self,
-        alloc: Global,
-        address: &Address,
-        packet: &Bytes,
-    ) -> Result<(), AllocError> {
-        for delivery in self.ways.carry(alloc, address, packet)? {
+    /// Takes what the nodes have sent, one node after the other, and lets what the ways make of it wait for its receivers.
+    fn carry_sent(&mut self, alloc: Global) -> Result<(), AllocError> {
+        for place in 0..self.ports.count() {
+            for sent in self.ports.take_sent(alloc, place) {
+                self.carry(alloc, &sent)?;
+            }
+        }
+        Ok(())
+    }
+
+    fn carry(&mut self, alloc: Global, sent: &Sent) -> Result<(), AllocError> {
+        for delivery in self.ways.carry(alloc, &sent.address, &sent.packet)? {
             self.ports.take(delivery)?;
         }
         Ok(())
     }
 
-    /// Lets a tick pass: gives a node the turn of this tick, if any, forwards packets, and answers the pacing thread.
-    fn tick<R: Wait>(&mut self, rt: &R) -> Result<(), AllocError> {
-        if let Some(turn) = self.turns.tick() {
-            self.ports.give_turn(rt, turn)?;
+    /// Gives the nodes what comes next.
+    fn advance<R: Wait>(&mut self, rt: &R) -> Result<(), AllocError> {
+        match self.stage {
+            Stage::Tick => self.tick(rt),
+            Stage::Submit => self.submit(rt),
+            Stage::Forward => self.forward(rt),
         }
+    }
+
+    /// Lets a tick pass: if it brings a turn, the timer of the turn's node runs out.
+    fn tick<R: Wait>(&mut self, rt: &R) -> Result<(), AllocError> {
+        match self.turns.tick() {
+            Some(turn) => {
+                self.stage = Stage::Submit;
+                self.ports.time_out(rt, turn)
+            }
+            None => self.forward(rt),
+        }
+    }
+
+    /// Lets the client of the turn's node submit its message.
+    fn submit<R: Wait>(&mut self, rt: &R) -> Result<(), AllocError> {
+        self.stage = Stage::Forward;
+        match self.turns.last() {
+            Some(turn) => self.ports.submit(rt, turn),
+            None => Ok(()),
+        }
+    }
+
+    /// Forwards packets, and answers the pacing thread.
+    fn forward<R: Wait>(&mut self, rt: &R) -> Result<(), AllocError> {
+        self.stage = Stage::Tick;
         self.ports.hand_on(rt)?;
         self.answer(rt)
     }

@@ -88,6 +88,13 @@ impl Turns {
         Some(self.nth((tick / TICKS_OF_A_TURN).saturating_sub(1)))
     }
 
+    /// Returns the turn that the last tick brought, if any.
+    pub fn last(&self) -> Option<Turn>
+        ensures { result ≡ turn_at self.now.nodes self.now.passed }
+    {
+        self.at(self.passed)
+    }
+
     /// Lets the next tick pass, and returns the turn that it brings, if any. If the ticks are used up, nothing changes.
     pub fn tick(&mut self) -> Option<Turn>
         ensures turn { result ≡ next_turn self.old }

@@ -2,13 +2,21 @@
 use crate::address::Address;
 use crate::progress::Logged;
 use bytes::Bytes;
-use totem_names::Service;
+use totem_names::{ProcId, Service};
+
+/// An encoded packet that a node sends.
+#[derive(Debug, Drop)]
+pub struct Sent {
+    pub sender: ProcId,
+    pub address: Address,
+    pub packet: Bytes,
+}
 
 /// The channel messages that the switch receives, all through one channel.
 #[derive(Debug, Drop)]
 pub enum Inbound {
-    /// An encoded packet that a node sends.
-    Packet { address: Address, packet: Bytes },
+    /// A packet that a node sends.
+    Packet(Sent),
     /// A tick of the pacing thread, which the switch answers with a `Pace`.
     Tick,
     /// A node has handled a channel message, has sent what resulted, and has logged this at it.
