@@ -2,7 +2,7 @@
 """Measures `totem run`: how many messages the nodes send, how many of them every node delivers, and how much time and memory that takes.
 
 It prints a line for each of the lists of arguments below: the least, the median and the greatest share over several seeds, and the most
-time and memory. Two runs with the same seed may differ.
+time and memory.
 
     ./totem prove                                     # proves and builds the program, once
     bench/threads.py                                  # the table

@@ -48,7 +48,7 @@ const OPTIONS: [NumberOption; 6] = [
         least: 0,
         most: u64::MAX,
         default: "1",
-        help: "Seed for packet loss, duplication and reordering. The timing of the threads varies, so the same seed may give a different run",
+        help: "Seed for packet loss, duplication and reordering. The same numbers give the same run",
     },
     NumberOption {
         name: "lose",

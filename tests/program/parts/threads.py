@@ -1,9 +1,10 @@
-"""Runs of nodes in threads. No two are alike, so the tests check what holds for every run."""
-import re
+"""Runs of nodes in threads."""
 from collections import Counter
 from functools import partial
+from itertools import zip_longest
 
 from harness import process
+from parts.predicted import Network, Plan
 
 SECONDS = 60
 CERTIFICATE = b'totem-cert 1\n'
@@ -31,56 +32,38 @@ DELIVERED = (
 )
 
 
-# What a run says of itself.
-SUMMARY = re.compile(
-    rb'totem: messages: (\d+) sent, (\d+) delivered by every node; rings formed: (\d+); '
-    rb'packets: (\d+) sent, (\d+) lost and (\d+) duplicated by the plan, (\d+) on their way at the end\n')
-
-
 def number_of(words, name, default=0):
     """The number that these arguments give for an option."""
     words = words.split()
     return int(words[words.index(name) + 1]) if name in words else default
 
 
-def counted(text):
-    """What a run's text says of it, as in its summary: messages sent, delivered by every node, rings formed."""
-    logs = [[line.split() for line in log.splitlines()] for log in text.split(b'\nlog ')[1:]]
-    lines = [line for log in logs for line in log]
-    deliveries = [{line[2] for line in log if line[0] == b'dlv'} for log in logs]
-    rings = {line[1] for line in lines if line[0] == b'conf' and line[1].startswith(b'r')}
-    sent = sum(line[0] == b'send' for line in lines)
-    return [sent, len(set.intersection(*deliveries)), len(rings) - 1]
+def predicted(words):
+    """The run that these arguments ask for, as the model works it out, and what is said of it."""
+    numbers = {name: number_of(words, '--' + name, default) for name, default in Plan()._asdict().items()}
+    return Network(Plan(**numbers)).run()
 
 
-def what_is_untrue(words, made):
-    """What is wrong with the summary of a run, or None. Nearly as many packets are lost and duplicated as the plan says."""
-    if '--quiet' in words:
-        return 'not quiet: %s' % made if made.errors else None
-    match = SUMMARY.fullmatch(made.errors)
-    if not match:
-        return 'came: %s' % made
-    numbers = [int(number) for number in match.groups()]
-    if '--weave' not in words and numbers[:3] != counted(made.output):
-        return 'the summary says %s, and the run %s' % (numbers[:3], counted(made.output))
-    packets, lost, repeated, _ = numbers[3:]
-    for name, count in (('--lose', lost), ('--repeat', repeated)):
-        wanted = (packets - 1) * number_of(words, name) / 100
-        # Six times what is to be expected from chance.
-        if abs(count - wanted) > 6 * (wanted * (1 - number_of(words, name) / 100)) ** .5:
-            return '%s: %d of %d packets' % (name, count, packets)
-    return None
+def what_differs(words, made):
+    """How the answer differs from what the model works out, or None. A woven run is not printed."""
+    text, summary = predicted(words)
+    if made.errors != (b'' if '--quiet' in words else summary):
+        return 'said %r; predicted: %r' % (made.errors, summary)
+    if '--weave' in words or made.output == text:
+        return None
+    lines = zip_longest(made.output.splitlines(), text.splitlines())
+    return 'line %d is %r; predicted: %r' % next((number, *pair) for number, pair in enumerate(lines, 1) if pair[0] != pair[1])
 
 
 def made_by(program, words):
     """Runs nodes in threads. Returns the answer, and what is wrong with it."""
     made, _ = process.run([program, 'run', *words.split()], seconds=SECONDS)
-    return made, what_is_untrue(words, made) if made.status == 0 else 'came: %s' % made
+    return made, what_differs(words, made) if made.status == 0 else 'came: %s' % made
 
 
 def try_judged(words, program):
-    """Makes a run, has it judged, and has the checker accept the certificate of a yes. A no is printed with its run,
-    for people to look at: threads may cost a node its ring at any moment."""
+    """Makes a run, has it judged, and has the checker accept the certificate of a yes. A no is printed with its run, for people to look
+    at."""
     made, wrong = made_by(program, words)
     if wrong:
         return wrong
@@ -104,7 +87,7 @@ def in_all_weathers(command, tried):
 
 
 def judged():
-    """What threads recorded can be read and judged."""
+    """What threads recorded is what the model works out, and can be judged."""
     for words in RUNS:
         yield 'totem run ' + words, partial(try_judged, words)
     yield from in_all_weathers('totem run ', try_judged)
@@ -130,38 +113,6 @@ def delivered():
     """Messages are delivered by all."""
     for nodes, weather, of_ten in DELIVERED:
         yield 'totem run --nodes %d %s' % (nodes, weather), partial(try_delivered, nodes, weather, of_ten)
-
-
-def try_logs(program):
-    """Each node has a log that begins with its first configuration."""
-    made, wrong = made_by(program, '--ticks 1')
-    if wrong:
-        return wrong
-    starts = [b'log %d\nconf r4.1 1 2 3\n' % node for node in (1, 2, 3)]
-    is_right = made.output.startswith(b'totem-run 1\n' + starts[0]) and made.output.endswith(b'\nend\n') and \
-        all(b'\n' + start in made.output for start in starts)
-    return None if is_right else 'came: %s' % made
-
-
-def try_alone(program):
-    """If each packet is lost, no ring forms, and no node delivers what another one sent. (A node that is alone also sends
-    its token to itself over the network.)"""
-    made, wrong = made_by(program, '--ticks 2000 --lose 100')
-    if wrong:
-        return wrong
-    for log in made.output.split(b'\nlog ')[1:]:
-        lines = [line.split() for line in log.splitlines()[1:]]
-        sent = {line[3] for line in lines if line[0] == b'send'}
-        changes = [line for line in lines if line[0] == b'conf']
-        if len(changes) != 1 or not {line[2] for line in lines if line[0] == b'dlv'} <= sent:
-            return 'log %s' % log.decode()
-    return None
-
-
-def logs():
-    """Each node has a log, and what is in it."""
-    yield 'totem run --ticks 1', try_logs
-    yield 'totem run --ticks 2000 --lose 100', try_alone
 
 
 def read_weave(text):
