@@ -1,6 +1,7 @@
 """An archive with a proved program."""
 import gzip
 import os
+import re
 import shutil
 import subprocess
 import tarfile
@@ -12,6 +13,11 @@ from proving.making import make, out_of
 from proving.telling import Unmade
 
 PROGRAM = 'totem'
+# The tools that need no sources, with their packages, and the pages that are about the sources.
+TOOLS, PACKAGES = ('logs', 'shrink', 'hunt'), ('joining', 'shrinking', 'hunting', 'playing', 'running')
+SOURCE_PAGES = ('ARCHITECTURE.md', 'CONTRIBUTING.md', 'DECISIONS.md', 'LIBRARY.md')
+LINK = re.compile(r'\[([^]]*)\]\(([^)#]+)(?:#[^)]*)?\)')
+SECTION = re.compile(r'(?ms)^## ([^\n]*)\n.*?(?=^## |\Z)')
 
 
 def _answer_of(what, *words):
@@ -84,6 +90,46 @@ def _put(path, folder, name):
     return place
 
 
+def _copy_tree(name, whole, *left_out):
+    """Copies a folder of the repository to the archive's folder."""
+    shutil.copytree(os.path.join(TOP, name), os.path.join(whole, name), ignore=shutil.ignore_patterns('__pycache__', *left_out))
+
+
+def _readme():
+    """The archive's README: a line `{..}` of tools/proving/ARCHIVE.md stands for the section of README.md with this title."""
+    with open(os.path.join(TOP, 'README.md'), encoding='utf-8') as it:
+        sections = {found[1]: found[0] for found in SECTION.finditer(it.read())}
+    with open(os.path.join(TOP, 'tools', 'proving', 'ARCHIVE.md'), encoding='utf-8') as it:
+        return re.sub(r'(?m)^\{(.*)\}\n', lambda found: sections[found[1]], it.read()).rstrip('\n') + '\n'
+
+
+def _cut_dead_links(whole):
+    """In the archive's pages, leaves only the text of links to what the archive does not have."""
+    for at, _, names in os.walk(whole):
+        for name in names:
+            if name.endswith('.md'):
+                path = os.path.join(at, name)
+                with open(path, encoding='utf-8') as it:
+                    text = it.read()
+                with open(path, 'w', encoding='utf-8') as it:
+                    it.write(LINK.sub(lambda found, at=at: found[0] if os.path.exists(os.path.join(at, found[2])) else found[1], text))
+
+
+def _copy_rest(whole):
+    """Copies examples, tools and pages to the archive's folder."""
+    _copy_tree('examples', whole)
+    _copy_tree('docs', whole, *SOURCE_PAGES)
+    os.mkdir(os.path.join(whole, 'tools'))
+    for name in TOOLS:
+        shutil.copy(os.path.join(TOP, 'tools', name), os.path.join(whole, 'tools'))
+    for name in PACKAGES:
+        _copy_tree(os.path.join('tools', name), whole)
+    shutil.copy(os.path.join(TOP, 'CHANGELOG.md'), whole)
+    with open(os.path.join(whole, 'README.md'), 'w', encoding='utf-8') as it:
+        it.write(_readme())
+    _cut_dead_links(whole)
+
+
 def release(folder, anew):
     """Proves the program, and writes its archive to a folder; returns the path of the archive. Whoever calls this has the lock."""
     os.makedirs(folder, exist_ok=True)
@@ -92,7 +138,7 @@ def release(folder, anew):
         built = _copy_built(room)
         name = '%s-%s-x86_64-linux' % (PROGRAM, _version_of(built))
         whole = os.path.join(room, name)
-        shutil.copytree(os.path.join(TOP, 'examples'), os.path.join(whole, 'examples'))
+        _copy_rest(whole)
         shutil.copy(os.path.join(room, record.NAME), whole)
         _answer_of('strip', 'strip', '--strip-all', '-o', os.path.join(whole, PROGRAM), built)
         _write_sums(whole)

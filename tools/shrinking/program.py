@@ -8,8 +8,10 @@ from typing import NamedTuple
 from running import streams
 
 TOP = os.path.dirname(os.path.dirname(os.path.dirname(os.path.abspath(__file__))))
-# Where the launcher puts the whole program, and the auditor alone, which answers `audit` and `explain`.
+# Where the launcher puts the whole program, and the auditor alone, which answers `audit` and `explain`; and where an archive has the program.
 WHOLE, AUDITOR = (os.path.join(TOP, 'crates', name, 'out', name) for name in ('totem', 'totem_auditor'))
+RELEASED = os.path.join(TOP, 'totem')
+IS_ARCHIVE = os.path.exists(os.path.join(TOP, 'PROVED.txt'))
 ENVIRONMENT = {'PATH': '/usr/bin:/bin', 'LANG': 'C.UTF-8'}
 
 
@@ -61,15 +63,15 @@ def _note_if_stale(place):
 
 
 class Program:
-    """The program at a path; if none is given, the one of this repository."""
+    """The program at a path; if none is given, the one of this repository or archive."""
 
     def __init__(self, path, makes_runs=False):
-        places = [path] if path else [WHOLE] if makes_runs else [WHOLE, AUDITOR]
+        places = [path] if path else [RELEASED] if IS_ARCHIVE else [WHOLE] if makes_runs else [WHOLE, AUDITOR]
         self.path = next((os.path.abspath(place) for place in places if os.access(place, os.X_OK) and os.path.isfile(place)), None)
         if not self.path:
-            builds = '' if path else ': `./totem prove` builds it, and --program takes another one'
+            builds = '' if path or IS_ARCHIVE else ': `./totem prove` builds it, and --program takes another one'
             raise Refused('the program %s is not there%s' % (places[0], builds))
-        if not path:
+        if not path and not IS_ARCHIVE:
             _note_if_stale(self.path)
         # What runs. (A signal's handler may come here while this thread has the lock.)
         self.lock, self.running, self.is_over = threading.RLock(), set(), False

@@ -20,8 +20,8 @@ A message that breaks 1.3 because it was sent elsewhere keeps a send. Then it gi
 
 With --script it does the same for a script whose run is broken (`totem sim`): it leaves out, moves and joins steps."""
 EXAMPLES = """The run is read from standard input if no file is given. The program crates/totem/out/totem judges each run that is tried, or
-if it is not built crates/totem_auditor/out/totem_auditor (`./totem prove` and `./totem audit` build them). If that program was not proved
-from the sources as they are, a note says so.
+if it is not built crates/totem_auditor/out/totem_auditor (`./totem prove` and `./totem audit` build them); in an archive it is ./totem. If
+that program was not proved from the sources as they are, a note says so.
 
 An interrupt writes the smallest run that was found so far, at once. The status is 0, or 1 if the run is not broken, can't be read, or the
 program is not there; also 1 if the program failed later: then it writes the smallest run that was found until then. It is 4 if the output

@@ -1,10 +1,15 @@
 """Archives by `tools/release`, over a small repository with a stand-in for `rt`: what is in them, and what stops them."""
 import os
+import re
+import shutil
 import signal
 import subprocess
+import tempfile
 from functools import partial
 
-from harness.small_repository import differs, end, scene
+from harness import process
+from harness.small_repository import REPOSITORY, differs, end, scene
+from parts.shrunk import DELIVERED_TWICE
 
 NAME = 'totem-1.2.3-x86_64-linux'
 BUILT = '#!/bin/sh\necho totem 1.2.3\n'
@@ -16,6 +21,9 @@ NAMES = ('first.run', 'a b.run', "a'b.run", 'a"b.run', 'a\nb.run', 'a\\b.run', '
 def prepare(it):
     """What a release needs."""
     it.write('examples/first.run', RUN)
+    shutil.copytree(os.path.join(REPOSITORY, 'docs'), os.path.join(it.top, 'docs'))
+    for name in ('README.md', 'CHANGELOG.md'):
+        shutil.copy(os.path.join(REPOSITORY, name), it.top)
     # (the real one takes no script)
     it.replace('strip', '#!/bin/sh\ncp "$4" "$3"\n')
     it.say(built=BUILT)
@@ -56,6 +64,61 @@ def release(_program):
         lines, trouble = unpack(it)
         wanted = ['%s: logic=proved functions=1' % crate for crate in ('low', 'high', 'totem')]
         return trouble or (lines[1] != 'commit: unknown' or lines[4:] != wanted) and 'it has: %r' % lines
+
+
+def dead_links(folder):
+    """The links in the pages of a folder that lead to no file, or to no title of a page."""
+    for at, _, names in os.walk(folder):
+        for name in (name for name in names if name.endswith('.md')):
+            with open(os.path.join(at, name), encoding='utf-8') as page:
+                links = re.findall(r'\]\(([^)]*)\)', page.read())
+            for link in links:
+                path, _, title = link.partition('#')
+                path = os.path.join(at, path) if path else os.path.join(at, name)
+                if not os.path.exists(path) or title and title not in titles(path):
+                    yield '%s: %s' % (name, link)
+
+
+def titles(path):
+    """The titles of a page, as links name them."""
+    with open(path, encoding='utf-8') as page:
+        lines = re.findall(r'(?m)^#+ (.*)', page.read())
+    return [re.sub(r'[^\w -]', '', line.lower()).replace(' ', '-') for line in lines]
+
+
+def commands(path, title):
+    """The commands in a section of a page."""
+    with open(path, encoding='utf-8') as page:
+        section = page.read().partition('\n## %s\n' % title)[2].partition('\n## ')[0]
+    return re.findall(r'(?m)^    (.*)', section)
+
+
+def archive_suffices(program):
+    """With the archive alone the commands of its README join, explain, shrink, audit and check; its links lead somewhere."""
+    with scene() as it, tempfile.TemporaryDirectory() as elsewhere:
+        prepare(it)
+        it.say(built='#!/bin/sh\nexec %s "$@"\n' % program)
+        shutil.rmtree(os.path.join(it.top, 'examples'))
+        shutil.copytree(os.path.join(REPOSITORY, 'examples'), os.path.join(it.top, 'examples'))
+        came = it.run_tool('tools/release', folder_of(it))
+        if came.status:
+            return 'no archive: %s' % came
+        shutil.unpack_archive(came.output.decode().strip(), elsewhere)
+        folder, = (os.path.join(elsewhere, name) for name in os.listdir(elsewhere))
+        shutil.rmtree(it.top)
+        dead = list(dead_links(folder))
+        if dead:
+            return 'the links lead nowhere: %s' % dead
+        answers = {line: subprocess.run(['sh', '-c', line], cwd=folder, env=process.ENVIRONMENT, capture_output=True, check=False,
+                                        timeout=process.allowed(process.SECONDS))
+                   for line in commands(os.path.join(folder, 'README.md'), 'From logs to a verdict')}
+        statuses = [answer.returncode for answer in answers.values()]
+        with open(os.path.join(folder, 'small.run'), 'rb') as file:
+            small = file.read()
+        *_, last = answers.values()
+        is_right = (statuses, small, last.stdout) == ([0, 0, 0, 1, 0, 0, 0], DELIVERED_TWICE, b'verdict yes\nend\n')
+        noted = any(b'note:' in answer.stderr for answer in answers.values())
+        return None if is_right and not noted else 'came: %s' % answers
 
 
 def release_names(_program):
@@ -198,6 +261,7 @@ def use(words, _program):
 def releases():
     """The archive, and what stops it."""
     yield 'a release', release
+    yield 'an archive that suffices', archive_suffices
     yield 'names of examples', release_names
     for what, (change, wanted) in AFTER.items():
         yield 'after a commit, ' + what, partial(release_of_commit, change, wanted)
