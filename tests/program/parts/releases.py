@@ -5,6 +5,7 @@ import shutil
 import signal
 import subprocess
 import tempfile
+from contextlib import contextmanager
 from functools import partial
 
 from harness import process
@@ -93,32 +94,71 @@ def commands(path, title):
     return re.findall(r'(?m)^    (.*)', section)
 
 
-def archive_suffices(program):
-    """With the archive alone the commands of its README join, explain, shrink, audit and check; its links lead somewhere."""
+@contextmanager
+def archive(program):
+    """An archive with the real program and the real examples, unpacked; nothing is left of the repository that it came from."""
     with scene() as it, tempfile.TemporaryDirectory() as elsewhere:
         prepare(it)
         it.say(built='#!/bin/sh\nexec %s "$@"\n' % program)
         shutil.rmtree(os.path.join(it.top, 'examples'))
         shutil.copytree(os.path.join(REPOSITORY, 'examples'), os.path.join(it.top, 'examples'))
         came = it.run_tool('tools/release', folder_of(it))
-        if came.status:
-            return 'no archive: %s' % came
         shutil.unpack_archive(came.output.decode().strip(), elsewhere)
-        folder, = (os.path.join(elsewhere, name) for name in os.listdir(elsewhere))
         shutil.rmtree(it.top)
+        yield os.path.join(elsewhere, *os.listdir(elsewhere))
+
+
+def shell(line, folder, **environment):
+    """The answer of a shell to a line in this folder."""
+    came = subprocess.run(['sh', '-c', line], cwd=folder, env={**process.ENVIRONMENT, **environment}, capture_output=True, check=False,
+                          timeout=process.allowed(process.SECONDS))
+    return process.Answer(came.returncode, came.stdout, came.stderr)
+
+
+def content_of(*path):
+    """What is in a file."""
+    with open(os.path.join(*path), 'rb') as file:
+        return file.read()
+
+
+def archive_suffices(program):
+    """With the archive alone the commands of its README join, explain, shrink, audit and check; its links lead somewhere."""
+    with archive(program) as folder:
         dead = list(dead_links(folder))
         if dead:
             return 'the links lead nowhere: %s' % dead
-        answers = {line: subprocess.run(['sh', '-c', line], cwd=folder, env=process.ENVIRONMENT, capture_output=True, check=False,
-                                        timeout=process.allowed(process.SECONDS))
-                   for line in commands(os.path.join(folder, 'README.md'), 'From logs to a verdict')}
-        statuses = [answer.returncode for answer in answers.values()]
-        with open(os.path.join(folder, 'small.run'), 'rb') as file:
-            small = file.read()
-        *_, last = answers.values()
-        is_right = (statuses, small, last.stdout) == ([0, 0, 0, 1, 0, 0, 0], DELIVERED_TWICE, b'verdict yes\nend\n')
-        noted = any(b'note:' in answer.stderr for answer in answers.values())
-        return None if is_right and not noted else 'came: %s' % answers
+        answers = [shell(line, folder) for line in commands(os.path.join(folder, 'README.md'), 'From logs to a verdict')]
+        is_right = [answer.status for answer in answers] == [0, 0, 0, 1, 0, 0, 0] and answers[-1].output == b'verdict yes\nend\n'
+        is_noted = any(b'note:' in answer.errors for answer in answers)
+        if not is_right or is_noted or content_of(folder, 'small.run') != DELIVERED_TWICE:
+            return 'came: %s' % '\n  '.join(map(str, answers))
+    return None
+
+
+def script_of_page(logs, status, kept, program):
+    """The script of docs/CI.md has the status of the verdict, also when it is called again, and keeps these files."""
+    with archive(program) as folder, tempfile.TemporaryDirectory() as room:
+        script, = re.findall(r'(?ms)^```sh\n(.*?)^```', content_of(folder, 'docs', 'CI.md').decode())
+        with open(os.path.join(room, 'judge.sh'), 'w', encoding='ascii') as file:
+            file.write(script)
+        os.mkdir(os.path.join(room, 'empty'))
+        for _ in range(2):
+            came = shell('sh judge.sh %s' % logs.replace('EXAMPLES', os.path.join(folder, 'examples')), room, TOTEM=folder)
+            there = sorted(os.listdir(os.path.join(room, 'kept')))
+            explained = content_of(room, 'kept', 'explained') if 'explained' in there else b''
+            if (came.status, came.output, there) != (status, explained, kept.split()):
+                return 'came: %s, and there is %r' % (came, there)
+    return None
+
+
+# The words for the script of docs/CI.md, its status, and what it keeps.
+JUDGED = {
+    'a yes': ('EXAMPLES/own-logs kept', 0, 'changes explained my.map my.run'),
+    'a yes with what is known': ('EXAMPLES/own-logs kept --failed 3 --quiet all', 0, 'changes explained my.map my.run'),
+    'a no': ('EXAMPLES/logs/lost-tail kept', 1, 'changes explained my.map my.run my.svg report small small.run'),
+    'a refusal': ('EXAMPLES/logs/lost-first-life kept --lives --member r4.1=2:1', 2, 'changes explained my.map my.run'),
+    'no logs': ('empty kept', 2, 'my.run'),
+}
 
 
 def release_names(_program):
@@ -262,6 +302,8 @@ def releases():
     """The archive, and what stops it."""
     yield 'a release', release
     yield 'an archive that suffices', archive_suffices
+    for what, given in JUDGED.items():
+        yield 'the script of a page, ' + what, partial(script_of_page, *given)
     yield 'names of examples', release_names
     for what, (change, wanted) in AFTER.items():
         yield 'after a commit, ' + what, partial(release_of_commit, change, wanted)
