@@ -30,7 +30,7 @@ class Scene:
         for it in (self.stand_in, os.path.join(folder, 'bin'), os.path.join(folder, 'room')):
             os.mkdir(it)
         os.makedirs(os.path.join(self.top, 'tools'))
-        for it in ('totem', *('tools/' + it for it in ('prove', 'release', 'sources', 'logs', 'shrink', 'hunt')), 'HANDLES'):
+        for it in ('totem', *('tools/' + it for it in ('prove', 'release', 'sources', 'logs', 'shrink', 'play', 'hunt')), 'HANDLES'):
             shutil.copy(os.path.join(REPOSITORY, it), os.path.join(self.top, it))
         for it in ('proving', 'running', 'joining', 'shrinking', 'hunting', 'playing'):
             it = os.path.join('tools', it)

@@ -157,20 +157,23 @@ class Scene:
 
     def text(self, version):
         """The text of the run, as `totem sim` writes it for a script of this version."""
-        def name(member):
-            return '%d:%d' % member if version == 2 else '%d' % member[0]
         lines = ['totem-run %d' % version]
         for process, actor in self.actors.items():
             for life, log in enumerate(actor.logs, 1):
-                lines.append('log ' + name((process, life)))
-                lines.extend(_line(entry, name) for entry in log)
+                lines.append('log ' + _name((process, life), version))
+                lines.extend(entry_line(entry, version) for entry in log)
                 lines.append('failed' if log[-1][0] == 'fail' else 'open')
         return '\n'.join(lines + ['end', '']).encode()
 
 
-def _line(entry, name):
+def _name(member, version):
+    return '%d:%d' % member if version == 2 else '%d' % member[0]
+
+
+def entry_line(entry, version):
+    """The line of an entry in a run of this version."""
     if entry[0] == 'conf':
-        return 'conf %s %s' % (entry[1], ' '.join(map(name, entry[2])))
+        return 'conf %s %s' % (entry[1], ' '.join(_name(member, version) for member in entry[2]))
     if entry[0] == 'fail':
         return 'fail ' + entry[1]
     message = entry[2]

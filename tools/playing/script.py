@@ -9,10 +9,11 @@ MOST_BYTES = 65536
 def read(text):
     """The version and the commands of a script that the program follows, without the last line."""
     lines = text.decode('ascii').splitlines()
-    return int(lines[0].split(' ')[1]), [_read_line(line.split(' ')) for line in lines[1:-1]]
+    return int(lines[0].split(' ')[1]), [read_line(line.split(' ')) for line in lines[1:-1]]
 
 
-def _read_line(words):
+def read_line(words):
+    """The command of a line, given by its words."""
     word, numbers = words[0], words[1:]
     if word == 'submit':
         return word, int(numbers[0]), numbers[1], numbers[2]
