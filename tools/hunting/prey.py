@@ -1,6 +1,7 @@
 """What a hunt has seen and found, and where that is kept."""
 import fcntl
 import os
+import tempfile
 from collections import Counter
 from contextlib import contextmanager
 
@@ -45,13 +46,16 @@ class Found:
         self.moved = []
 
     def check_folder(self):
-        """Raises if the folder could not be written."""
+        """Writes a file to the folder, or to where it would be made, and removes it; raises if that fails."""
         folder = os.path.abspath(self.folder)
         while not os.path.lexists(folder):
             folder = os.path.dirname(folder)
-        if not os.path.isdir(folder) or not os.access(folder, os.W_OK | os.X_OK):
-            raise Refused('the folder %s can\'t be written: %s is %s' % (
-                self.folder, folder, 'read-only' if os.path.isdir(folder) else 'no folder'))
+        try:
+            with tempfile.NamedTemporaryFile(dir=folder) as it:
+                it.write(b'tried')
+                it.flush()
+        except OSError as error:
+            raise Refused('the folder %s can\'t be written: %s: %s' % (self.folder, folder, error.strerror)) from error
 
     @contextmanager
     def _locked(self):

@@ -1,5 +1,6 @@
 """Broken runs made small."""
 import hashlib
+import re
 
 from shrinking import leaving_out, naming
 from shrinking.program import Refused
@@ -9,6 +10,7 @@ from shrinking.run_text import entry_at, read, write
 # The order in which parts are left out: large ones first.
 KINDS = (leaving_out.processes, leaving_out.configurations, leaving_out.messages, leaving_out.claims, leaving_out.entries,
          leaving_out.members)
+NAME = re.compile(r'[rt]?[0-9][0-9.:#/@]*')
 NAMINGS = (naming.of_least_version, naming.with_small_processes, naming.with_small_rings, naming.with_small_messages)
 
 
@@ -30,6 +32,15 @@ def kinds_of(run, verdict):
     return told
 
 
+def reasons_of(explanation):
+    """For each broken specification, the sentences that explain why its first fault breaks it, without names; each once, in no order."""
+    told = {}
+    for section in explanation.split('\nfault ')[1:]:
+        why = section.partition('\nWhy it is broken:\n')[2].partition('\nThe logs there:\n')[0]
+        told.setdefault(section.split(' ')[0], frozenset(NAME.sub('..', why).splitlines()))
+    return told
+
+
 def is_sent(run, place):
     """Whether any log sends the message that is delivered at a place."""
     message = entry_at(run, place).message
@@ -38,11 +49,13 @@ def is_sent(run, place):
 
 class Aim:
     """What has to stay the same: the broken specifications, or only that this one is among them; whether a message that breaks 1.3 was sent
-    elsewhere or nowhere; and, if asked for, the kinds of the events that the first fault of each names."""
+    elsewhere or nowhere; and, if asked for, the kinds of the events that the first fault of each names, and the kinds of reasons that
+    `explain` gives."""
 
-    def __init__(self, run, verdict, specification=None, same_places=False):
+    def __init__(self, run, verdict, explain, specification=None, same_places=False):
         self.broken = (specification,) if specification else verdict.broken
         self.is_among = bool(specification)
+        self.explain = explain
         self.kinds = self._kinds(run, verdict) if same_places else None
         self.sent = self._sent(run, verdict)
 
@@ -51,8 +64,8 @@ class Aim:
         return is_sent(run, places[0]) if places else None
 
     def _kinds(self, run, verdict):
-        told = kinds_of(run, verdict)
-        return {specification: told[specification] for specification in self.broken}
+        told, reasons = kinds_of(run, verdict), reasons_of(self.explain(write(run)))
+        return {specification: (told[specification], reasons.get(specification)) for specification in self.broken}
 
     def is_met_by(self, run, verdict):
         """Whether a run with this verdict is acceptable."""
@@ -79,7 +92,7 @@ class RunShrinker:
         self.program = program
         self.run = read(text)
         self.verdict = verdict
-        self.aim = Aim(self.run, verdict, **asked)
+        self.aim = Aim(self.run, verdict, program.explain, **asked)
         self.keep_names = keep_names
         # The run with the names that it had, if it has new ones.
         self.before = None

@@ -65,7 +65,7 @@ class ScriptShrinker:
             raise Refused('the run of this script does not break %s, but %s' % (asked['specification'], ', '.join(verdict.broken)))
         self.program = program
         self.version, self.commands = script.read(text)
-        self.aim = Aim(read_run(run), verdict, **asked)
+        self.aim = Aim(read_run(run), verdict, program.explain, **asked)
         self.trials = Trials(self._holds, self._digest, jobs, self._take)
         self.tell = tell or (lambda lines, tried: None)
         self.keep_names = keep_names

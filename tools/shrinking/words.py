@@ -43,7 +43,8 @@ def read_words(words):
     parser.add_argument('--script', action='store_true', help='the file is a script')
     parser.add_argument('--specification', metavar='S', help='only this one of the broken specifications has to stay broken, such as 5')
     parser.add_argument('--same-places', action='store_true',
-                        help='the first fault of each specification has to name the same kinds of events too')
+                        help='the first fault of each specification has to name the same kinds of events too, and to be broken for the same '
+                             'kind of reason')
     parser.add_argument('--keep-names', action='store_true', help='processes, rings and messages keep their numbers')
     add_words_of_program(parser)
     asked = parser.parse_args(words)
@@ -54,6 +55,8 @@ def read_words(words):
 
 def _read_input(path):
     if not path:
+        if sys.stdin.isatty():
+            streams.say('shrink: reading from the terminal; `shrink FILE` reads a file')
         return sys.stdin.buffer.read()
     with open(path, 'rb') as it:
         return it.read()
@@ -123,6 +126,10 @@ def _do(asked):
     """Makes the text small, writes the outcome, and only then reports it. Returns the status."""
     program = Program(asked.program, makes_runs=asked.script)
     text = _read_input(asked.file)
+    if not asked.script and text.startswith(b'totem-script '):
+        raise Refused('this is a script: --script makes it small')
+    if asked.script and text.startswith(b'totem-run '):
+        raise Refused('this is a run and no script: leave out --script')
     shrinker, progress = _read(asked, program, text)
     why = _shrink(shrinker, progress)
     signals.ignore_ending()

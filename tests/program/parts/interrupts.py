@@ -185,6 +185,16 @@ def hunt_nowhere(_program):
         return None if is_right else 'came: %s' % came
 
 
+def hunt_full(_program):
+    """A folder in which no file can be written is refused before the hunt, and nothing is left there."""
+    with tempfile.TemporaryDirectory() as folder:
+        place = write_program(folder, HANGS)
+        words = [os.path.join(TOOLS, 'hunt'), '--seeds', '0', '9', '--keep', os.path.join(folder, 'found'), '--program', place]
+        came = subprocess.run(['sh', '-c', 'ulimit -f 0; exec "$@"', 'sh', *words], capture_output=True, env=process.ENVIRONMENT, check=False)
+        is_right = (came.returncode, came.stdout) == (1, b'') and came.stderr.endswith(b': File too large\n') and b"found can't be" in came.stderr
+        return None if is_right and os.listdir(folder) == ['program'] else 'came: %r' % came
+
+
 def write_full(words, _program):
     """An output that takes nothing has the status 4."""
     with open('/dev/full', 'wb') as full, tempfile.TemporaryDirectory() as folder:
@@ -437,6 +447,7 @@ def interrupts():
         yield 'a hunt, ' + what, partial(hunt_wrongly, text, told)
     yield 'a hunt, long scripts', hunt_long
     yield 'a hunt that can keep nothing', hunt_nowhere
+    yield 'a hunt on a full disk', hunt_full
     for words in (['--show', '3'], ['--seeds', '0', '0', '--keep', '/dev/shm']):
         yield 'a full device: hunt ' + ' '.join(words), partial(write_full, words)
     for what, case in KEPT.items():

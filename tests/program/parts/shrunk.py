@@ -124,6 +124,10 @@ NEW_NAMES = b"""shrink: new names, and what they were before:
   4.1#1        8.3#33
 """
 SMALL_NOWHERE = b'totem-run 2\nlog 1:1\nconf r8.1 1:1\ndlv r8.1 4.3#1\nopen\nend\n'
+# A delivery in another configuration than that of its log, and what is left of it; with its reason, the log stays somewhere.
+ASTRAY = b'totem-run 1\nlog 1\nconf r4.1 1 2\ndlv r8.1 8.1#1\nopen\nlog 2\nconf r4.1 1 2\nopen\nend\n'
+SMALL_ASTRAY = b'totem-run 1\nlog 1\ndlv r4.1 4.1#1\nopen\nend\n'
+SAME_ASTRAY = b'totem-run 1\nlog 1\nconf r4.1 1\ndlv r8.1 8.1#1\nopen\nend\n'
 YES = b'totem-run 1\nlog 1\nconf r4.1 1\nopen\nend\n'
 # What is refused: the arguments, the input, and the message.
 REFUSED = {
@@ -133,6 +137,8 @@ REFUSED = {
     'a script whose run is a yes': (
         '--script', b'totem-script 1\nring 4.1 1\nend\n', 'shrink: the verdict on the run of this script is yes'),
     'a script that is none': ('--script', b'totem-script 1\nring 4.1 1\nrun x\nend\n', 'shrink: totem: script refused: 3 Number'),
+    'a script that is not said to be one': ('', b'totem-script 1\nring 4.1 1\nend\n', 'shrink: this is a script: --script makes it small'),
+    'a run that is said to be a script': ('--script', YES, 'shrink: this is a run and no script: leave out --script'),
     'a program that is missing': ('--program /no/such/program', YES, 'shrink: the program /no/such/program is not there'),
     'a file that is missing': ('/no/such/file', b'', 'shrink: /no/such/file: No such file or directory'),
 }
@@ -240,6 +246,8 @@ def shrunk():
     yield 'a recording', try_recording
     yield 'three specifications', partial(try_shrunk, [], THREE, SMALL_THREE, b'\nfault 7.1 1@3\n')
     yield 'one of them', partial(try_shrunk, ['--specification', '3'], THREE, SMALL_OWN, b'\nfault 3 1@2\n')
+    yield 'a delivery astray', partial(try_shrunk, [], ASTRAY, SMALL_ASTRAY, b'  No change comes before it.\n')
+    yield 'a delivery astray for the same reason', partial(try_shrunk, ['--same-places'], ASTRAY, SAME_ASTRAY, b'  Process 1 was in r4.1 then.\n')
     yield 'a message that was sent elsewhere', partial(try_story, [], ELSEWHERE, SMALL_ELSEWHERE, NEW_NAMES)
     yield 'a message that was sent elsewhere, with its names', partial(try_story, ['--keep-names'], ELSEWHERE, KEPT_ELSEWHERE, b'')
     nowhere = ELSEWHERE.replace(b'send r8.3 a 8.3#33\n', b'')
