@@ -1,6 +1,7 @@
 """The launcher `./totem` over a small repository, with a stand-in for `rt`: the first look, the proved build, and what stops them."""
 import os
 import signal
+import subprocess
 from functools import partial
 
 from harness.small_repository import LOGIC, differs, end, scene
@@ -117,6 +118,42 @@ def build_interrupted(_program):
         return differs(it.run('run'), 9, MADE, '1 of 3 proved: low, earlier', '3 of 3')
 
 
+def build_ended(number, _program):
+    """A signal to the script alone ends the proof too, before the script ends, and nothing is left."""
+    with scene() as it:
+        it.say(slow='high\n', seconds='60')
+        started = it.start('run')
+        slow = it.is_slow_at()
+        os.kill(started.pid, number)
+        wrong = differs(end(started), 130, '', 'totem: interrupted: 1 of 3')
+        if wrong or os.path.exists(it.program) or os.path.exists('/proc/%d' % slow) or os.listdir(it.environment['TMPDIR']):
+            return wrong or 'something was left'
+    return None
+
+
+def ask_for_help(words, then, _program):
+    """The script says what it takes, and then the program what it does, if it is asked too."""
+    with scene() as it:
+        if then:
+            it.run('audit')
+        calls = it.told('calls')
+        came = it.run(*words)
+        lines = came.output.decode().split('\n', 3)
+        starts = [line.partition('  ')[0] for line in lines[:3]]
+        if starts != ['./totem ARGUMENTS', './totem try ARGUMENTS', './totem prove'] or came.errors or it.told('calls') != calls:
+            return 'came: %s' % came
+        wanted = (9, 'totem_auditor %s\nthe input\n' % ' '.join(words)) if then else (0, '')
+        return (came.status, lines[3]) != wanted and 'came: %s' % came
+
+
+def ask_for_help_in_vain(_program):
+    """Help that can't be written has the status 4."""
+    with scene() as it, open('/dev/full', 'wb') as full:
+        started = it.start_tool('totem', 'prove', '--help', streams=(subprocess.PIPE, full, subprocess.PIPE))
+        came = end(started)
+        return (came.status, came.errors) != (4, b'totem: write failed\n') and 'came: %s' % came
+
+
 def build_twice_at_once(_program):
     """The second call says that it waits, proves nothing, and answers by the program of the first."""
     with scene() as it:
@@ -202,6 +239,11 @@ def launcher():
     yield 'a crate that is not proved', build_refused
     yield 'no program', build_none
     yield 'an interrupt', build_interrupted
+    for number in (signal.SIGTERM, signal.SIGINT, signal.SIGHUP):
+        yield 'signal %d to the script' % number, partial(build_ended, number)
+    for words in (['prove', '--help'], ['prove', '-h'], ['help', 'prove'], ['help', 'try'], ['help'], ['--help'], ['-h']):
+        yield 'help: ' + ' '.join(words), partial(ask_for_help, words, len(words) == 1)
+    yield 'help that can\'t be written', ask_for_help_in_vain
     yield 'two calls at once', build_twice_at_once
     yield 'a run ahead', partial(build_ahead, {})
     yield 'a run ahead, and nothing is shared', partial(build_ahead, {'alone': '', 'slow': 'totem\n', 'seconds': '1'})
