@@ -9,6 +9,7 @@ FORMS = {name: re.compile(form) for name, form in {
     'log': r'(\S+\.log): left out',
     'moved': r'(\S+\.log), line (\d+): moved to just before line (\d+), as (send \S+ [as] \S+): (.*)',
     'moved to the end': r'(\S+\.log), line (\d+): moved to the end, as (send \S+ [as] \S+): (.*)',
+    'inserted': r'(\S+\.log), line (\d+): (conf t\S+ .*) is added before it',
     'added': r'(\S+\.log), end: (fail \S+) is added',
     'added no more': r'(\S+\.log), end: left out: (fail \S+)',
     'ending': r'(\S+\.log), end: (open|failed|quiet) in place of (open|failed|quiet)',
@@ -41,6 +42,8 @@ class File:
     # By the number of a line that moves: the line before which it goes, and what it is then.
     moves: dict = field(default_factory=dict)
     added: list = field(default_factory=list)
+    # By the number of a line: the change that is added just before it, after all that is moved there.
+    inserted: dict = field(default_factory=dict)
     is_left_out: bool = False
 
     def line(self, number):
@@ -62,15 +65,20 @@ class File:
         """The lines that come out."""
         return self._lines_at(self.is_kept) + self.added
 
+    def result_of_lines(self):
+        """The same without what is added before lines."""
+        return self._lines_at(self.is_kept, {}) + self.added
+
     def left_behind(self):
         """The lines that come after the last one that is kept, or are moved there."""
         return self._lines_at(lambda number: not self.is_kept(number))
 
-    def _lines_at(self, is_meant):
-        """The lines at some places, and those that are moved to before them."""
-        lines = []
+    def _lines_at(self, is_meant, inserted=None):
+        """The lines at some places, and those that are moved to before them, or added there."""
+        lines, inserted = [], self.inserted if inserted is None else inserted
         for number in filter(is_meant, range(1, len(self.lines) + 2)):
             lines += self.moved.get(number, [])
+            lines += [inserted[number]] if number in inserted else []
             lines += [] if number in self.gone else self.lines[number - 1:number]
         return lines
 
@@ -154,6 +162,13 @@ class Applied:
             raise Unfit('%s: %r became %r' % (name, text, new))
         file.moved.setdefault(before, []).append(new)
         file.moves[int(number)] = before, new
+
+    def _take_inserted(self, name, number, line):
+        file = self._file(name)
+        file.line(int(number))
+        if int(number) in file.inserted:
+            raise Unfit('%s: two changes are added before line %s' % (name, number))
+        file.inserted[int(number)] = line
 
     def _take_added(self, name, line):
         self._file(name).added.append(line)

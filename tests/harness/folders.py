@@ -43,6 +43,8 @@ class Recording:
     def folder(self):
         """The folder."""
         draw = self.draw
+        if not self.is_without_lives and self.chance(12):
+            self.forget_transitional()
         if self.chance(45):
             self.record_sends()
         if self.chance(20):
@@ -64,6 +66,19 @@ class Recording:
         """How many entries a part may have, mostly fewer than the longest log."""
         longest = max(len(log.entries) for log in self.logs)
         return max(2, self.draw.randint(longest // 3, longest + 1))
+
+    def forget_transitional(self):
+        """The layer reports no transitional configurations, and delivers in the regular one before."""
+        for log in self.logs:
+            entries, there = [], None
+            for entry in log.entries:
+                if entry.word == 'conf' and not is_regular(entry.configuration):
+                    continue
+                there = entry.configuration if entry.word == 'conf' else there
+                entries.append(entry if is_regular(entry.configuration) or not there else entry._replace(configuration=there))
+            log.entries = entries
+        if self.chance(90):
+            self.words.append('--transitional')
 
     def record_sends(self):
         """Sends are written down at other places."""

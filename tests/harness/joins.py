@@ -173,6 +173,8 @@ class Case:
             yield from own_sends.untold()
         if '--lives' in self.words:
             yield from told.Lives(applied, self.words, self.folder.files.get('times', '')).wrongs()
+        if '--transitional' in self.words:
+            yield from told.transitional(applied)
         yield from told.trims(applied)
         yield from told.names_again(applied, errors)
         if '--cut' in self.words:

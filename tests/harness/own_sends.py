@@ -44,7 +44,7 @@ class OwnSends:
     def wrongs(self):
         """What is wrong with the sends and with the order of the other entries."""
         for file in self.applied.logs():
-            old, new = Places(entries_of(file)), Places(file.result())
+            old, new = Places(entries_of(file)), Places(file.result_of_lines())
             others = new.others[:len(new.others) - len(file.added)]
             is_whole = not file.is_trimmed
             if others != old.others[:len(others)] or is_whole and len(others) != len(old.others):

@@ -7,7 +7,7 @@ from harness.recordings import is_regular
 
 
 # Which kinds of changes an option allows; without an option only a last line that is cut off is left out, and a log without an entry.
-ALLOWED = {'moved': '--own-sends', 'moved to the end': '--own-sends', 'line': '--own-sends', 'trimmed': '--trim', 'added': '--failed',
+ALLOWED = {'moved': '--own-sends', 'moved to the end': '--own-sends', 'line': '--own-sends', 'trimmed': '--trim', 'added': '--failed', 'inserted': '--transitional',
            'added no more': '--trim', 'member': '--lives', 'process': '--renumber', 'ring': '--renumber'}
 
 
@@ -64,6 +64,10 @@ def untold(applied, errors):
             if (found[1], int(found[2])) in came:
                 continue
             parts = ['%s: member %s' % (found[1], found[2]), '%s:%s' % (found[3], found[4])]
+        elif kind == 'inserted':
+            if has_line(errors, found[1] + ': transitional configurations that are assumed', configuration_of(found[3])):
+                continue
+            parts = [found[1], 'transitional configurations that are assumed', '..']
         elif kind in ('added', 'added no more'):
             parts = [found[1], found[2]]
         elif kind == 'ending':
@@ -210,6 +214,48 @@ class Lives:
             key = configuration, int(process)
             if int(life) not in known.get(key, ()):
                 yield 'member %s of %s became %s:%s, and could also be another life' % (process, configuration, process, life)
+
+
+def _way(file):
+    """The changes of a log, each with the number of its line and its members; whom the log is of, as members are written; and whether it is open
+    as long as nothing is trimmed."""
+    changes = [(number, line.split(' ')[1], line.split(' ')[2:]) for number, line in enumerate(entries_of(file), 1) if line.startswith('conf ')]
+    has_lives = any(':' in member for _, _, members in changes for member in members)
+    return changes, '%d:%d' % (file.process, file.life or 1) if has_lives else str(file.process)
+
+
+def transitional(applied):
+    """What is added of transitional configurations, other than those that go straight from one regular configuration to the next together: by the
+    logs, or because a log is open and ends there, and no log of that member comes to the next one."""
+    ways, endings = {name: _way(file) for name, file in applied.files.items() if entries_of(file)}, {}
+    for kind, found in applied.changes:
+        if kind == 'ending' and found[2] != 'open':
+            endings[found[1]] = found[2]
+        elif kind == 'ending':
+            endings.setdefault(found[1], found[3])
+    lists = {}
+    for changes, _ in ways.values():
+        for _, name, members in changes:
+            lists.setdefault(name, members)
+    for name, (changes, own) in ways.items():
+        wanted = {}
+        for (_, one, _), (number, other, _) in zip(changes, changes[1:]):
+            if is_regular(one) and is_regular(other) and one != other:
+                together = [who for who in lists[one] if who in lists[other] and _goes(who, one, other, ways, applied, endings)]
+                if own in together:
+                    least = together[0].partition(':')[0]
+                    wanted[number] = 'conf t%s/%s %s' % (other[1:], least, ' '.join(together))
+        if applied.files[name].inserted != wanted:
+            yield '%s: added are %r, and should be %r' % (name, applied.files[name].inserted, wanted)
+
+
+def _goes(who, one, other, ways, applied, endings):
+    """Whether a member goes straight from one configuration to another, or may still do so."""
+    own = [(name, [at for _, at, _ in changes]) for name, (changes, of) in ways.items() if of == who]
+    if any(pair == (one, other) for _, names in own for pair in zip(names, names[1:])):
+        return True
+    ended = [name for name, names in own if names[-1:] == [one] and endings.get(name, applied.files[name].ending) == 'open']
+    return bool(ended) and not any(other in names for _, names in own)
 
 
 def trims(applied):

@@ -46,7 +46,7 @@ WHERE = """Finds the line of a log from which an entry of a run came, with the t
     ./totem audit < my.run                            (it says, for example, fault 1.4 2:1@1543 2:1@1577)
     tools/logs where my.map 2:1@1543 2:1@1577
 
-For a send that --own-sends moved this is the line in which it was recorded. An entry that --failed added has no line."""
+For a send that --own-sends moved this is the line in which it was recorded. An entry that --failed or --transitional added has no line."""
 WHERE_STATUS = """The status is 0, or 1 if the map is broken, has no such place or does not fit the run (then nothing is written), 4 if the
 output or standard error fails, 64 for a usage error."""
 
@@ -83,6 +83,12 @@ def _add_words_of_sends(join):
                       'configuration goes back to the end of the regular one before it')
 
 
+def _add_words_of_changes(join):
+    join.add_argument('--transitional', action='store_true',
+                      help='for a layer that reports no transitional configurations: add them, assuming that those who change straight from one '
+                      'regular configuration to the next went there together')
+
+
 def _add_words_of_parts(join):
     join.add_argument('--cut', metavar='NEW_FOLDER',
                       help='write several runs, NEW_FOLDER/part-1.run and so on, cut where all that are still there change to one '
@@ -101,6 +107,7 @@ def _add_words_of_join(join):
     _add_words_of_ends(join)
     _add_words_of_lives(join)
     _add_words_of_sends(join)
+    _add_words_of_changes(join)
     join.add_argument('--renumber', action='store_true',
                       help='give new numbers to all processes if one is past 65535, and to all rings if one is past 4294967295, in the same way '
                       'in all logs')

@@ -8,6 +8,8 @@ class LineNumbers:
 
     def __init__(self):
         self.entries, self.lines = array('Q', [1]), array('Q', [1])
+        # Entries that are no lines: what has their place here is the line before which they are added.
+        self.added = set()
 
     def add(self, entry, line):
         """From this entry on, entries are the lines from this one on. Entries are added in their order."""
@@ -19,13 +21,19 @@ class LineNumbers:
         self.entries.append(entry)
         self.lines.append(line)
 
+    def insert(self, entry, line):
+        """This entry is added before this line. The next entry is this line."""
+        self.entries.append(entry)
+        self.lines.append(line)
+        self.added.add(entry)
+
     def of(self, entry):
         """The line of an entry."""
         at = bisect_right(self.entries, entry) - 1
         return self.lines[at] + entry - self.entries[at]
 
     def rows(self, first, last):
-        """The rows of these entries: the first and the last entry of each, and the line of the first."""
+        """The rows of these entries: the first and the last entry of each, and the line of the first. An added entry is a row of its own."""
         at = bisect_right(self.entries, first) - 1
         while first <= last:
             end = self.entries[at + 1] - 1 if at + 1 < len(self.entries) else last

@@ -9,7 +9,8 @@
 
 A log of the run has a line with its process, as the run names it, the CRC-32 of its entries in the run, and its file. The lines after it have
 its entries in their order: the entries from the first number to the second one are lines in a row of that file, from the third number on. A
-single entry may have the time of its line after it. `added` is an entry that no line has (--failed). If the logs are cut into several runs,
+single entry may have the time of its line after it. `added` is an entry that no line has (--failed), `added 7` one that was added before line 7
+(--transitional). If the logs are cut into several runs,
 each begins with a line `run part-1.run`."""
 import mmap
 import os
@@ -27,6 +28,9 @@ def _rows_with_times(part):
         for first, last, line in part.log.lines.rows(part.first, part.last):
             for entry in range(first, last + 1):
                 own = line + entry - first
+                if entry in part.log.lines.added:
+                    yield entry, entry, own, b''
+                    continue
                 time = times[(own - 1) * WIDTH:own * WIDTH].rstrip()
                 yield entry, entry, own, b' ' + time if time else b''
 
@@ -40,7 +44,8 @@ def _rows(part):
     before = part.first - 1
     for first, last, line, time in rows:
         numbers = b'%d' % (first - before) if first == last else b'%d-%d' % (first - before, last - before)
-        yield b'%s %d%s\n' % (numbers, line, time)
+        how = b'added ' if first in part.log.lines.added else b''
+        yield b'%s %s%d%s\n' % (numbers, how, line, time)
     if part.is_last and part.log.added:
         yield b'%d added\n' % (part.last - before + 1)
 

@@ -83,7 +83,7 @@ class Rewriting:
             else:
                 nexts = [*self.gone[gone:gone + 1], *(place for place, _ in self.placed[placed:placed + 1]), log.entries + 1]
                 for first, last, own in log.lines.rows(line, min(nexts) - 1):
-                    numbers.add(entry, own)
+                    (numbers.insert if first in log.lines.added else numbers.add)(entry, own)
                     entry, line = entry + last - first + 1, last + 1
         return numbers
 

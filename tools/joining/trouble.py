@@ -34,10 +34,12 @@ def tell_each(lines):
 
 
 def shown(line):
-    """A line for a person, shortened if it is long."""
+    """A line for a person, shortened if it is long. A blank at its end can be seen."""
     text = line.rstrip(b'\n').decode('ascii', 'replace')
     text = ''.join(letter if ' ' <= letter <= '~' else '?' for letter in text)
-    return text if len(text) <= 60 else text[:60] + '..'
+    if len(text) > 60:
+        return text[:60] + '..'
+    return "'%s', with a blank at its end" % text if text.endswith(' ') else text
 
 
 def some(names):

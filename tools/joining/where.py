@@ -9,19 +9,22 @@ from joining.trouble import Refused, shown
 PLACE = re.compile(r'([1-9][0-9]{0,19}(?::[1-9][0-9]{0,4})?)@([1-9][0-9]{0,9})')
 RUN = re.compile(rb'run part-([1-9][0-9]{0,9})\.run')
 LOG = re.compile(rb'log ([1-9][0-9]{0,19}(?::[1-9][0-9]{0,4})?) ([0-9a-f]{8}) (.+)')
-ROW = re.compile(rb'([1-9][0-9]{0,9})(?:-([1-9][0-9]{0,9}))? (?:([1-9][0-9]{0,19})(?: ([0-9][0-9T.:Z+-]*))?|added)')
+ROW = re.compile(rb'([1-9][0-9]{0,9})(?:-([1-9][0-9]{0,9}))? (?:([1-9][0-9]{0,19})(?: ([0-9][0-9T.:Z+-]*))?|added(?: ([1-9][0-9]{0,19}))?)')
 
 
 class Origin(NamedTuple):
-    """The file of an entry, its line there, or None if join added the entry, and the time of the line, which may be empty."""
+    """The file of an entry, its line there, or None if join added the entry, and the time of the line, which may be empty. `before`: the line
+    before which the entry was added, or None if that is after the last one."""
 
     file: str
     line: Optional[int]
     time: str
+    before: Optional[int] = None
 
     def __str__(self):
         if self.line is None:
-            return 'added by join after the last line of %s' % self.file
+            where = 'after the last line' if self.before is None else 'before line %d' % self.before
+            return 'added by join %s of %s' % (where, self.file)
         return '%s, line %d%s' % (self.file, self.line, ', ' + self.time if self.time else '')
 
 
@@ -111,7 +114,7 @@ class Map:
             self.refuse(number, 'the entries of log %s are not in their order' % log.who)
         if row[2] and (row[4] or not row[3]):
             self.refuse(number, 'this line does not belong here: %s' % shown(row[0]))
-        log.entries, log.has_added = last, row[3] is None
+        log.entries, log.has_added = last, not row[3] and not row[5]
         if self._is_chosen():
             wanted = self.wanted.get(log.who, ())
             for entry in wanted if len(wanted) < last - first else range(first, last + 1):
@@ -119,7 +122,7 @@ class Map:
                     if row[4] and instant(row[4]) is None:
                         self.refuse(number, 'this is no time: %s' % shown(row[4]))
                     line = int(row[3]) + entry - first if row[3] else None
-                    self.origins['%s@%d' % (log.who, entry)] = Origin(log.file, line, (row[4] or b'').decode())
+                    self.origins['%s@%d' % (log.who, entry)] = Origin(log.file, line, (row[4] or b'').decode(), int(row[5]) if row[5] else None)
 
     def _check_part(self):
         if self.parts and not self.part:

@@ -12,6 +12,7 @@ from joining.lives import Lives, add_lives
 from joining.numbers import Numbers
 from joining.scan import Scan
 from joining.sends import move_sends
+from joining.transitional import add_transitional
 from joining.trouble import Changes, Refused, WriteFailed, tell
 from running import signals, streams
 
@@ -23,7 +24,7 @@ class Joining:
         self.asked = asked
         self.changes = Changes(asked.changes, working)
         self.numbers = Numbers() if asked.renumber else None
-        keeps = asked.lives or asked.own_sends or asked.renumber or asked.trim or bool(asked.cut)
+        keeps = asked.transitional or asked.lives or asked.own_sends or asked.renumber or asked.trim or bool(asked.cut)
         words = {'is_numbered_anew': asked.renumber, 'adds_lives': asked.lives, 'keeps_changes': keeps}
         found = folder.find(asked)
         scan = Scan(sees=self.numbers.see if self.numbers else None, **words)
@@ -33,6 +34,8 @@ class Joining:
             endings.fail(self.logs, asked.failed, self.changes)
         if asked.quiet:
             endings.be_quiet(self.logs, asked.quiet, self.changes)
+        if asked.transitional:
+            self.logs = add_transitional(self.logs, working, words, self.changes)
         self.lives = Lives(self.logs, found, asked) if asked.lives else None
         if self.lives:
             self.lives.write(self.changes)

@@ -156,6 +156,9 @@ REFUSED = {
     'a name that is not a process': ('', {**ONE, 'node.log': ''}, 'logs: node.log: the name is not a process: '),
     'a process past its range': ('', {'65536.log': ''}, 'logs: 65536.log: process 65536 is past 65535; --renumber '),
     'a line that is not an entry': ('', {**ONE, '2.log': 'conf r4.1 1\nnothing\n'}, 'logs: 2.log, line 2: this is not an entry: '),
+    'a line with a blank at its end': (
+        '', {'1.log': 'conf r4.1 1\ndlv r4.1 4.1#1 \n'},
+        "logs: 1.log, line 2: this is not an entry: 'dlv r4.1 4.1#1 ', with a blank at its end (such as dlv "),
     'a line that begins well': (
         '', {'1.log': 'conf r4.1 1\nsend r4.1 4.1#1\nquiet\n'},
         'logs: 1.log, line 2: this is not an entry: send r4.1 4.1#1 (such as send '),

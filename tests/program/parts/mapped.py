@@ -102,6 +102,14 @@ MAPS = {
                                  '6 dlv t8.1/1 4.1#2\n', '2.log': 'conf r4.1 1 2\n'},
         'totem-map 1\nlog 1 1.log\n1 1\n2 2 1\n3 5 4\n4 3 2\n5 7 5\n6 8 6\nlog 2 2.log\n1 1\nend\n',
         ('1@4 1@5', '1@4: 1.log, line 3, 2\n1@5: 1.log, line 7, 5\n')),
+    'a transitional configuration that is assumed': (
+        '--transitional', {'1.log': '# of libcpg\n1.5 conf r4.1 1\n2 dlv r4.1 4.1#1\n3 conf r8.1 1\ndlv r8.1 8.1#1\n'},
+        'totem-map 1\nlog 1 1.log\n1 2 1.5\n2 3 2\n3 added 4\n4 4 3\n5 5\nend\n',
+        ('1@3 1@4', '1@3: added by join before line 4 of 1.log\n1@4: 1.log, line 4, 3\n')),
+    'parts after one that is assumed': (
+        '--transitional --cut FOLDER/parts --entries 3', {'1.log': 'conf r4.1 1\nconf r8.1 1\nconf r12.1 1\n'},
+        'totem-map 1\nrun part-1.run\nlog 1 1.log\n1 1\n2 added 2\n3 2\nrun part-2.run\nlog 1 1.log\n1 2\n2 added 3\n3 3\nend\n',
+        ('--part 2 1@2 1@3', '1@2: added by join before line 3 of 1.log\n1@3: 1.log, line 3\n')),
     'new numbers': (
         '--renumber', {'70000.log': 'conf r4.70000 70000\n', '9.log': '\nconf r4.70000 70000\n'},
         'totem-map 1\nlog 1 9.log\n1 2\nlog 2 70000.log\n1 1\nend\n', ('2@1 1@1', '2@1: 70000.log, line 1\n1@1: 9.log, line 2\n')),
@@ -128,6 +136,7 @@ BROKEN = {
     'entries in falling order': (GOOD.replace('1-2', '1-0'), '1@1', 'logs: MAP, line 3: this line does not belong here: 1-0 1\n'),
     'an entry after one that was added': (GOOD.replace('4 added', '4 added\n5 5'), '1@1', 'logs: MAP, line 6: the entries of log 1 are not in '),
     'a time of several entries': (GOOD.replace('1-2 1', '1-2 1 1.5'), '1@1', 'logs: MAP, line 3: this line does not belong here: 1-2 1 1.5\n'),
+    'several entries that were added before a line': (GOOD.replace('4 added', '4-5 added 7'), '1@1', 'logs: MAP, line 5: this line does not belong '),
     'several entries that were added': (GOOD.replace('4 added', '4-5 added'), '1@1', 'logs: MAP, line 5: this line does not belong here: '),
     'a time that is none': (GOOD.replace('1.5', '1.5.1'), '1@3', 'logs: MAP, line 4: this is no time: 1.5.1\n'),
     'a log without an entry': (GOOD.replace('\n1 1\n', '\n'), '1@1', 'logs: MAP, line 7: log 2:7 has no entry\n'),

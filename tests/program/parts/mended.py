@@ -7,6 +7,7 @@ from harness import process
 from parts.joined import EXAMPLES, join, join_files, try_folder, try_refused, write_files
 from parts.lives import LIVES, UNKNOWN
 from parts.sends import SENDS, SWAPPED
+from parts.transitional import TRANSITIONAL
 
 LARGE = 4294967300
 # Folders whose processes and rings are renumbered.
@@ -224,7 +225,7 @@ def try_long(_program):
 
 def mended():
     """Added lives, moved sends, new numbers, cut logs."""
-    for folders in (LIVES, SENDS, NUMBERS, TRIMMED):
+    for folders in (LIVES, SENDS, TRANSITIONAL, NUMBERS, TRIMMED):
         for what, (words, files, wanted, told) in folders.items():
             yield what, partial(try_folder, words, files, wanted, told)
     for folders in (UNKNOWN, SWAPPED, NOT_CUT):

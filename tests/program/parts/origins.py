@@ -11,7 +11,7 @@ from harness.joins import Case, Tool
 from parts.decorated import Decorated, undecorated
 
 FOUND = re.compile(r'(\S+): (\S+\.log), line (\d+)(?:, (\S+))?')
-ADDED = re.compile(r'(\S+): added by join after the last line of (\S+\.log)')
+ADDED = re.compile(r'(\S+): added by join (?:after the last line|before line (\d+)) of (\S+\.log)')
 
 
 def places_of(run):
@@ -54,14 +54,21 @@ class Origins:
         added, found = ADDED.fullmatch(line), FOUND.fullmatch(line)
         if not added and not found or (added or found)[1] != place:
             return 'no answer'
-        name = (added or found)[2]
+        name = added[3] if added else found[2]
         file = self.applied.files[name]
         who = self.applied._process(str(file.process)) + (':%d' % (file.life or 1) if self.has_lives else '')
         if who != place.partition('@')[0]:
             return 'another log'
+        if added and added[2]:
+            return self._wrong_insertion(entry, file, int(added[2]))
         if added:
             return None if [entry] == [self.applied._line(file, it, self.has_lives) for it in file.added] else 'nothing was added'
         return self._wrong_line(who, entry, file, int(found[3]), found[4] or '')
+
+    def _wrong_insertion(self, entry, file, number):
+        lines = self.logs[file.name].lines
+        inserted = file.inserted.get(lines[number][0]) if number in lines else None
+        return 'another entry' if not inserted or self.applied._line(file, inserted, self.has_lives) != entry else None
 
     def _wrong_line(self, who, entry, file, number, time):
         if number not in self.logs[file.name].lines:
