@@ -35,7 +35,7 @@ for logs whose way back is wanted, from a place in the report (fault 1.4 2:1@154
 
 and for logs that are too long for one run:
 
-    tools/logs join --cut parts FOLDER && for part in parts/*.run; do ./totem audit < $part | head -n 1; done
+    tools/logs join --cut parts FOLDER && for part in parts/*.run; do ./totem explain < $part > $part.txt || echo "$part: status $?"; done
 
 What is changed, inferred or left out is reported on standard error, a few of each kind by name; --changes FILE lists all. docs/OWN-LOGS.md,
 "What each option may change", says what each option can hide. The status is 0, or 1 if the logs can't be joined (then nothing is written), 4

@@ -4,6 +4,7 @@ import signal
 import subprocess
 from functools import partial
 
+from harness import process
 from harness.small_repository import LOGIC, differs, end, scene
 
 # Arguments that the auditor alone answers, and those that need the whole program.
@@ -154,6 +155,24 @@ def ask_for_help_in_vain(_program):
         return (came.status, came.errors) != (4, b'totem: write failed\n') and 'came: %s' % came
 
 
+def wait_at_terminal(words, told, _program):
+    """On a terminal a line says what the program waits for, if it waits for anything."""
+    with scene() as it:
+        it.run('prove')
+        ours, terminal = os.openpty()
+        try:
+            started = it.start_tool('totem', *words, streams=(terminal, subprocess.PIPE, terminal))
+            os.write(ours, b'\x04')
+            output, _ = started.communicate(timeout=process.allowed(10))
+            errors = os.read(ours, 4096) if told else b''
+        finally:
+            os.close(terminal)
+            os.close(ours)
+    wanted = b'totem: reading %s from the terminal, up to Ctrl-D: ./totem %s < FILE reads a file' % (told.encode(), words[0].encode())
+    is_right = started.returncode == 9 and output.startswith(b'totem ') and (not told or wanted in errors)
+    return None if is_right else 'came: status %s, %r, %r' % (started.returncode, output, errors)
+
+
 def build_twice_at_once(_program):
     """The second call says that it waits, proves nothing, and answers by the program of the first."""
     with scene() as it:
@@ -244,6 +263,9 @@ def launcher():
     for words in (['prove', '--help'], ['prove', '-h'], ['help', 'prove'], ['help', 'try'], ['help'], ['--help'], ['-h']):
         yield 'help: ' + ' '.join(words), partial(ask_for_help, words, len(words) == 1)
     yield 'help that can\'t be written', ask_for_help_in_vain
+    for words, told in ((['audit'], 'a run'), (['explain', '--svg'], 'a run'), (['explain', '--script'], 'a script'), (['sim'], 'a script'),
+                        (['check'], 'a run and its certificate'), (['audit', '--help'], ''), (['run'], '')):
+        yield 'at a terminal: ' + ' '.join(words), partial(wait_at_terminal, words, told)
     yield 'two calls at once', build_twice_at_once
     yield 'a run ahead', partial(build_ahead, {})
     yield 'a run ahead, and nothing is shared', partial(build_ahead, {'alone': '', 'slow': 'totem\n', 'seconds': '1'})
