@@ -5,6 +5,7 @@ from itertools import combinations
 
 from joining import folder, where
 from joining.entries import MOST_ENTRIES
+from running import names
 from running.words import Words
 
 DESCRIPTION = """Makes one run from the logs of several processes:
@@ -128,6 +129,7 @@ def _add_words_of_where(parser):
     parser.add_argument('map', metavar='MAP', help='what --map wrote when the run was made')
     parser.add_argument('places', metavar='PLACE', nargs='+', type=_place, help='a place, as a report names it')
     parser.add_argument('--part', type=int, metavar='N', help='the places are in the run part-N.run of --cut')
+    names.add_word(parser)
     parser.add_argument('--run', metavar='FILE', help='the run: look whether the map fits it, and print the entries too')
 
 

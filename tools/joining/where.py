@@ -188,4 +188,4 @@ def find(asked):
     """The lines that say where the places are that the arguments name."""
     known = Map(asked.map, asked.part, asked.places)
     run = Run(asked.run, known) if asked.run else None
-    return ['%s: %s%s' % (place, known.origins[place], ': ' + run.entries[place] if run else '') for place in asked.places]
+    return ['%s%s: %s%s' % (place, asked.names.beside(place.partition('@')[0].partition(':')[0]), known.origins[place], ': ' + run.entries[place] if run else '') for place in asked.places]

@@ -7,7 +7,7 @@ from playing.commented import Wrong, lines, plain
 from playing.scene import Broken, Scene, entry_line
 from playing.script import do
 from playing.shown import node_text, packet_text
-from running import signals, streams
+from running import names, signals, streams
 from running.words import Words
 
 DESCRIPTION = """Shows what a script does: after each line what came to which node, what each node's state is, and which packets are on their way, with
@@ -43,6 +43,7 @@ def read_words(words):
                    epilog=EXAMPLES)
     parser.add_argument('file', nargs='?', metavar='FILE')
     parser.add_argument('--lines', type=_span, metavar='FROM-TO', help='show only these lines of the file, or this one')
+    names.add_word(parser)
     parser.add_argument('--plain', action='store_true', help='write the script without comments and blank lines, and do nothing else')
     return parser.parse_args(words)
 
@@ -50,8 +51,8 @@ def read_words(words):
 class Watch:
     """Writes what a script does, line by line."""
 
-    def __init__(self, span, version):
-        self.span, self.version = span, version
+    def __init__(self, span, known, version):
+        self.span, self.names, self.version = span, known, version
         # What happened in a line, and the packet that comes, if one does.
         self.steps, self.packet = [], None
         self.scene = Scene(self._see)
@@ -82,7 +83,8 @@ class Watch:
         steps, self.steps = self.steps, []
         if self.span and not self.span[0] <= line.number <= self.span[1]:
             return
-        nodes = ['node %d%s: %s' % (process, ':%d' % actor.node.life if self.version == 2 else '', node_text(actor.node))
+        nodes = ['node %d%s%s: %s' % (process, ':%d' % actor.node.life if self.version == 2 else '', self.names.beside(str(process)),
+                                      node_text(actor.node))
                  for process, actor in self.scene.actors.items()]
         queue = ['packet %d, to %d: %s' % (place, waiting.receiver, packet_text(waiting.packet))
                  for place, waiting in enumerate(self.scene.queue, 1)]
@@ -91,12 +93,12 @@ class Watch:
             raise WriteFailed
 
 
-def _watch(content, span):
+def _watch(content, span, known):
     """Shows one line of a script after the other."""
     watch = None
     for line in lines(content):
         if watch is None:
-            watch = Watch(span, int(line.text[-1]))
+            watch = Watch(span, known, int(line.text[-1]))
         elif line.text != 'end':
             try:
                 watch.do(line)
@@ -113,7 +115,7 @@ def _do(asked):
     else:
         content = sys.stdin.buffer.read()
     if not asked.plain:
-        _watch(content, asked.lines)
+        _watch(content, asked.lines, asked.names)
     elif not streams.write(plain(content)):
         raise WriteFailed
 

@@ -3,7 +3,7 @@ import argparse
 import os
 import sys
 
-from running import signals, streams
+from running import names, signals, streams
 from running.words import Words
 from shrinking.program import Program, Refused
 from shrinking.runs import RunShrinker
@@ -46,6 +46,7 @@ def read_words(words):
                         help='the first fault of each specification has to name the same kinds of events too, and to be broken for the same '
                              'kind of reason')
     parser.add_argument('--keep-names', action='store_true', help='processes, rings and messages keep their numbers')
+    names.add_word(parser)
     add_words_of_program(parser)
     asked = parser.parse_args(words)
     if asked.jobs < 1:
@@ -105,21 +106,27 @@ def _shrink(shrinker, progress):
     return None
 
 
-def _tell_outcome(asked, program, text, small):
+def _numbers(renamed):
+    """The new numbers of processes, each with the old one."""
+    return [tuple(name.split(' ')[1].partition(':')[0] for name in pair) for pair in renamed if pair[0].startswith('process ')]
+
+
+def _tell_outcome(asked, program, text, small, renamed):
     """Reports the outcome: how many lines there were and are, and the verdict in words."""
+    known = asked.names.renamed(_numbers(renamed))
     run = program.play(small) if asked.script else small
     faults = ['fault %s %s' % (specification, ' '.join(places)) for specification, places in program.audit(run).faults]
     what = 'script' if asked.script else 'run'
     streams.say('shrink: a %s of %d lines became one of %d' % (what, text.count(b'\n'), small.count(b'\n')))
-    streams.say('\n'.join(faults) + '\n\n' + program.explain(run), end='')
+    streams.say('\n'.join(faults) + '\n\n' + known.in_words(program.explain(run)), end='')
 
 
-def _tell_names(names):
+def _tell_names(known, renamed):
     """Reports new names, each with the one before."""
-    if names:
+    if renamed:
         streams.say('shrink: new names, and what they were before:')
-        width = max(len(new) for new, _ in names)
-        streams.say('\n'.join('  %s  %s' % (new.ljust(width), old) for new, old in names))
+        width = max(len(new) for new, _ in renamed)
+        streams.say('\n'.join('  %s  %s' % (new.ljust(width), known.in_words(old)) for new, old in renamed))
 
 
 def _do(asked):
@@ -139,9 +146,9 @@ def _do(asked):
     signals.end_as_usual()
     try:
         if not why:
-            _tell_outcome(asked, Program(program.path), text, small)
+            _tell_outcome(asked, Program(program.path), text, small, shrinker.names())
     finally:
-        _tell_names(shrinker.names())
+        _tell_names(asked.names, shrinker.names())
     if why:
         streams.say('shrink: %s; so this is only the smallest that was found until then' % why)
     if not is_written:

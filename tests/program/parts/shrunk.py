@@ -148,9 +148,9 @@ SEEN = b'120 runs: 21879 packets came, 180 rings were installed; 120 yes, 0 no\n
 SCRIPTS = '235cf057428cbc520a059d6d847b71ccaf64d70d97c9acc2d1bc679ce090a1d4'
 
 
-def call(tool, words, given=b'', output=subprocess.PIPE):
-    """The status, the output and the errors of a tool."""
-    came = subprocess.run([os.path.join(TOOLS, tool), *words], input=given, stdout=output, stderr=subprocess.PIPE,
+def call(tool, words, given=b'', output=subprocess.PIPE, folder=None):
+    """The status, the output and the errors of a tool, called in a folder."""
+    came = subprocess.run([os.path.join(TOOLS, tool), *words], input=given, stdout=output, stderr=subprocess.PIPE, cwd=folder,
                           env=process.ENVIRONMENT, timeout=process.allowed(process.SECONDS), check=False)
     return process.Answer(came.returncode, came.stdout, came.stderr)
 
