@@ -22,6 +22,7 @@ builds on those before it, from the last multiple of %d on. So a seed makes the 
 EXAMPLES = """For each set of broken specifications the folder keeps the shortest script, shortened as by `tools/shrink --script`, and the
 file `noes` there has a line for each seed that was a no; an interrupt loses none of that. A shorter script that is there already stays, and
 another file with its name gets a new name. At the end the hunt prints what it saw and found.
+A no is rare: of the seeds 0 to 139999 none breaks 1.4, 2.2 or 4. examples/broken has a script of each kind that is known.
 It knows what the nodes do from an implementation of docs/PROTOCOL.md in tools/playing, and also reports scripts for which the program makes
 another run.
 
