@@ -5,7 +5,6 @@ import tempfile
 from functools import partial
 
 from harness import process
-from harness import rows as row_files
 from parts.scripts import BROKEN
 from parts.shrunk import call
 from parts.texts import EXAMPLES
