@@ -4,10 +4,12 @@
 //! What may be relied on:
 //! - `explain_no` explains each fault that it is given, once and in their order (its contract compares the faults).
 //! - `line_of` returns the entry's line as in the run's text (`entry_text`, totem_evs specs/RunText).
+//! - `Counts::of` counts the entries of each kind as they are (`IsSizeOf`, specs/Sizes).
 //! - Every call returns, whatever run, faults and lists it is given, and fails only as out of memory: `explain_yes`,
 //!   `explain_refusal`, `rule_of`.
 //!
-//! That the wording is right is tested and not proved. Lanes and their layout (`Lane`, `lay_out`) are shared with totem_draw.
+//! That the wording and the other counts are right is tested and not proved. Lanes and their layout (`Lane`, `lay_out`) are shared
+//! with totem_draw.
 #![tactic(auto)]
 
 mod columns;
@@ -18,19 +20,25 @@ mod fate;
 mod lane;
 mod layout;
 mod lookup;
+mod moves;
 mod no;
+mod pass;
 mod quiet_end;
 mod reason;
 mod refusal;
 mod rule;
+mod size;
+mod tested;
+mod traffic;
 mod unsent;
 mod yes;
 
+pub use counts::Counts;
 pub use event::{event_of, line_of, place_name};
 pub use lane::{Lane, Spot, What};
 pub use layout::lay_out;
 pub use lookup::entry_at;
-pub use no::{Explained, ExplainedNo, explain_no};
+pub use no::{Explained, ExplainedNo, explain_no, stopped_by};
 pub use refusal::explain_refusal;
 pub use rule::rule_of;
 pub use yes::explain_yes;

@@ -2,9 +2,10 @@
 ghost use Rattle.std.specs.Prelude.{◌≡◌, IfOk, map};
 
 use crate::columns::columns;
-use crate::counts::summary;
+use crate::counts::Counts;
 use crate::event::{event_of, place_name};
 use crate::lookup::entry_at;
+use crate::pass::Pass;
 use crate::reason::reason;
 use crate::rule::rule_of;
 use std::alloc::{AllocError, Global};
@@ -18,11 +19,12 @@ pub struct Explained {
     pub text: String,
 }
 
-/// The explanation of a no: a heading, and then each fault.
+/// The explanation of a no: a heading, then each fault, and then what the run put to the test.
 #[derive(Debug, Drop)]
 pub struct ExplainedNo {
     pub heading: String,
     pub faults: Vec<Explained>,
+    pub closing: String,
 }
 
 /// How many faults are explained in full.
@@ -78,31 +80,30 @@ fn explain_each(alloc: Global, run: &Run, faults: &[Fault]) -> Result<Vec<Explai
     Ok(list)
 }
 
-/// Returns which specifications an audit that stopped at a fault of this one did not check (docs/SPECIFICATIONS.md, "Passes"), or
-/// nothing if it checked all.
+/// Returns which specifications an audit that stopped at a fault of this one did not check, or nothing if it checked all.
 fn unseen_behind(spec: SpecNo) -> &'static str {
-    match spec {
-        SpecNo::Twice | SpecNo::End | SpecNo::Misplaced | SpecNo::Configuration | SpecNo::Turns => {
+    match Pass::of(spec) {
+        Pass::A => {
             "Only specifications 1.4 and 2.1 to 2.4 were checked: the others are checked only in runs that meet these.\n"
         }
-        SpecNo::Unsent => {
+        Pass::B => {
             "Only specifications 1.3, 1.4 and 2.1 to 2.4 were checked: the others are checked only in runs that meet these.\n"
         }
-        SpecNo::Cycle | SpecNo::Order => {
+        Pass::C => {
             "Specifications 3, 4, 5, 6.3, 7.1 and 7.2 were not checked: they are checked once the others hold.\n"
         }
-        SpecNo::OwnDelivery
-        | SpecNo::Atomicity
-        | SpecNo::Causality
-        | SpecNo::Gap
-        | SpecNo::Safety
-        | SpecNo::Installed => "",
+        Pass::D => "",
     }
 }
 
 /// Returns the heading for these faults.
-fn heading(alloc: Global, run: &Run, faults: &[Fault]) -> Result<String, AllocError> {
-    let summary = summary(alloc, run)?;
+fn heading(
+    alloc: Global,
+    run: &Run,
+    faults: &[Fault],
+    counts: &Counts,
+) -> Result<String, AllocError> {
+    let summary = counts.size.summary(alloc, run)?;
     let unseen = match faults.first() {
         Some(fault) => unseen_behind(fault.spec),
         None => "",
@@ -119,12 +120,33 @@ fn heading(alloc: Global, run: &Run, faults: &[Fault]) -> Result<String, AllocEr
     )
 }
 
-/// Explains the no of a run: how much was judged, and each of these faults in order. Only the first 100 are explained in full.
-pub fn explain_no(alloc: Global, run: &Run, faults: &[Fault]) -> Result<ExplainedNo, AllocError>
+/// Returns what a run with these faults put to the test, after an empty line.
+fn closing(alloc: Global, faults: &[Fault], counts: &Counts) -> Result<String, AllocError> {
+    let told = counts.told(alloc, stopped_by(faults))?;
+    format!(in alloc; "\n{told}")
+}
+
+/// Returns the specification at which an audit with these faults stopped.
+pub fn stopped_by(faults: &[Fault]) -> Option<SpecNo> {
+    match faults.first() {
+        Some(fault) => Some(fault.spec),
+        None => None,
+    }
+}
+
+/// Explains the no of a run: how much was judged, each of these faults in order, and what the run put to the test, which are its counts.
+/// Only the first 100 faults are explained in full.
+pub fn explain_no(
+    alloc: Global,
+    run: &Run,
+    faults: &[Fault],
+    counts: &Counts,
+) -> Result<ExplainedNo, AllocError>
     ensures { IfOk result (λ words. map (λ one. one.fault) words.faults.items ≡ faults.now) }
 {
     Ok(ExplainedNo {
-        heading: heading(alloc, run, faults)?,
+        heading: heading(alloc, run, faults, counts)?,
         faults: explain_each(alloc, run, faults)?,
+        closing: closing(alloc, faults, counts)?,
     })
 }

@@ -1,5 +1,5 @@
 //! The explanation of a yes. What a yes of the checker depends on is in totem_check, `checker`.
-use crate::counts::summary;
+use crate::counts::Counts;
 use crate::fate::fate_of;
 use std::alloc::{AllocError, Global};
 use totem_evs::{Pending, Run, Waiting};
@@ -88,16 +88,17 @@ fn push_headed(text: &mut String, heading: &str, lines: &str) -> Result<(), Allo
     write!(text, "{heading}\n{lines}")
 }
 
-/// Explains the yes of a run: how much was judged, what is pending and which processes wait for which. Both lists are expected to be
-/// ascending, as the audit returns them.
+/// Explains the yes of a run: how much was judged, what is pending, which processes wait for which, and what the run put to the test,
+/// which are its counts. Both lists are expected to be ascending, as the audit returns them.
 pub fn explain_yes(
     alloc: Global,
     run: &Run,
     pending: &[Pending],
     waiting: &[Waiting],
+    counts: &Counts,
 ) -> Result<String, AllocError> {
     let mut text = String::from_str(alloc, "Yes: the run meets specifications 1 to 7.\n")?;
-    text.push_str(summary(alloc, run)?.as_str())?;
+    text.push_str(counts.size.summary(alloc, run)?.as_str())?;
     if pending.is_empty() && waiting.is_empty() {
         text.push_str("Nothing is pending, and no process waits.\n")?;
     }
@@ -111,5 +112,6 @@ pub fn explain_yes(
         "Waiting, which is not a fault:",
         waiting_lines(alloc, run, waiting)?.as_str(),
     )?;
+    text.push_str(counts.told(alloc, None)?.as_str())?;
     Ok(text)
 }

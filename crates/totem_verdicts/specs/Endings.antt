@@ -22,7 +22,7 @@ use Rattle.totem_verdicts.specs.declared.verdict_fault.VerdictFault.TheVariants 
 use Rattle.totem_verdicts.specs.AuditIo.{Audits}
 use Rattle.totem_verdicts.specs.CheckIo.{ChecksText}
 use Rattle.totem_verdicts.specs.ExplainIo.{ExplainsRun}
-use Rattle.totem_verdicts.specs.DrawIo.{DrawsRun}
+use Rattle.totem_verdicts.specs.RenderIo.{RendersRun}
 
 -- a sink's contents and failures, with no pieces gathered for it
 abbrev pub bare : {S : Type 0} → (S → Option (List ℕ)) → (S → ℕ) → S → Held
@@ -131,10 +131,10 @@ pub data Judges (old new : Seen) (was is quiet said : Held) : ℕ → Type 0 whe
   told : (outcome : Outcome) → ExplainsRun old new was is (Ok outcome) → said ≡ quiet → Judges old new was is quiet said (outcome_status outcome)
   -- it was not, and the fault is reported with an explanation
   untold : (fault : VerdictFault) (status : ℕ) → ExplainsRun old new was is (Err fault) → Points fault quiet said status → Judges old new was is quiet said status
-  -- a run was judged and drawn
-  drawn : (outcome : Outcome) → DrawsRun old new was is (Ok outcome) → said ≡ quiet → Judges old new was is quiet said (outcome_status outcome)
+  -- a run was judged and rendered
+  rendered : (outcome : Outcome) → RendersRun old new was is (Ok outcome) → said ≡ quiet → Judges old new was is quiet said (outcome_status outcome)
   -- it was not, and the fault is reported with an explanation
-  undrawn : (fault : VerdictFault) (status : ℕ) → DrawsRun old new was is (Err fault) → Points fault quiet said status → Judges old new was is quiet said status
+  unrendered : (fault : VerdictFault) (status : ℕ) → RendersRun old new was is (Err fault) → Points fault quiet said status → Judges old new was is quiet said status
   -- a run was checked with its certificate
   checked : (outcome : Outcome) → ChecksText old new was is (Ok outcome) → said ≡ quiet → Judges old new was is quiet said (outcome_status outcome)
   -- it was not, and the fault is reported

@@ -23,9 +23,9 @@ use Rattle.totem_verdicts.specs.declared.verdict_fault.VerdictFault.{VerdictFaul
 abbrev pub explained_text : Version → Explained → List ℕ
 explained_text version one = line [] ++ line (fault_text (process_text version) one.fault) ++ string_bytes one.text
 
--- the explanation of a no: the heading, and then fault by fault
+-- the explanation of a no: the heading, then fault by fault, and then the counts
 abbrev pub explained_no_text : Version → ExplainedNo → List ℕ
-explained_no_text version words = string_bytes words.heading ++ flat_map (explained_text version) words.faults.items
+explained_no_text version words = string_bytes words.heading ++ flat_map (explained_text version) words.faults.items ++ string_bytes words.closing
 
 -- the text explains this answer: for a no, each fault once and in order
 abbrev pub TellsOf : Version → Answer → List ℕ → Type 0

@@ -16,7 +16,7 @@ use std::sync::Wait;
 use std::thread::Threads;
 use totem_audit::{Verdict, Workers};
 use totem_evs::{Run, WriteFault};
-use totem_explain::{Explained, ExplainedNo, explain_no, explain_yes};
+use totem_explain::{Counts, Explained, ExplainedNo, explain_no, explain_yes};
 use totem_names::{Failed, Pieces, Sink, Source, Version};
 
 #[tactic(auto, using(totem_names::proofs::Writers::wrote_then, totem_names::proofs::Writers::wrote_failed))]
@@ -61,7 +61,8 @@ fn put_no<S: Sink>(
         (held S.contents S.failures pieces.new sink.new) result (explained_no_text version words.now) }
 {
     pieces.put(sink, words.heading.as_bytes())?;
-    put_each_explained(pieces, sink, version, &words.faults)
+    put_each_explained(pieces, sink, version, &words.faults)?;
+    pieces.put(sink, words.closing.as_bytes())
 }
 
 /// Writes the explanation of a no.
@@ -83,11 +84,12 @@ fn write_no<S: Sink>(
     Ok(())
 }
 
-/// Writes the explanation of a verdict on the run.
+/// Writes the explanation of a verdict on the run, which has these counts.
 fn write_told<S: Sink>(
     alloc: Global,
     run: &Run,
     verdict: &Verdict,
+    counts: &Counts,
     sink: &mut S,
 ) -> Result<(), WriteFault>
     ensures { WritesTold run.now.version (held S.contents S.failures [] sink.old)
@@ -99,13 +101,13 @@ fn write_told<S: Sink>(
             waiting,
             ..
         } => {
-            let Ok(text) = explain_yes(alloc, run, pending, waiting) else {
+            let Ok(text) = explain_yes(alloc, run, pending, waiting, counts) else {
                 return Err(WriteFault::Memory);
             };
             write_text(alloc, text.as_bytes(), sink)
         }
         Verdict::No { faults } => {
-            let Ok(words) = explain_no(alloc, run, faults) else {
+            let Ok(words) = explain_no(alloc, run, faults, counts) else {
                 return Err(WriteFault::Memory);
             };
             write_no(alloc, run.version, &words, sink)
@@ -130,6 +132,9 @@ pub fn explain_io<T: Threads + Wait + Sync, R: Source, W: Sink>(
     let Ok(verdict) = judge(rt, alloc, &run, workers) else {
         return Err(VerdictFault::Memory);
     };
-    write_told(alloc, &run, &verdict, output)?;
+    let Ok(counts) = Counts::of(alloc, &run) else {
+        return Err(VerdictFault::Memory);
+    };
+    write_told(alloc, &run, &verdict, &counts, output)?;
     Ok(outcome(&verdict))
 }

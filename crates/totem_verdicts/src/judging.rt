@@ -6,8 +6,8 @@ ghost use Rattle.totem_verdicts.specs.Endings.{Judges, Points, bare};
 
 use crate::audit_stream::audit_io;
 use crate::check_stream::check_io;
-use crate::draw_stream::draw_io;
 use crate::explain_stream::explain_io;
+use crate::render_stream::render_io;
 use crate::telling::{tell_fault, tell_with_words};
 use crate::verdict_fault::VerdictFault;
 use crate::words::Asked;
@@ -69,10 +69,12 @@ pub fn judge_io<T: Threads + Wait + Sync, R: Source, W: Sink, E: Sink>(
                 Err(fault) => point(alloc, &fault, input, errors),
             }
         }
-        Asked::Draw { workers } => match draw_io(rt, alloc, input, output, as_many(workers)) {
-            Ok(outcome) => outcome.status(),
-            Err(fault) => point(alloc, &fault, input, errors),
-        },
+        Asked::Render { workers, rendering } => {
+            match render_io(rt, alloc, input, output, as_many(workers), rendering) {
+                Ok(outcome) => outcome.status(),
+                Err(fault) => point(alloc, &fault, input, errors),
+            }
+        }
         Asked::Audit { workers } => match audit_io(rt, alloc, input, output, as_many(workers)) {
             Ok(outcome) => outcome.status(),
             Err(fault) => tell_fault(errors, &fault),

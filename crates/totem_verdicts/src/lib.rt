@@ -5,8 +5,8 @@
 //! - `audit_io`: with an outcome, the whole input is the text of one run, and what was written is the report of that run's answer
 //!   and nothing else (`Audits`, specs/AuditIo). With a yes the run meets specifications 1 to 7.
 //! - `check_io`: the same for a run and its certificate, with the checker's report (`ChecksText`, specs/CheckIo).
-//! - `explain_io` and `draw_io`: the outcome is that of the run's answer; of what is written the contracts say less (`ExplainsRun`,
-//!   `DrawsRun`).
+//! - `explain_io` and `render_io`: the outcome is that of the run's answer; of what is written the contracts say less (`ExplainsRun`,
+//!   `RendersRun`).
 //! - At each fault except a failed write nothing was written, and the fault is that of the reader, the checker or a stream.
 //! - `judge_io`, `answer` and `auditor`: each status comes only with these streams (`Judges`, `Answers`, `Ends`, specs/Endings).
 //!
@@ -18,11 +18,11 @@ mod answering;
 mod audit_stream;
 mod check_stream;
 mod command_line;
-mod draw_stream;
 mod explain_stream;
 mod judging;
 mod left_open;
 mod outcome;
+mod render_stream;
 mod report;
 mod run_words;
 mod telling;
@@ -34,10 +34,10 @@ pub use answering::answer;
 pub use audit_stream::audit_io;
 pub use check_stream::check_io;
 pub use command_line::{listed, no_words};
-pub use draw_stream::draw_io;
 pub use explain_stream::explain_io;
 pub use judging::judge_io;
 pub use outcome::Outcome;
+pub use render_stream::{Rendering, render_io};
 pub use run_words::RunWords;
 pub use telling::{
     put_cert_fault, put_check_fault, put_refusal, put_run_fault, put_text, tell, tell_fault,

@@ -1,4 +1,5 @@
 //! The arguments of a command line.
+use crate::render_stream::Rendering;
 use crate::run_words::{RunWords, run_command, run_words};
 use clap::builder::ValueParser;
 use clap::{Arg, ArgAction, ArgMatches, Command, Error};
@@ -11,8 +12,8 @@ pub enum Asked {
     Audit { workers: u32 },
     /// The same audit with an explanation, by 1 to 64 workers.
     Explain { workers: u32 },
-    /// The same audit, drawn as a picture, by 1 to 64 workers.
-    Draw { workers: u32 },
+    /// The same audit, by 1 to 64 workers, with a picture or counts of the run.
+    Render { workers: u32, rendering: Rendering },
     /// The check of the run and the certificate after it.
     Check,
 }
@@ -81,6 +82,15 @@ fn svg_option<'a>(alloc: Global) -> Arg<'a> {
         )
 }
 
+fn counts_option<'a>(alloc: Global) -> Arg<'a> {
+    Arg::new(alloc, "counts")
+        .long("counts")
+        .action(ArgAction::SetTrue)
+        .help(
+            "Instead of the explanation, write what the run put to the test, in lines for programs. docs/SPECIFICATIONS.md, Counts, describes them",
+        )
+}
+
 fn script_option<'a>(alloc: Global) -> Arg<'a> {
     Arg::new(alloc, "script")
         .long("script")
@@ -93,12 +103,17 @@ fn script_option<'a>(alloc: Global) -> Arg<'a> {
 fn explain_command<'a>(alloc: Global) -> Result<Command<'a>, AllocError> {
     Command::new(alloc, "explain")
         .about(
-            "Judges the run on standard input, and explains in words what is broken; if its text is refused, shows where",
+            "Judges the run on standard input, and explains in words what is broken, and what the run put to the test; if its text is refused, shows where",
         )
         .after_help(EXPLAIN_EXAMPLE)
         .arg(workers_option(alloc))?
         .arg(svg_option(alloc))?
-        .arg(script_option(alloc).conflicts_with("svg")?)
+        .arg(counts_option(alloc).conflicts_with("svg")?)?
+        .arg(
+            script_option(alloc)
+                .conflicts_with("svg")?
+                .conflicts_with("counts")?,
+        )
 }
 
 /// Returns what the arguments of `explain` ask for.
@@ -108,7 +123,12 @@ fn explain_words(matches: &ArgMatches<'_>) -> Words {
         return Words::ExplainScript;
     }
     if matches.get_flag("svg") {
-        return Words::Verdict(Asked::Draw { workers });
+        let rendering = Rendering::Picture;
+        return Words::Verdict(Asked::Render { workers, rendering });
+    }
+    if matches.get_flag("counts") {
+        let rendering = Rendering::Counts;
+        return Words::Verdict(Asked::Render { workers, rendering });
     }
     Words::Verdict(Asked::Explain { workers })
 }

@@ -1,5 +1,5 @@
 use Rattle.std.proofs.Common.{refl}
-use Rattle.totem_verdicts.specs.Endings.{judged, failed, told, untold, checked, unchecked, drawn, undrawn}
+use Rattle.totem_verdicts.specs.Endings.{judged, failed, told, untold, checked, unchecked, rendered, unrendered}
 use Rattle.totem_verdicts.proofs.judging.judge_io.Goals as goal
 
 pub returns-in-Ok : goal.returns-in-Ok
@@ -14,11 +14,11 @@ returns-in-Ok-explain_io g c = rw c.status-in-Ok-explain_io.ensures (told _ c.in
 pub returns-in-Err-explain_io : goal.returns-in-Err-explain_io
 returns-in-Err-explain_io g c = untold _ _ c.in-Err-explain_io.ensures c.point.ensures
 
-pub returns-in-Ok-draw_io : goal.returns-in-Ok-draw_io
-returns-in-Ok-draw_io g c = rw c.status-in-Ok-draw_io.ensures (drawn _ c.in-Ok-draw_io.ensures refl)
+pub returns-in-Ok-render_io : goal.returns-in-Ok-render_io
+returns-in-Ok-render_io g c = rw c.status-in-Ok-render_io.ensures (rendered _ c.in-Ok-render_io.ensures refl)
 
-pub returns-in-Err-draw_io : goal.returns-in-Err-draw_io
-returns-in-Err-draw_io g c = undrawn _ _ c.in-Err-draw_io.ensures c.point-in-Err-draw_io.ensures
+pub returns-in-Err-render_io : goal.returns-in-Err-render_io
+returns-in-Err-render_io g c = unrendered _ _ c.in-Err-render_io.ensures c.point-in-Err-render_io.ensures
 
 pub returns-in-Ok-audit_io : goal.returns-in-Ok-audit_io
 returns-in-Ok-audit_io g c = rw c.status-in-Ok-audit_io.ensures (judged _ c.in-Ok-audit_io.ensures refl)

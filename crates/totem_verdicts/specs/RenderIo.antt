@@ -1,4 +1,4 @@
--- What drawing the run of a stream returns, reads and writes (docs/PROGRAM.md, "Pictures").
+-- What making a picture or counts of the run of a stream returns, reads and writes (docs/PROGRAM.md, "Pictures").
 use Rattle.std.specs.Prelude.{List, [], ℕ, Result, Ok, Err}
 use Rattle.totem_names.specs.Sources.{Seen}
 use Rattle.totem_names.specs.Writing.{Held, Wrote}
@@ -12,21 +12,21 @@ use Rattle.totem_verdicts.specs.declared.outcome.Outcome.{Outcome}
 use Rattle.totem_verdicts.specs.declared.verdict_fault.VerdictFault.{VerdictFault}
 
 -- a text was written, and the contract does not say which; or nothing was; or the sink failed in this call
-abbrev pub WritesDrawn : {A : Type 0} → Held → Held → Result A WriteFault → Type 0
-WritesDrawn was is (Ok a) = (text : List ℕ) × Wrote was is text
-WritesDrawn was is (Err e) = WritesText {A = Unit {0}} was is (Err e) []
+abbrev pub WritesRendered : {A : Type 0} → Held → Held → Result A WriteFault → Type 0
+WritesRendered was is (Ok a) = (text : List ℕ) × Wrote was is text
+WritesRendered was is (Err e) = WritesText {A = Unit {0}} was is (Err e) []
 
 -- a whole run was read, and some text and nothing else was written; the outcome is that of the run's answer
-pub record IsDrawn (old new : Seen) (was is : Held) (outcome : Outcome) : Type 0 where
+pub record IsRendered (old new : Seen) (was is : Held) (outcome : Outcome) : Type 0 where
   pub run : RunRecord
   pub whole : IsWhole old new run
   pub answer : Answer
   pub written : IsAnswered run.logs answer
   pub sound : IsSound run.logs answer
-  pub drawn : WritesDrawn {A = Unit {0}} was is (Ok tt)
+  pub text : WritesRendered {A = Unit {0}} was is (Ok tt)
   pub says : Says answer outcome
 
--- a picture of the run was written; on failure the same holds as for an audit
-abbrev pub DrawsRun : Seen → Seen → Held → Held → Result Outcome VerdictFault → Type 0
-DrawsRun old new was is (Ok outcome) = IsDrawn old new was is outcome
-DrawsRun old new was is (Err fault) = Audits old new was is (Err fault)
+-- a picture or the counts of the run were written; on failure the same holds as for an audit
+abbrev pub RendersRun : Seen → Seen → Held → Held → Result Outcome VerdictFault → Type 0
+RendersRun old new was is (Ok outcome) = IsRendered old new was is outcome
+RendersRun old new was is (Err fault) = Audits old new was is (Err fault)

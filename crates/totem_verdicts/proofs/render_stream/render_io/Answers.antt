@@ -1,0 +1,21 @@
+use Rattle.std.proofs.Common.{rules}
+use Rattle.std.proofs.lemmas.Result.{err_from_is_err_and}
+use Rattle.totem_audit.specs.Verdicts.{answer_of}
+use Rattle.totem_verdicts.proofs.Reported.{audit_failed}
+use Rattle.totem_verdicts.proofs.render_stream.render_io.Goals as goal
+
+pub returns-in_err-write_rendered : goal.returns-in_err-write_rendered
+returns-in_err-write_rendered g c =
+    let p = err_from_is_err_and c.from_residual-in_err-write_rendered.result c.from_residual-in_err-write_rendered.ensures.1 in
+    rw (p.1, p.2) (audit_failed _ _ _ _ c.in_ok-run.run' _ _ (search rules) c.in_err-write_rendered.ensures)
+
+pub returns : goal.returns
+returns g c = record {
+  run = c.in_ok-run.run';
+  whole = search rules;
+  answer = answer_of c.in-Ok.verdict;
+  written = c.in-Ok.ensures.answer;
+  sound = c.in-Ok.ensures.sound;
+  text = c.in_ok-write_rendered.ensures;
+  says = c.outcome.ensures;
+}

@@ -1,0 +1,93 @@
+//! From the text of a run to a picture of its verdict, or to its counts.
+ghost use Rattle.std.specs.Prelude.{◌≡◌, []};
+ghost use Rattle.totem_names.specs.Sources.{seen};
+ghost use Rattle.totem_names.specs.Writing.{held};
+ghost use Rattle.totem_verdicts.specs.RenderIo.{RendersRun, WritesRendered};
+
+use crate::audit_stream::{judge, outcome, read_whole};
+use crate::outcome::Outcome;
+use crate::report::write_text;
+use crate::verdict_fault::VerdictFault;
+use std::alloc::{AllocError, Global};
+use std::sync::Wait;
+use std::thread::Threads;
+use totem_audit::{Verdict, Workers};
+use totem_draw::{draw_no, draw_yes};
+use totem_evs::{Run, WriteFault};
+use totem_explain::{Counts, stopped_by};
+use totem_names::{Sink, Source};
+
+/// What is made of a run.
+#[derive(Clone, Copy)]
+pub enum Rendering {
+    /// A picture of its verdict, in SVG (docs/PROGRAM.md, "Pictures").
+    Picture,
+    /// What it put to the test, a line for each count (docs/SPECIFICATIONS.md, "Counts").
+    Counts,
+}
+
+/// Returns the picture of a verdict on the run.
+fn drawn(alloc: Global, run: &Run, verdict: &Verdict) -> Result<String, AllocError> {
+    match verdict {
+        Verdict::Yes { pending, .. } => draw_yes(alloc, run, pending),
+        Verdict::No { faults } => draw_no(alloc, run, faults),
+    }
+}
+
+/// Returns the counts of a run with this verdict.
+fn counted(alloc: Global, run: &Run, verdict: &Verdict) -> Result<String, AllocError> {
+    let stopped = match verdict {
+        Verdict::Yes { .. } => None,
+        Verdict::No { faults } => stopped_by(faults),
+    };
+    Counts::of(alloc, run)?.lines(alloc, stopped)
+}
+
+fn rendered(
+    alloc: Global,
+    run: &Run,
+    verdict: &Verdict,
+    rendering: Rendering,
+) -> Result<String, AllocError> {
+    match rendering {
+        Rendering::Picture => drawn(alloc, run, verdict),
+        Rendering::Counts => counted(alloc, run, verdict),
+    }
+}
+
+/// Writes what is made of the run.
+fn write_rendered<S: Sink>(
+    alloc: Global,
+    run: &Run,
+    verdict: &Verdict,
+    rendering: Rendering,
+    sink: &mut S,
+) -> Result<(), WriteFault>
+    ensures { WritesRendered (held S.contents S.failures [] sink.old) (held S.contents S.failures [] sink.new) result }
+{
+    let Ok(text) = rendered(alloc, run, verdict, rendering) else {
+        return Err(WriteFault::Memory);
+    };
+    write_text(alloc, text.as_bytes(), sink)
+}
+
+/// Reads the text of a run to the end of the input, judges the run, and writes what is made of it. The outcome is that of `audit_io`,
+/// and the text is the same for every number of workers.
+pub fn render_io<T: Threads + Wait + Sync, R: Source, W: Sink>(
+    rt: &T,
+    alloc: Global,
+    input: &mut R,
+    output: &mut W,
+    workers: Workers,
+    rendering: Rendering,
+) -> Result<Outcome, VerdictFault>
+    ensures { RendersRun (seen R.remaining R.failures input.old) (seen R.remaining R.failures input.new)
+        (held W.contents W.failures [] output.old) (held W.contents W.failures [] output.new) result }
+{
+    let run = read_whole(alloc, input)?;
+    let Ok(verdict) = judge(rt, alloc, &run, workers) else {
+        return Err(VerdictFault::Memory);
+    };
+    write_rendered(alloc, &run, &verdict, rendering, output)?;
+    Ok(outcome(&verdict))
+}
