@@ -352,3 +352,12 @@ fn push_lines(
     }
     Ok(())
 }
+
+/// Returns the count with a name, or 0 if no count has it.
+pub fn value_of(counts: &Counts, name: &str) -> u32 {
+    let shape = shape(counts);
+    let basic = basic(counts);
+    let agreement = agreement(counts);
+    let mut all = shape.iter().chain(&basic).chain(&agreement);
+    all.find(|one| one.name == name).map_or(0, |one| one.value)
+}

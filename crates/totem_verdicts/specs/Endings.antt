@@ -121,6 +121,11 @@ pub data Points (fault : VerdictFault) (quiet said : Held) : ℕ → Type 0 wher
   pointed : (words : List ℕ) → Tells quiet said (fault_line fault ++ words) → Points fault quiet said (fault_status fault)
   wordless : Tells quiet said memory_line → Points fault quiet said 3
 
+-- how a run with this outcome is concluded: by its status; or, if it is a yes, with a line about what it did not put to the test, and status 5
+pub data Concludes (outcome : Outcome) (quiet said : Held) : ℕ → Type 0 where
+  concluded : said ≡ quiet → Concludes outcome quiet said (outcome_status outcome)
+  untested : (text : List ℕ) → outcome ≡ outcomes.Yes → Tells quiet said text → Concludes outcome quiet said 5
+
 -- the arguments ask for a verdict: what was read, what was written to the output and the errors, and the status
 pub data Judges (old new : Seen) (was is quiet said : Held) : ℕ → Type 0 where
   -- a run was judged
@@ -128,11 +133,11 @@ pub data Judges (old new : Seen) (was is quiet said : Held) : ℕ → Type 0 whe
   -- it was not, and the fault is reported
   failed : (fault : VerdictFault) → Audits old new was is (Err fault) → Tells quiet said (fault_line fault) → Judges old new was is quiet said (fault_status fault)
   -- a run was judged and explained
-  told : (outcome : Outcome) → ExplainsRun old new was is (Ok outcome) → said ≡ quiet → Judges old new was is quiet said (outcome_status outcome)
+  told : (outcome : Outcome) (status : ℕ) → ExplainsRun old new was is (Ok outcome) → Concludes outcome quiet said status → Judges old new was is quiet said status
   -- it was not, and the fault is reported with an explanation
   untold : (fault : VerdictFault) (status : ℕ) → ExplainsRun old new was is (Err fault) → Points fault quiet said status → Judges old new was is quiet said status
   -- a run was judged and rendered
-  rendered : (outcome : Outcome) → RendersRun old new was is (Ok outcome) → said ≡ quiet → Judges old new was is quiet said (outcome_status outcome)
+  rendered : (outcome : Outcome) (status : ℕ) → RendersRun old new was is (Ok outcome) → Concludes outcome quiet said status → Judges old new was is quiet said status
   -- it was not, and the fault is reported with an explanation
   unrendered : (fault : VerdictFault) (status : ℕ) → RendersRun old new was is (Err fault) → Points fault quiet said status → Judges old new was is quiet said status
   -- a run was checked with its certificate

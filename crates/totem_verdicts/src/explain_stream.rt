@@ -11,12 +11,12 @@ use crate::audit_stream::{judge, outcome, read_whole};
 use crate::outcome::Outcome;
 use crate::report::{put_fault, write_text};
 use crate::verdict_fault::VerdictFault;
-use std::alloc::Global;
+use std::alloc::{AllocError, Global};
 use std::sync::Wait;
 use std::thread::Threads;
 use totem_audit::{Verdict, Workers};
 use totem_evs::{Run, WriteFault};
-use totem_explain::{Counts, Explained, ExplainedNo, explain_no, explain_yes};
+use totem_explain::{Counts, Explained, ExplainedNo, Lacking, explain_no, explain_yes};
 use totem_names::{Failed, Pieces, Sink, Source, Version};
 
 #[tactic(auto, using(totem_names::proofs::Writers::wrote_then, totem_names::proofs::Writers::wrote_failed))]
@@ -115,15 +115,27 @@ fn write_told<S: Sink>(
     }
 }
 
+/// Counts what a run put to the test, and which required counts it lacks.
+pub(crate) fn counted(
+    alloc: Global,
+    run: &Run,
+    lacking: &mut Lacking,
+) -> Result<Counts, AllocError> {
+    let counts = Counts::of(alloc, run)?;
+    lacking.learn(alloc, &counts)?;
+    Ok(counts)
+}
+
 /// Reads the text of a run to the end of the input, judges the run, and writes the explanation of the verdict
 /// (docs/PROGRAM.md, "Explanations"). The outcome is that of `audit_io`, and the text is the same for every number
-/// of workers.
+/// of workers. `lacking` learns the counts.
 pub fn explain_io<T: Threads + Wait + Sync, R: Source, W: Sink>(
     rt: &T,
     alloc: Global,
     input: &mut R,
     output: &mut W,
     workers: Workers,
+    lacking: &mut Lacking,
 ) -> Result<Outcome, VerdictFault>
     ensures { ExplainsRun (seen R.remaining R.failures input.old) (seen R.remaining R.failures input.new)
         (held W.contents W.failures [] output.old) (held W.contents W.failures [] output.new) result }
@@ -132,7 +144,7 @@ pub fn explain_io<T: Threads + Wait + Sync, R: Source, W: Sink>(
     let Ok(verdict) = judge(rt, alloc, &run, workers) else {
         return Err(VerdictFault::Memory);
     };
-    let Ok(counts) = Counts::of(alloc, &run) else {
+    let Ok(counts) = counted(alloc, &run, lacking) else {
         return Err(VerdictFault::Memory);
     };
     write_told(alloc, &run, &verdict, &counts, output)?;

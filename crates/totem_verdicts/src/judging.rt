@@ -2,20 +2,21 @@
 ghost use Rattle.std.specs.Prelude.{◌≡◌, []};
 ghost use Rattle.totem_names.specs.Sources.{seen};
 ghost use Rattle.totem_names.specs.Writing.{held};
-ghost use Rattle.totem_verdicts.specs.Endings.{Judges, Points, bare};
+ghost use Rattle.totem_verdicts.specs.Endings.{Concludes, Judges, Points, bare};
 
 use crate::audit_stream::audit_io;
 use crate::check_stream::check_io;
 use crate::explain_stream::explain_io;
+use crate::outcome::Outcome;
 use crate::render_stream::render_io;
-use crate::telling::{tell_fault, tell_with_words};
+use crate::telling::{tell, tell_fault, tell_with_words};
 use crate::verdict_fault::VerdictFault;
 use crate::words::Asked;
 use std::alloc::{AllocError, Global};
 use std::sync::Wait;
 use std::thread::Threads;
 use totem_audit::Workers;
-use totem_explain::explain_refusal;
+use totem_explain::{Lacking, explain_refusal};
 use totem_names::{Sink, Source};
 
 /// Returns this number of workers, or one worker if the number is out of range.
@@ -45,6 +46,19 @@ fn point<R: Source, E: Sink>(alloc: Global, fault: &VerdictFault, input: &R, err
     }
 }
 
+/// Returns the status of an outcome. After a yes, reports which required counts the run lacks.
+fn end<E: Sink>(outcome: Outcome, lacking: &str, errors: &mut E) -> u8
+    ensures { Concludes outcome (bare E.contents E.failures errors.old) (bare E.contents E.failures errors.new) result }
+{
+    match outcome {
+        Outcome::Yes if !lacking.is_empty() => {
+            tell(errors, lacking.as_bytes());
+            5
+        }
+        _ => outcome.status(),
+    }
+}
+
 /// Gives the verdict that the arguments ask for, and returns the status.
 pub fn judge_io<T: Threads + Wait + Sync, R: Source, W: Sink, E: Sink>(
     rt: &T,
@@ -63,15 +77,22 @@ pub fn judge_io<T: Threads + Wait + Sync, R: Source, W: Sink, E: Sink>(
             Ok(outcome) => outcome.status(),
             Err(fault) => tell_fault(errors, &fault),
         },
-        Asked::Explain { workers } => {
-            match explain_io(rt, alloc, input, output, as_many(workers)) {
-                Ok(outcome) => outcome.status(),
+        Asked::Explain { workers, required } => {
+            let mut lacking = Lacking::of(alloc, required);
+            match explain_io(rt, alloc, input, output, as_many(workers), &mut lacking) {
+                Ok(outcome) => end(outcome, lacking.line(), errors),
                 Err(fault) => point(alloc, &fault, input, errors),
             }
         }
-        Asked::Render { workers, rendering } => {
-            match render_io(rt, alloc, input, output, as_many(workers), rendering) {
-                Ok(outcome) => outcome.status(),
+        Asked::Render {
+            workers,
+            rendering,
+            required,
+        } => {
+            let mut lacking = Lacking::of(alloc, required);
+            let workers = as_many(workers);
+            match render_io(rt, alloc, input, output, workers, rendering, &mut lacking) {
+                Ok(outcome) => end(outcome, lacking.line(), errors),
                 Err(fault) => point(alloc, &fault, input, errors),
             }
         }

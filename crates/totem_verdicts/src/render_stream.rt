@@ -5,6 +5,7 @@ ghost use Rattle.totem_names.specs.Writing.{held};
 ghost use Rattle.totem_verdicts.specs.RenderIo.{RendersRun, WritesRendered};
 
 use crate::audit_stream::{judge, outcome, read_whole};
+use crate::explain_stream::counted;
 use crate::outcome::Outcome;
 use crate::report::write_text;
 use crate::verdict_fault::VerdictFault;
@@ -14,7 +15,7 @@ use std::thread::Threads;
 use totem_audit::{Verdict, Workers};
 use totem_draw::{draw_no, draw_yes};
 use totem_evs::{Run, WriteFault};
-use totem_explain::{Counts, stopped_by};
+use totem_explain::{Lacking, stopped_by};
 use totem_names::{Sink, Source};
 
 /// What is made of a run.
@@ -34,13 +35,18 @@ fn drawn(alloc: Global, run: &Run, verdict: &Verdict) -> Result<String, AllocErr
     }
 }
 
-/// Returns the counts of a run with this verdict.
-fn counted(alloc: Global, run: &Run, verdict: &Verdict) -> Result<String, AllocError> {
+/// Returns the lines of the counts of a run with this verdict.
+fn count_lines(
+    alloc: Global,
+    run: &Run,
+    verdict: &Verdict,
+    lacking: &mut Lacking,
+) -> Result<String, AllocError> {
     let stopped = match verdict {
         Verdict::Yes { .. } => None,
         Verdict::No { faults } => stopped_by(faults),
     };
-    Counts::of(alloc, run)?.lines(alloc, stopped)
+    counted(alloc, run, lacking)?.lines(alloc, stopped)
 }
 
 fn rendered(
@@ -48,10 +54,11 @@ fn rendered(
     run: &Run,
     verdict: &Verdict,
     rendering: Rendering,
+    lacking: &mut Lacking,
 ) -> Result<String, AllocError> {
     match rendering {
         Rendering::Picture => drawn(alloc, run, verdict),
-        Rendering::Counts => counted(alloc, run, verdict),
+        Rendering::Counts => count_lines(alloc, run, verdict, lacking),
     }
 }
 
@@ -61,18 +68,19 @@ fn write_rendered<S: Sink>(
     run: &Run,
     verdict: &Verdict,
     rendering: Rendering,
+    lacking: &mut Lacking,
     sink: &mut S,
 ) -> Result<(), WriteFault>
     ensures { WritesRendered (held S.contents S.failures [] sink.old) (held S.contents S.failures [] sink.new) result }
 {
-    let Ok(text) = rendered(alloc, run, verdict, rendering) else {
+    let Ok(text) = rendered(alloc, run, verdict, rendering, lacking) else {
         return Err(WriteFault::Memory);
     };
     write_text(alloc, text.as_bytes(), sink)
 }
 
 /// Reads the text of a run to the end of the input, judges the run, and writes what is made of it. The outcome is that of `audit_io`,
-/// and the text is the same for every number of workers.
+/// and the text is the same for every number of workers. `lacking` learns the counts, if they are what is written.
 pub fn render_io<T: Threads + Wait + Sync, R: Source, W: Sink>(
     rt: &T,
     alloc: Global,
@@ -80,6 +88,7 @@ pub fn render_io<T: Threads + Wait + Sync, R: Source, W: Sink>(
     output: &mut W,
     workers: Workers,
     rendering: Rendering,
+    lacking: &mut Lacking,
 ) -> Result<Outcome, VerdictFault>
     ensures { RendersRun (seen R.remaining R.failures input.old) (seen R.remaining R.failures input.new)
         (held W.contents W.failures [] output.old) (held W.contents W.failures [] output.new) result }
@@ -88,6 +97,6 @@ pub fn render_io<T: Threads + Wait + Sync, R: Source, W: Sink>(
     let Ok(verdict) = judge(rt, alloc, &run, workers) else {
         return Err(VerdictFault::Memory);
     };
-    write_rendered(alloc, &run, &verdict, rendering, output)?;
+    write_rendered(alloc, &run, &verdict, rendering, lacking, output)?;
     Ok(outcome(&verdict))
 }

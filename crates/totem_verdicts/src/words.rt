@@ -4,16 +4,26 @@ use crate::run_words::{RunWords, run_command, run_words};
 use clap::builder::ValueParser;
 use clap::{Arg, ArgAction, ArgMatches, Command, Error};
 use std::alloc::{AllocError, Global};
+use totem_explain::{REQUIRABLE, Required};
 
 /// What the arguments ask of the run on standard input.
 #[derive(Clone, Copy)]
 pub enum Asked {
     /// Its audit, by 1 to 64 workers.
-    Audit { workers: u32 },
+    Audit {
+        workers: u32,
+    },
     /// The same audit with an explanation, by 1 to 64 workers.
-    Explain { workers: u32 },
+    Explain {
+        workers: u32,
+        required: Required,
+    },
     /// The same audit, by 1 to 64 workers, with a picture or counts of the run.
-    Render { workers: u32, rendering: Rendering },
+    Render {
+        workers: u32,
+        rendering: Rendering,
+        required: Required,
+    },
     /// The check of the run and the certificate after it.
     Check,
 }
@@ -91,6 +101,17 @@ fn counts_option<'a>(alloc: Global) -> Arg<'a> {
         )
 }
 
+fn require_option<'a>(alloc: Global) -> Arg<'a> {
+    Arg::new(alloc, "require")
+        .long("require")
+        .value_name("COUNTS")
+        .value_delimiter(',')
+        .value_parser(ValueParser::Names(&REQUIRABLE))
+        .help(
+            "End a yes with status 5 and a line on standard error if one of these counts is 0, as in `--require safe,transitional,7.1`. docs/SPECIFICATIONS.md, Counts, describes them",
+        )
+}
+
 fn script_option<'a>(alloc: Global) -> Arg<'a> {
     Arg::new(alloc, "script")
         .long("script")
@@ -109,28 +130,30 @@ fn explain_command<'a>(alloc: Global) -> Result<Command<'a>, AllocError> {
         .arg(workers_option(alloc))?
         .arg(svg_option(alloc))?
         .arg(counts_option(alloc).conflicts_with("svg")?)?
+        .arg(require_option(alloc).conflicts_with("svg")?)?
         .arg(
             script_option(alloc)
                 .conflicts_with("svg")?
-                .conflicts_with("counts")?,
+                .conflicts_with("counts")?
+                .conflicts_with("require")?,
         )
 }
 
 /// Returns what the arguments of `explain` ask for.
 fn explain_words(matches: &ArgMatches<'_>) -> Words {
     let workers = workers_of(matches);
-    if matches.get_flag("script") {
-        return Words::ExplainScript;
-    }
-    if matches.get_flag("svg") {
-        let rendering = Rendering::Picture;
-        return Words::Verdict(Asked::Render { workers, rendering });
-    }
-    if matches.get_flag("counts") {
-        let rendering = Rendering::Counts;
-        return Words::Verdict(Asked::Render { workers, rendering });
-    }
-    Words::Verdict(Asked::Explain { workers })
+    let required = Required::of(matches.get_strs("require").unwrap_or(&[]));
+    let rendering = match (matches.get_flag("svg"), matches.get_flag("counts")) {
+        (true, _) => Rendering::Picture,
+        (_, true) => Rendering::Counts,
+        _ if matches.get_flag("script") => return Words::ExplainScript,
+        _ => return Words::Verdict(Asked::Explain { workers, required }),
+    };
+    Words::Verdict(Asked::Render {
+        workers,
+        rendering,
+        required,
+    })
 }
 
 /// Returns the number of workers that the arguments of a verdict ask for.

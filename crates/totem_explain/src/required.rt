@@ -1,0 +1,101 @@
+//! Counts that a run is required to have (docs/PROGRAM.md, "Counts that are required").
+use crate::counts::Counts;
+use crate::tested::value_of;
+use std::alloc::{AllocError, Global};
+
+/// The names of the counts that can be required: those of the shape of a run, and the first one of each specification.
+pub const REQUIRABLE: [&'static str; 22] = [
+    "regular",
+    "shared",
+    "partition",
+    "merge",
+    "returned",
+    "transitional",
+    "safe-sent",
+    "safe",
+    "1.1",
+    "1.3",
+    "1.4",
+    "2.1",
+    "2.2",
+    "2.3",
+    "2.4",
+    "3",
+    "4",
+    "5",
+    "6.1",
+    "6.3",
+    "7.1",
+    "7.2",
+];
+
+/// A set of counts that must not be 0.
+#[derive(Clone, Copy)]
+pub struct Required {
+    // Bit i stands for the i-th requirable count.
+    bits: u32,
+}
+
+impl Required {
+    /// Returns the counts with these names. Other names are ignored.
+    pub fn of(names: &[&str]) -> Required {
+        let mut bits = 0u32;
+        let mut bit = 1u32;
+        for known in REQUIRABLE {
+            if names.iter().any(|name| *name == known) {
+                bits |= bit;
+            }
+            bit <<= 1;
+        }
+        Required { bits }
+    }
+
+    /// Returns the line that says which required counts are 0, or an empty text if none is.
+    fn lacking(self, alloc: Global, counts: &Counts) -> Result<String, AllocError> {
+        let mut text = String::new(alloc);
+        let mut bit = 1u32;
+        for name in REQUIRABLE {
+            if self.bits & bit != 0 && value_of(counts, name) == 0 {
+                text.push_str(if text.is_empty() {
+                    "totem: not tested: "
+                } else {
+                    ", "
+                })?;
+                text.push_str(name)?;
+            }
+            bit <<= 1;
+        }
+        if !text.is_empty() {
+            text.push_str("\n")?;
+        }
+        Ok(text)
+    }
+}
+
+/// The required counts that a run lacks.
+#[derive(Drop)]
+pub struct Lacking {
+    required: Required,
+    line: String,
+}
+
+impl Lacking {
+    /// Nothing is known of the run yet.
+    pub fn of(alloc: Global, required: Required) -> Lacking {
+        Lacking {
+            required,
+            line: String::new(alloc),
+        }
+    }
+
+    /// Learns which of the required counts are 0.
+    pub fn learn(&mut self, alloc: Global, counts: &Counts) -> Result<(), AllocError> {
+        self.line = self.required.lacking(alloc, counts)?;
+        Ok(())
+    }
+
+    /// Returns the line that says which they are, or an empty text.
+    pub fn line(&self) -> &str {
+        self.line.as_str()
+    }
+}
