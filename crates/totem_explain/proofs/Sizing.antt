@@ -60,7 +60,7 @@ pub log_added : (old : Size) (logs : List Log) (k : ℕ) (log : Log) (entries : 
     → AddUp old (all_entries logs) next (all_entries (drop (k + 1) logs))
 log_added old logs k log entries size next within at same before one =
     added old (all_entries logs) size log.entries (all_entries (drop (k + 1) logs)) next
-      (rw (← one_log logs k log within at) before) (rw (← same) one)
+    (rw (← one_log logs k log within at) before) (rw (← same) one)
 
 pub log_grown : (size next : Size) (entries : List Entry) (k : ℕ) → length entries ≤ 1000000 → AddUp size entries next [] → IsWithin size (1000000 * k) → IsWithin next (1000000 * (k + 1))
 log_grown size next entries k few one within =

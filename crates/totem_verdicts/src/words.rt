@@ -78,6 +78,7 @@ fn workers_option<'a>(alloc: Global) -> Arg<'a> {
 
 fn audit_command<'a>(alloc: Global) -> Result<Command<'a>, AllocError> {
     Command::new(alloc, "audit")
+        .override_usage("totem audit [OPTIONS] < RUN")
         .about("Judges the run on standard input, and writes a report")
         .after_help(AUDIT_EXAMPLE)
         .arg(workers_option(alloc))
@@ -123,6 +124,7 @@ fn script_option<'a>(alloc: Global) -> Arg<'a> {
 
 fn explain_command<'a>(alloc: Global) -> Result<Command<'a>, AllocError> {
     Command::new(alloc, "explain")
+        .override_usage("totem explain [OPTIONS] < RUN")
         .about(
             "Judges the run on standard input, and explains in words what is broken, and what the run put to the test; if its text is refused, shows where",
         )
@@ -163,6 +165,7 @@ fn workers_of(matches: &ArgMatches<'_>) -> u32 {
 
 fn check_command<'a>(alloc: Global) -> Command<'a> {
     Command::new(alloc, "check")
+        .override_usage("totem check < RUN_AND_CERTIFICATE")
         .about(
             "Reads a run and then its certificate from standard input, and judges the run. Refuses a certificate that does not fit it",
         )
@@ -171,6 +174,7 @@ fn check_command<'a>(alloc: Global) -> Command<'a> {
 
 fn sim_command<'a>(alloc: Global) -> Command<'a> {
     Command::new(alloc, "sim")
+        .override_usage("totem sim < SCRIPT")
         .about("Follows the script on standard input, and writes the run that its nodes record")
         .after_help(SIM_EXAMPLE)
 }
