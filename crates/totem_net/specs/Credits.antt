@@ -1,11 +1,11 @@
 -- How many packets may be forwarded at a tick (docs/PROTOCOL.md, "The network").
-use Rattle.std.specs.Prelude.{ℕ, ◌+◌, ◌-◌, ◌*◌, min}
+use Rattle.std.specs.Prelude.{ℕ, ◌-◌, ◌*◌, min}
 use Rattle.totem_net.specs.declared.credit.Credit.{Credit}
 use Rattle.totem_net.specs.Sums.{more}
 
--- a broadcast of each node to each other one, and twice as many packets as there are nodes
+-- enough for eight broadcasts of each node to all nodes
 abbrev pub most : ℕ → ℕ
-most nodes = nodes * (nodes + 1)
+most nodes = 8 * nodes * nodes
 
 abbrev pub begun : ℕ → Credit
 begun nodes = record { left = most nodes; nodes = nodes }

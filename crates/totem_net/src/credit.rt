@@ -2,7 +2,7 @@
 ghost use Rattle.std.specs.Prelude.{◌≡◌};
 ghost use Rattle.totem_net.specs.Credits.{most, begun, spent, earned};
 
-/// How many packets may be forwarded. Each tick adds as many as there are nodes, up to what a gathering of all of them sends.
+/// How many packets may be forwarded. Each tick adds as many as there are nodes, up to what some rounds of a gathering take.
 #[derive(Clone, Copy, PartialEq, Eq)]
 pub struct Credit {
     /// How many there are now.
@@ -46,10 +46,10 @@ impl Credit {
     }
 }
 
-/// Returns the most credit: a broadcast of each node to each other one, and twice as many packets as there are nodes.
+/// Returns the most credit: enough for eight broadcasts of each node to all nodes.
 fn most(nodes: u16) -> u64
     ensures { result ≡ most nodes }
 {
     let nodes = u64::from(nodes);
-    nodes * (nodes + 1)
+    8 * nodes * nodes
 }

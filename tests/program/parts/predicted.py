@@ -62,7 +62,11 @@ class Network:
         self.sent_by = {node: [] for node in self.scene.actors}
         self.waiting[1].append(self.scene.queue.pop().packet)
         self.sent, self.lost, self.repeated, self.forwarded = 1, 0, 0, 0
-        self.credit, self.next = plan.nodes * (plan.nodes + 1), 1
+        self.credit, self.next = self._most, 1
+
+    @property
+    def _most(self):
+        return 8 * self.plan.nodes ** 2
 
     def _copies(self):
         """The next fate: for each copy, how many further packets it lets pass."""
@@ -114,7 +118,7 @@ class Network:
             credit -= many
             if not packets:
                 self.next = self.next % self.plan.nodes + 1
-        self.credit = min(credit + self.plan.nodes, self.plan.nodes * (self.plan.nodes + 1))
+        self.credit = min(credit + self.plan.nodes, self._most)
         self.forwarded += len(given)
         for node, packet in given:
             self._step(node, lambda node, packet=packet: node.on_packet(packet))
