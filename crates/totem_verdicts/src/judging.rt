@@ -8,7 +8,7 @@ use crate::audit_stream::audit_io;
 use crate::check_stream::check_io;
 use crate::explain_stream::explain_io;
 use crate::outcome::Outcome;
-use crate::render_stream::render_io;
+use crate::render_stream::{Rendering, render_io};
 use crate::telling::{tell, tell_fault, tell_with_words};
 use crate::verdict_fault::VerdictFault;
 use crate::words::Asked;
@@ -16,7 +16,7 @@ use std::alloc::{AllocError, Global};
 use std::sync::Wait;
 use std::thread::Threads;
 use totem_audit::Workers;
-use totem_explain::{Lacking, explain_refusal};
+use totem_explain::{Lacking, Required, explain_refusal};
 use totem_names::{Sink, Source};
 
 /// Returns this number of workers, or one worker if the number is out of range.
@@ -59,6 +59,91 @@ fn end<E: Sink>(outcome: Outcome, lacking: &str, errors: &mut E) -> u8
     }
 }
 
+/// Explains the run, and returns the status.
+fn explained<T: Threads + Wait + Sync, R: Source, W: Sink, E: Sink>(
+    rt: &T,
+    alloc: Global,
+    workers: Workers,
+    lacking: &mut Lacking,
+    input: &mut R,
+    output: &mut W,
+    errors: &mut E,
+) -> u8
+    ensures { Judges (seen R.remaining R.failures input.old) (seen R.remaining R.failures input.new)
+        (held W.contents W.failures [] output.old) (held W.contents W.failures [] output.new)
+        (bare E.contents E.failures errors.old) (bare E.contents E.failures errors.new) result }
+{
+    match explain_io(rt, alloc, input, output, workers, lacking) {
+        Ok(outcome) => end(outcome, lacking.line(), errors),
+        Err(fault) => point(alloc, &fault, input, errors),
+    }
+}
+
+fn explain<T: Threads + Wait + Sync, R: Source, W: Sink, E: Sink>(
+    rt: &T,
+    alloc: Global,
+    workers: Workers,
+    required: Required,
+    input: &mut R,
+    output: &mut W,
+    errors: &mut E,
+) -> u8
+    ensures { Judges (seen R.remaining R.failures input.old) (seen R.remaining R.failures input.new)
+        (held W.contents W.failures [] output.old) (held W.contents W.failures [] output.new)
+        (bare E.contents E.failures errors.old) (bare E.contents E.failures errors.new) result }
+{
+    let mut lacking = Lacking::of(alloc, required);
+    explained(rt, alloc, workers, &mut lacking, input, output, errors)
+}
+
+/// Renders the run, and returns the status.
+fn rendered<T: Threads + Wait + Sync, R: Source, W: Sink, E: Sink>(
+    rt: &T,
+    alloc: Global,
+    workers: Workers,
+    rendering: Rendering,
+    lacking: &mut Lacking,
+    input: &mut R,
+    output: &mut W,
+    errors: &mut E,
+) -> u8
+    ensures { Judges (seen R.remaining R.failures input.old) (seen R.remaining R.failures input.new)
+        (held W.contents W.failures [] output.old) (held W.contents W.failures [] output.new)
+        (bare E.contents E.failures errors.old) (bare E.contents E.failures errors.new) result }
+{
+    match render_io(rt, alloc, input, output, workers, rendering, lacking) {
+        Ok(outcome) => end(outcome, lacking.line(), errors),
+        Err(fault) => point(alloc, &fault, input, errors),
+    }
+}
+
+fn render<T: Threads + Wait + Sync, R: Source, W: Sink, E: Sink>(
+    rt: &T,
+    alloc: Global,
+    workers: Workers,
+    rendering: Rendering,
+    required: Required,
+    input: &mut R,
+    output: &mut W,
+    errors: &mut E,
+) -> u8
+    ensures { Judges (seen R.remaining R.failures input.old) (seen R.remaining R.failures input.new)
+        (held W.contents W.failures [] output.old) (held W.contents W.failures [] output.new)
+        (bare E.contents E.failures errors.old) (bare E.contents E.failures errors.new) result }
+{
+    let mut lacking = Lacking::of(alloc, required);
+    rendered(
+        rt,
+        alloc,
+        workers,
+        rendering,
+        &mut lacking,
+        input,
+        output,
+        errors,
+    )
+}
+
 /// Gives the verdict that the arguments ask for, and returns the status.
 pub fn judge_io<T: Threads + Wait + Sync, R: Source, W: Sink, E: Sink>(
     rt: &T,
@@ -78,24 +163,22 @@ pub fn judge_io<T: Threads + Wait + Sync, R: Source, W: Sink, E: Sink>(
             Err(fault) => tell_fault(errors, &fault),
         },
         Asked::Explain { workers, required } => {
-            let mut lacking = Lacking::of(alloc, required);
-            match explain_io(rt, alloc, input, output, as_many(workers), &mut lacking) {
-                Ok(outcome) => end(outcome, lacking.line(), errors),
-                Err(fault) => point(alloc, &fault, input, errors),
-            }
+            explain(rt, alloc, as_many(workers), required, input, output, errors)
         }
         Asked::Render {
             workers,
             rendering,
             required,
-        } => {
-            let mut lacking = Lacking::of(alloc, required);
-            let workers = as_many(workers);
-            match render_io(rt, alloc, input, output, workers, rendering, &mut lacking) {
-                Ok(outcome) => end(outcome, lacking.line(), errors),
-                Err(fault) => point(alloc, &fault, input, errors),
-            }
-        }
+        } => render(
+            rt,
+            alloc,
+            as_many(workers),
+            rendering,
+            required,
+            input,
+            output,
+            errors,
+        ),
         Asked::Audit { workers } => match audit_io(rt, alloc, input, output, as_many(workers)) {
             Ok(outcome) => outcome.status(),
             Err(fault) => tell_fault(errors, &fault),
