@@ -109,13 +109,13 @@ impl Early {
 }
 
 /// Returns packets with these bytes that node 1 sends to node 2.
-fn to_second(alloc: Global, bytes: impl Iterator<Item = u8>) -> Result<Vec<Early>, AllocError> {
+fn to_second(alloc: Global, bytes: &[u8]) -> Result<Vec<Early>, AllocError> {
     let mut all = Vec::new(alloc);
     for byte in bytes {
         all.push(Early {
             from: 0,
             to: Some(2),
-            byte,
+            byte: *byte,
         })?;
     }
     Ok(all)
@@ -273,7 +273,7 @@ fn packets_go_through_the_switch(rt: HostRuntime) -> Result<(), Fail> {
 /// The switch forwards a copy that is held back after as many further packets as its fate says. What is held at the end is lost.
 #[test]
 fn copies_are_held_back_by_the_switch(rt: HostRuntime) -> Result<(), Fail> {
-    let early = to_second(rt.alloc(), b'a'..=b'h')?;
+    let early = to_second(rt.alloc(), b"abcdefgh")?;
     let all = received_by_all(&rt, rt.alloc(), 7, 3, &early)?;
     assert_eq!(rt; all.as_slice(), b"1.bcadefg..".as_slice());
     Ok(())
@@ -282,7 +282,7 @@ fn copies_are_held_back_by_the_switch(rt: HostRuntime) -> Result<(), Fail> {
 /// No packet is lost because its receiver has many others to handle.
 #[test]
 fn no_packet_is_lost_for_want_of_room(rt: HostRuntime) -> Result<(), Fail> {
-    let early = to_second(rt.alloc(), 128..=192)?;
+    let early = to_second(rt.alloc(), &[128; 65])?;
     let all = received_by_all(&rt, rt.alloc(), 48, 0, &early)?;
     let many = all.iter().filter(|byte| **byte >= 128);
     assert_eq!(rt; many.count(), 65);
