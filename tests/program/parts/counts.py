@@ -76,5 +76,5 @@ def counts():
         yield 'random runs from %d' % first, partial(try_random, first)
     for name in row_files.names():
         row = row_files.read(name)
-        if row.verb in ('audit', 'explain') and row.status in (0, 1) and '--script' not in row.words:
+        if row.given and row.verb in ('audit', 'explain') and row.status in (0, 1) and '--script' not in row.words:
             yield 'the run of %s' % name, partial(try_row, row.given)
