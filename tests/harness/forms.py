@@ -55,6 +55,9 @@ SCRIPT_REFUSED = _one_of(_named('script refused', SCRIPT_FAULTS))
 # An explanation, without its first line.
 LINES = r'(?:[ -~]*\n)+'
 PICTURE = r'<svg [ -~]+\n%s' % LINES
+COUNTS = r'(?:count [a-z0-9.-]+ (?:0|%s)\n)+' % NUMBER
+UNTESTED = r'totem: not tested: [a-z0-9., -]+\n'
+YES, NO = r'Yes: [ -~]+\n' + LINES, r'No: [ -~]+\n' + LINES
 
 # The output and the errors for each status of each command (with its options other than workers).
 FORMS = {
@@ -64,9 +67,10 @@ FORMS = {
     'check': {0: (_of_either(lambda texts: 'verdict yes\n%send\n' % texts.left_open), ''),
               1: (_of_either(lambda texts: 'verdict no\n%send\n' % texts.fault), ''),
               2: ('', '(?:%s|%s)' % (RUN_REFUSED, CERTIFICATE_REFUSED))},
-    'explain': {0: (r'Yes: [ -~]+\n' + LINES, ''),
-                1: (r'No: [ -~]+\n' + LINES, ''),
-                2: ('', RUN_REFUSED + LINES)},
+    'explain': {0: (YES, ''), 1: (NO, ''), 2: ('', RUN_REFUSED + LINES)},
+    'explain --require': {0: (YES, ''), 1: (NO, ''), 2: ('', RUN_REFUSED + LINES), 5: (YES, UNTESTED)},
+    'explain --counts': {0: (COUNTS, ''), 1: (COUNTS, ''), 2: ('', RUN_REFUSED + LINES)},
+    'explain --counts --require': {0: (COUNTS, ''), 1: (COUNTS, ''), 2: ('', RUN_REFUSED + LINES), 5: (COUNTS, UNTESTED)},
     'explain --svg': {0: (PICTURE, ''), 1: (PICTURE, ''), 2: ('', RUN_REFUSED + LINES)},
     'explain --script': {0: (RUN, ''), 2: ('', SCRIPT_REFUSED + LINES)},
     'sim': {0: (RUN, ''), 2: ('', SCRIPT_REFUSED)},
@@ -79,7 +83,8 @@ FORMS = {
 
 def asked_for(words):
     """The key of the forms that the answer to these arguments may have."""
-    flags = [word for word in words if word in ('--svg', '--script')]
+    names = [word.partition('=')[0] for word in words]
+    flags = [flag for flag in ('--svg', '--script', '--counts', '--require') if flag in names]
     return ' '.join([words[0], *flags])
 
 
