@@ -11,8 +11,8 @@ use Rattle.totem_evs.specs.declared.spec.SpecNo.TheVariants as spec
 use Rattle.totem_evs.specs.Events.{entry_at}
 use Rattle.totem_evs.specs.Steps.{SendsAt, Precedes, here, strict}
 use Rattle.totem_evs.specs.RingAgreement.{IsHop}
-use Rattle.totem_evs.specs.RingFaults.{BreaksOwnDeliveryIn, BreaksAtomicityIn, BreaksCausalityIn, BreaksGapIn, BreaksSafetyIn, BreaksInstalledIn, BreaksIn}
-use Rattle.totem_evs.specs.AgreementFaults.{BreaksOwnDelivery, BreaksAtomicity, BreaksCausality, BreaksGap, BreaksSafety, BreaksInstalled}
+use Rattle.totem_evs.specs.RingFaults.{BreaksAtomicityIn, BreaksCausalityIn, BreaksIn}
+use Rattle.totem_evs.specs.AgreementFaults.{BreaksAtomicity, BreaksCausality}
 use Rattle.totem_evs.specs.Faults.{Breaks}
 
 -- who sent or delivered m before it sent n did so after the send of m
@@ -23,11 +23,6 @@ hop_precedes run c m n e f sends (t, at_f) (inr (j, is, (i, lt, delivers))) =
     let at_g : entry_at run g ≡ Some (Deliver m (Regular c)) = delivers in
     (e, g, here, inr (m, Regular c, sends, (Regular c, at_g)), strict (inl ((Deliver m (Regular c), at_g), (Send n (Regular c) t, at_f), (refl, omega arith))) here)
 
-own : (run : List Log) (c : RingId) (places : List Place) → BreaksOwnDeliveryIn run c places → BreaksOwnDelivery run places
-own run c (e ∷ []) (i, at, h) = (i, at, (c, h))
-own run c [] h = h
-own run c (e ∷ f ∷ more) h = h
-
 atomicity : (run : List Log) (c : RingId) (places : List Place) → BreaksAtomicityIn run c places → BreaksAtomicity run places
 atomicity run c (e ∷ f ∷ g ∷ []) (i, at_e, (j, at_f, (k, at_g, (same, (x, stays, h))))) = (i, at_e, (j, at_f, (k, at_g, (same, (x, h)))))
 atomicity run c [] h = h
@@ -36,28 +31,11 @@ atomicity run c (e ∷ f ∷ []) h = h
 atomicity run c (e ∷ f ∷ g ∷ x ∷ more) h = h
 
 causality : (run : List Log) (c : RingId) (places : List Place) → BreaksCausalityIn run c places → BreaksCausality run places
-causality run c (e ∷ f ∷ g ∷ []) (j, at_g, (m, n, first, second, hop, delivers, never)) = (j, at_g, (c, m, n, first, second, hop_precedes run c m n e f first second hop, delivers, never))
+causality run c (e ∷ f ∷ g ∷ []) (j, at_g, (m, n, first, second, hop, wrong)) = (j, at_g, (c, m, n, first, second, hop_precedes run c m n e f first second hop, wrong))
 causality run c [] h = h
 causality run c (e ∷ []) h = h
 causality run c (e ∷ f ∷ []) h = h
 causality run c (e ∷ f ∷ g ∷ x ∷ more) h = h
-
-gap : (run : List Log) (c : RingId) (places : List Place) → BreaksGapIn run c places → BreaksGap run places
-gap run c (e ∷ f ∷ g ∷ []) (i, at_e, (j, at_f, (k, at_g, (same, h)))) = (i, at_e, (j, at_f, (k, at_g, (same, (c, h)))))
-gap run c [] h = h
-gap run c (e ∷ []) h = h
-gap run c (e ∷ f ∷ []) h = h
-gap run c (e ∷ f ∷ g ∷ x ∷ more) h = h
-
-safety : (run : List Log) (c : RingId) (places : List Place) → BreaksSafetyIn run c places → BreaksSafety run places
-safety run c (e ∷ []) (i, at, h) = (i, at, (c, h))
-safety run c [] h = h
-safety run c (e ∷ f ∷ more) h = h
-
-installed : (run : List Log) (c : RingId) (places : List Place) → BreaksInstalledIn run c places → BreaksInstalled run places
-installed run c (e ∷ []) (i, at, h) = (i, at, (c, h))
-installed run c [] h = h
-installed run c (e ∷ f ∷ more) h = h
 
 pub breaks_in : (run : List Log) (c : RingId) (k : SpecNo) (places : List Place) → BreaksIn run c k places → Breaks run k places
 breaks_in run c spec.Cycle places h = absurd h
@@ -67,10 +45,10 @@ breaks_in run c spec.End places h = absurd h
 breaks_in run c spec.Misplaced places h = absurd h
 breaks_in run c spec.Configuration places h = absurd h
 breaks_in run c spec.Turns places h = absurd h
-breaks_in run c spec.OwnDelivery places h = own run c places h
+breaks_in run c spec.OwnDelivery places h = (c, h)
 breaks_in run c spec.Atomicity places h = atomicity run c places h
 breaks_in run c spec.Causality places h = causality run c places h
 breaks_in run c spec.Order places h = absurd h
-breaks_in run c spec.Gap places h = gap run c places h
-breaks_in run c spec.Safety places h = safety run c places h
-breaks_in run c spec.Installed places h = installed run c places h
+breaks_in run c spec.Gap places h = (c, h)
+breaks_in run c spec.Safety places h = (c, h)
+breaks_in run c spec.Installed places h = (c, h)

@@ -13,10 +13,10 @@ use Rattle.totem_evs.specs.declared.spec.SpecNo.{SpecNo}
 use Rattle.totem_evs.specs.declared.spec.SpecNo.TheVariants as spec
 use Rattle.totem_evs.specs.Events.{log_of, Sends}
 use Rattle.totem_evs.specs.Following.{Com, DeliversIn}
-use Rattle.totem_evs.specs.Agreement.{SelfDelivery, FailureAtomicity, NoGaps, SafeDelivery}
+use Rattle.totem_evs.specs.Agreement.{OwnDeliveryIn, SelfDelivery, FailureAtomicity, NoGapsIn, NoGaps, SafetyIn, InstalledIn, SafeDelivery}
 use Rattle.totem_evs.specs.OneHop.{OneHopIsFine}
 use Rattle.totem_evs.specs.Synchrony.{IsVirtuallySynchronous}
-use Rattle.totem_evs.specs.RingAgreement.{OwnDeliveryIn, AtomicityIn, CausalityIn, NoGapsIn, SafetyIn, InstalledIn}
+use Rattle.totem_evs.specs.RingAgreement.{AtomicityIn, CausalityIn}
 use Rattle.totem_evs.specs.RingFaults.{MeetsIn}
 use Rattle.totem_evs.specs.Certificates.{Numbering, Certified}
 use Rattle.totem_evs.specs.Faults.{Breaks}
@@ -88,7 +88,9 @@ meets_configurations run d =
 -- ---- the specifications
 
 own_delivery : (run : List Log) → MeetsPasses run → MeetsEach run spec.OwnDelivery → SelfDelivery run
-own_delivery run meets h p i m c sends = let here : OwnDeliveryIn run c = h.each c (ring_of_send run p i c m meets sends) in here.each p i m sends
+own_delivery run meets h c = record {
+  each = λ p i m sends. let here : OwnDeliveryIn run c = h.each c (ring_of_send run p i c m meets sends) in here.each p i m sends;
+}
 
 atomic : (run : List Log) → MeetsPasses run → MeetsEach run spec.Atomicity → FailureAtomicity run
 atomic run meets h p q (Regular c) d (a, b, from, next, to) there i m delivers =
@@ -114,18 +116,24 @@ one_hop run meets h c p i j m n (service, at_j) lt (inr del) r k delivers = from
         here.each m n (place q l) (place p j) sent (service, at_j) (inr (j, omega arith, (i, lt, del))) r k delivers
 
 no_gaps : (run : List Log) → MeetsPasses run → MeetsEach run spec.Gap → NoGaps run
-no_gaps run meets h c m n p i j q k d first second lt delivers stays s l x sends member =
-    let here : NoGapsIn run c = h.each c (ring_of_delivery run p i c m meets first) in
-    here.each m n p i j q k d first second lt delivers stays s l x sends member
+no_gaps run meets h c = record {
+  each = λ m n p i j q k d first second lt delivers stays s l x sends member.
+      let here : NoGapsIn run c = h.each c (ring_of_delivery run p i c m meets first) in
+      here.each m n p i j q k d first second lt delivers stays s l x sends member;
+}
 
 safe : (run : List Log) → MeetsPasses run → MeetsEach run spec.Safety → MeetsEach run spec.Installed → SafeDelivery run
 safe run meets s h = record {
-  reaches = λ c m p i d q is delivers stays member.
-      let here : SafetyIn run c = s.each c (ring_of_standing run p i c d (delivered_in run p i m d meets delivers) stays) in
-      here.each m p i d q is delivers stays member;
-  installed = λ m p i c q is delivers member.
-      let here : InstalledIn run c = h.each c (ring_of_standing run p i c (Regular c) (delivered_in run p i m (Regular c) meets delivers) (inl refl)) in
-      here.each m p i q is delivers member;
+  reaches = λ c. record {
+    each = λ m p i d q is delivers stays member.
+        let here : SafetyIn run c = s.each c (ring_of_standing run p i c d (delivered_in run p i m d meets delivers) stays) in
+        here.each m p i d q is delivers stays member;
+  };
+  installed = λ c. record {
+    each = λ m p i q is delivers member.
+        let here : InstalledIn run c = h.each c (ring_of_standing run p i c (Regular c) (delivered_in run p i m (Regular c) meets delivers) (inl refl)) in
+        here.each m p i q is delivers member;
+  };
 }
 
 -- a certified run in which the passes find nothing meets the seven specifications

@@ -1,4 +1,5 @@
--- What it means that events break specifications 3 to 7 (docs/SPECIFICATIONS.md, "Faults").
+-- What it means that events break specifications 3 to 7: they meet the premise, and the conclusion fails for them
+-- (docs/SPECIFICATIONS.md, "Faults"). 3, 6.3, 7.1 and 7.2 are broken if they are in some regular configuration c.
 use Rattle.std.specs.Prelude.{◌≡◌, ℕ, ◌<◌, List, [], ◌∷◌}
 use Rattle.totem_names.specs.declared.ring.RingId.{RingId}
 use Rattle.totem_names.specs.declared.conf.ConfId.{ConfId}
@@ -16,10 +17,14 @@ use Rattle.totem_evs.specs.Places.{At, IsClosed, IsOrderStep}
 abbrev pub IsNotOwned : List Log → RingId → ℕ → ℕ → Type 0
 IsNotOwned run c p i = (m : MsgId) × Sends (log_of run p) i m (Regular c) × (DeliversOrEnds run p c m → ⊥)
 
--- 3: the send
+-- 3, in c: the send
+abbrev pub BreaksOwnDeliveryIn : List Log → RingId → List Place → Type 0
+BreaksOwnDeliveryIn run c (e ∷ []) = At e (IsNotOwned run c)
+BreaksOwnDeliveryIn run c _ = ⊥
+
+-- 3
 abbrev pub BreaksOwnDelivery : List Log → List Place → Type 0
-BreaksOwnDelivery run (e ∷ []) = At e (λ p i. (c : RingId) × IsNotOwned run c p i)
-BreaksOwnDelivery run _ = ⊥
+BreaksOwnDelivery run places = (c : RingId) × BreaksOwnDeliveryIn run c places
 
 -- the change at j is to d, and is the next one after a change to x
 abbrev pub GoesAt : List Entry → ConfId → ConfId → ℕ → Type 0
@@ -35,10 +40,14 @@ abbrev pub BreaksAtomicity : List Log → List Place → Type 0
 BreaksAtomicity run (e ∷ f ∷ g ∷ []) = At e (λ p i. At f (λ r j. At g (λ q k. (p ≡ r) × ((x : ConfId) × IsParted run x p i j q k))))
 BreaksAtomicity run _ = ⊥
 
+-- in c and in what follows it, r delivers n at j, and does not deliver m before it
+abbrev pub IsNotDeliveredFirst : List Log → RingId → MsgId → MsgId → ℕ → ℕ → Type 0
+IsNotDeliveredFirst run c m n r j = DeliversIn (log_of run r) c n j × ((i : ℕ) → i < j → DeliversIn (log_of run r) c m i → ⊥)
+
 -- e's send precedes f's, and r delivers the later message and not the earlier one before it
 abbrev pub IsUncaused : List Log → Place → Place → ℕ → ℕ → Type 0
 IsUncaused run e f r j = (c : RingId) × (m n : MsgId) × SendsAt run e m (Regular c) × SendsAt run f n (Regular c) × Precedes run e f
-    × DeliversIn (log_of run r) c n j × ((i : ℕ) → i < j → DeliversIn (log_of run r) c m i → ⊥)
+    × IsNotDeliveredFirst run c m n r j
 
 -- 5: both sends, and r's delivery of the later message
 abbrev pub BreaksCausality : List Log → List Place → Type 0
@@ -55,10 +64,14 @@ IsGap run c p i j q k = (m n : MsgId) × (d x : ConfId) × (s l : ℕ)
     × DeliversIn (log_of run p) c m i × DeliversIn (log_of run p) c n j × (i < j)
     × Delivers (log_of run q) k n d × Com (log_of run q) c d × Sends (log_of run s) l m x × IsMember run d s × (HasDelivered (log_of run q) c m → ⊥)
 
--- 6.3: p's deliveries of both messages, and q's of the later one
+-- 6.3, in c: p's deliveries of both messages, and q's of the later one
+abbrev pub BreaksGapIn : List Log → RingId → List Place → Type 0
+BreaksGapIn run c (e ∷ f ∷ g ∷ []) = At e (λ p i. At f (λ r j. At g (λ q k. (p ≡ r) × IsGap run c p i j q k)))
+BreaksGapIn run c _ = ⊥
+
+-- 6.3
 abbrev pub BreaksGap : List Log → List Place → Type 0
-BreaksGap run (e ∷ f ∷ g ∷ []) = At e (λ p i. At f (λ r j. At g (λ q k. (p ≡ r) × ((c : RingId) × IsGap run c p i j q k))))
-BreaksGap run _ = ⊥
+BreaksGap run places = (c : RingId) × BreaksGapIn run c places
 
 -- p delivers a safe message in d, which is c or follows it, and a member of d does not deliver it in c or what follows it,
 -- has not failed there and is not open there
@@ -66,17 +79,25 @@ abbrev pub IsNotReached : List Log → RingId → ℕ → ℕ → Type 0
 IsNotReached run c p i = (m : MsgId) × (d : ConfId) × (q : ℕ) × IsSafe run m × Delivers (log_of run p) i m d × Com (log_of run p) c d
     × IsMember run d q × (DeliversOrEnds run q c m → ⊥)
 
--- 7.1: p's delivery
+-- 7.1, in c: p's delivery
+abbrev pub BreaksSafetyIn : List Log → RingId → List Place → Type 0
+BreaksSafetyIn run c (e ∷ []) = At e (IsNotReached run c)
+BreaksSafetyIn run c _ = ⊥
+
+-- 7.1
 abbrev pub BreaksSafety : List Log → List Place → Type 0
-BreaksSafety run (e ∷ []) = At e (λ p i. (c : RingId) × IsNotReached run c p i)
-BreaksSafety run _ = ⊥
+BreaksSafety run places = (c : RingId) × BreaksSafetyIn run c places
 
 -- p delivers a safe message in c, to which one of its members never changes
 abbrev pub IsNotInstalled : List Log → RingId → ℕ → ℕ → Type 0
 IsNotInstalled run c p i = (m : MsgId) × (q : ℕ) × IsSafe run m × Delivers (log_of run p) i m (Regular c)
     × IsMember run (Regular c) q × ((j : ℕ) → ChangesTo (log_of run q) j (Regular c) → ⊥)
 
--- 7.2: p's delivery
+-- 7.2, in c: p's delivery
+abbrev pub BreaksInstalledIn : List Log → RingId → List Place → Type 0
+BreaksInstalledIn run c (e ∷ []) = At e (IsNotInstalled run c)
+BreaksInstalledIn run c _ = ⊥
+
+-- 7.2
 abbrev pub BreaksInstalled : List Log → List Place → Type 0
-BreaksInstalled run (e ∷ []) = At e (λ p i. (c : RingId) × IsNotInstalled run c p i)
-BreaksInstalled run _ = ⊥
+BreaksInstalled run places = (c : RingId) × BreaksInstalledIn run c places

@@ -11,8 +11,9 @@ use Rattle.totem_evs.specs.declared.spec.SpecNo.TheVariants as spec
 use Rattle.totem_evs.specs.declared.pending.Pending.{Pending}
 use Rattle.totem_evs.specs.declared.pending.Waiting.{Waiting}
 use Rattle.totem_evs.specs.Events.{ChangesTo, log_of}
-use Rattle.totem_evs.specs.Delivery.{DeliversWhatWasSent, DeliversOnce}
+use Rattle.totem_evs.specs.Delivery.{NoCycle, DeliversWhatWasSent, DeliversOnce}
 use Rattle.totem_evs.specs.Changes.{EndsTogether, StaysInPlace, IsOneConfiguration, TakesTurns, HasOneOrigin}
+use Rattle.totem_evs.specs.Agreement.{SelfDelivery, FailureAtomicity, CausalDelivery, HasTotalOrder, NoGaps, SafetyIn, InstalledIn}
 use Rattle.totem_evs.specs.Faults.{Breaks}
 use Rattle.totem_evs.specs.RingFaults.{BreaksIn, MeetsIn}
 use Rattle.totem_evs.specs.Unsettled.{ArePending, AreWaiting}
@@ -40,15 +41,22 @@ pub record TakeTurns (run : List Log) : Type 0 where
   pub each : (p : ℕ) → TakesTurns (log_of run p)
   pub origin : HasOneOrigin run
 
--- the run meets a specification of the passes A and B; nothing is said of any other
+-- the run meets the specification
 abbrev pub Meets : List Log → SpecNo → Type 0
+Meets run spec.Cycle = NoCycle run
 Meets run spec.Unsent = DeliversWhatWasSent run
 Meets run spec.Twice = DeliversOnce run
 Meets run spec.End = EndsTogether run
 Meets run spec.Misplaced = (p : ℕ) → StaysInPlace (log_of run p)
 Meets run spec.Configuration = IsOneConfiguration run
 Meets run spec.Turns = TakeTurns run
-Meets run _ = ⊥
+Meets run spec.OwnDelivery = SelfDelivery run
+Meets run spec.Atomicity = FailureAtomicity run
+Meets run spec.Causality = CausalDelivery run
+Meets run spec.Order = HasTotalOrder run
+Meets run spec.Gap = NoGaps run
+Meets run spec.Safety = (c : RingId) → SafetyIn run c
+Meets run spec.Installed = (c : RingId) → InstalledIn run c
 
 -- the run meets the specifications of the passes A and B
 pub record MeetsPasses (run : List Log) : Type 0 where

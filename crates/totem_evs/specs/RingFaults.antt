@@ -1,6 +1,6 @@
--- What it means that events break specifications 3 to 7 in one regular configuration c: they meet the premise there, and
--- the conclusion fails for them (docs/SPECIFICATIONS.md, "Passes").
-use Rattle.std.specs.Prelude.{◌≡◌, ℕ, ◌<◌, List, [], ◌∷◌}
+-- What it means that events break specifications 3 to 7 in one regular configuration c, and that the run meets them there
+-- (docs/SPECIFICATIONS.md, "Passes").
+use Rattle.std.specs.Prelude.{◌≡◌, ℕ, List, [], ◌∷◌}
 use Rattle.totem_names.specs.declared.ring.RingId.{RingId}
 use Rattle.totem_names.specs.declared.conf.ConfId.{ConfId}
 use Rattle.totem_names.specs.declared.conf.ConfId.TheVariants.{Regular}
@@ -11,15 +11,11 @@ use Rattle.totem_evs.specs.declared.spec.SpecNo.{SpecNo}
 use Rattle.totem_evs.specs.declared.spec.SpecNo.TheVariants as spec
 use Rattle.totem_evs.specs.Events.{log_of}
 use Rattle.totem_evs.specs.Steps.{SendsAt}
-use Rattle.totem_evs.specs.Following.{Com, DeliversIn}
+use Rattle.totem_evs.specs.Following.{Com}
 use Rattle.totem_evs.specs.Places.{At}
-use Rattle.totem_evs.specs.RingAgreement.{IsHop, OwnDeliveryIn, AtomicityIn, CausalityIn, NoGapsIn, SafetyIn, InstalledIn}
-use Rattle.totem_evs.specs.AgreementFaults.{IsNotOwned, IsParted, IsGap, IsNotReached, IsNotInstalled}
-
--- 3: the send
-abbrev pub BreaksOwnDeliveryIn : List Log → RingId → List Place → Type 0
-BreaksOwnDeliveryIn run c (e ∷ []) = At e (λ p i. IsNotOwned run c p i)
-BreaksOwnDeliveryIn run c _ = ⊥
+use Rattle.totem_evs.specs.Agreement.{OwnDeliveryIn, NoGapsIn, SafetyIn, InstalledIn}
+use Rattle.totem_evs.specs.RingAgreement.{IsHop, AtomicityIn, CausalityIn}
+use Rattle.totem_evs.specs.AgreementFaults.{IsParted, IsNotDeliveredFirst, BreaksOwnDeliveryIn, BreaksGapIn, BreaksSafetyIn, BreaksInstalledIn}
 
 -- 4: p's delivery, p's change to the next configuration, and q's
 abbrev pub BreaksAtomicityIn : List Log → RingId → List Place → Type 0
@@ -28,28 +24,12 @@ BreaksAtomicityIn run c _ = ⊥
 
 -- f's sender sent or delivered e's message before, and r delivers the later message and not the earlier one before it
 abbrev pub IsUncausedIn : List Log → RingId → Place → Place → ℕ → ℕ → Type 0
-IsUncausedIn run c e f r j = (m n : MsgId) × SendsAt run e m (Regular c) × SendsAt run f n (Regular c) × IsHop run c m e f
-    × DeliversIn (log_of run r) c n j × ((i : ℕ) → i < j → DeliversIn (log_of run r) c m i → ⊥)
+IsUncausedIn run c e f r j = (m n : MsgId) × SendsAt run e m (Regular c) × SendsAt run f n (Regular c) × IsHop run c m e f × IsNotDeliveredFirst run c m n r j
 
 -- 5: both sends, and r's delivery of the later message
 abbrev pub BreaksCausalityIn : List Log → RingId → List Place → Type 0
 BreaksCausalityIn run c (e ∷ f ∷ g ∷ []) = At g (IsUncausedIn run c e f)
 BreaksCausalityIn run c _ = ⊥
-
--- 6.3: p's deliveries of both messages, and q's of the later one
-abbrev pub BreaksGapIn : List Log → RingId → List Place → Type 0
-BreaksGapIn run c (e ∷ f ∷ g ∷ []) = At e (λ p i. At f (λ r j. At g (λ q k. (p ≡ r) × IsGap run c p i j q k)))
-BreaksGapIn run c _ = ⊥
-
--- 7.1: p's delivery
-abbrev pub BreaksSafetyIn : List Log → RingId → List Place → Type 0
-BreaksSafetyIn run c (e ∷ []) = At e (IsNotReached run c)
-BreaksSafetyIn run c _ = ⊥
-
--- 7.2: p's delivery
-abbrev pub BreaksInstalledIn : List Log → RingId → List Place → Type 0
-BreaksInstalledIn run c (e ∷ []) = At e (IsNotInstalled run c)
-BreaksInstalledIn run c _ = ⊥
 
 -- the places break the specification in c; no places do if it is not judged configuration by configuration
 abbrev pub BreaksIn : List Log → RingId → SpecNo → List Place → Type 0

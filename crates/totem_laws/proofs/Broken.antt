@@ -1,160 +1,20 @@
--- A run that meets a specification has nothing that breaks it.
-use Rattle.std.proofs.Common.{ℕ, inl, inr, List, [], ◌∷◌, get_or}
-use Rattle.totem_names.specs.declared.conf.ConfId.{ConfId}
-use Rattle.totem_names.specs.declared.conf.ConfId.TheVariants.{Regular, Transitional}
-use Rattle.totem_names.specs.declared.place.Place.{Place}
-use Rattle.totem_evs.specs.declared.entry.Entry.{Entry}
+-- Each specification is met, or broken by no places.
+use Rattle.std.proofs.Common.{List, get_or}
 use Rattle.totem_evs.specs.declared.log.Log.{Log}
 use Rattle.totem_evs.specs.declared.spec.SpecNo.{SpecNo}
 use Rattle.totem_evs.specs.declared.spec.SpecNo.TheVariants as spec
-use Rattle.totem_evs.specs.Events.{log_of, IsRegular, IsTransitional}
-use Rattle.totem_evs.specs.Changes.{TakesTurns}
-use Rattle.totem_evs.specs.Agreement.{Goes}
-use Rattle.totem_evs.specs.Answers.{TakeTurns, No}
+use Rattle.totem_evs.specs.Answers.{TakeTurns, No, Meets}
 use Rattle.totem_evs.specs.Synchrony.{IsVirtuallySynchronous}
-use Rattle.totem_evs.specs.DeliveryFaults.{BreaksUnsent, BreaksTwice}
-use Rattle.totem_evs.specs.ChangeFaults.{BreaksEnd, BreaksPlace, BreaksConfiguration, AreWrongNeighbours, BreaksTurns}
-use Rattle.totem_evs.specs.AgreementFaults.{GoesAt, BreaksOwnDelivery, BreaksAtomicity, BreaksCausality, BreaksGap, BreaksSafety, BreaksInstalled}
-use Rattle.totem_evs.proofs.Closed.{closed_cycles, closed_rises}
-use Rattle.totem_evs.proofs.Consistent.{placed_contradicts}
+use Rattle.totem_evs.proofs.Consistent.{not_met, one_of}
 use Rattle.totem_evs.proofs.Synchronous.{sound}
 use Rattle.totem_evs.proofs.Precedence.{each_log_ordered, each_twins_agree}
-use Rattle.totem_laws.specs.Specifications.{MeetsSpec}
-use Rattle.totem_laws.specs.Laws.{BrokenIsNotMet, FaultsAreNotMet, EachIsMet}
-
-not_both : (x : ConfId) → IsRegular x → IsTransitional x → ⊥
-not_both (Regular c) r t = t
-not_both (Transitional least next) r t = r
-
-unsent : (run : List Log) (places : List Place) → BreaksUnsent run places → MeetsSpec run spec.Unsent → ⊥
-unsent run (e ∷ []) (i, at, (m, d, delivers, never)) ok = never (ok e.proc i m d delivers)
-unsent run [] h ok = h
-unsent run (e ∷ f ∷ more) h ok = h
-
-twice : (run : List Log) (places : List Place) → BreaksTwice run places → MeetsSpec run spec.Twice → ⊥
-twice run (e ∷ []) (i, at, (m, x, sends, t)) ok = not_both x (ok.regular e.proc i m x sends) t
-twice run (e ∷ f ∷ []) (i, at, (j, at', inl (m, x, y, s, t, other))) ok =
-    let one = ok.one_send e.proc i f.proc j m x y s t in elim other [ inl never ↦ never one.0 | inr never ↦ never one.1 ]
-twice run (e ∷ f ∷ []) (i, at, (j, at', inr (m, x, y, s, t, same, never))) ok = never (ok.one_delivery e.proc i j m x y s (rw same t))
-twice run [] h ok = h
-twice run (e ∷ f ∷ g ∷ more) h ok = h
-
-ends_alone : (run : List Log) (places : List Place) → BreaksEnd run places → MeetsSpec run spec.End → ⊥
-ends_alone run (e ∷ []) (i, at, (x, ms, q, quiet, last, member, never)) ok = never (ok e.proc i x ms q quiet last member)
-ends_alone run [] h ok = h
-ends_alone run (e ∷ f ∷ more) h ok = h
-
-misplaced : (run : List Log) (places : List Place) → BreaksPlace run places → MeetsSpec run spec.Misplaced → ⊥
-misplaced run (e ∷ []) (i, at, h) ok = placed_contradicts (log_of run e.proc) i (ok e.proc) h
-misplaced run [] h ok = h
-misplaced run (e ∷ f ∷ more) h ok = h
-
-configuration : (run : List Log) (places : List Place) → BreaksConfiguration run places → MeetsSpec run spec.Configuration → ⊥
-configuration run (e ∷ []) (i, at, (x, ms, changes, never)) ok = never (ok.own e.proc i x ms changes)
-configuration run (e ∷ f ∷ []) (i, at, (j, at', (x, ms, ns, s, t, inl (same, never)))) ok = never (ok.once e.proc i j x (ms, s) (ns, rw same t))
-configuration run (e ∷ f ∷ []) (i, at, (j, at', (x, ms, ns, s, t, inr never))) ok = never (ok.members e.proc i f.proc j x ms ns s t)
-configuration run [] h ok = h
-configuration run (e ∷ f ∷ g ∷ more) h ok = h
-
-neighbours : (log : List Entry) (i j : ℕ) → TakesTurns log → AreWrongNeighbours log i j → ⊥
-neighbours log i j ok (x, y, ms, ns, next, inl (r, s)) = not_both y s ((ok.turns i j x y ms ns next).0 r)
-neighbours log i j ok (x, y, ms, ns, next, inr (inl (r, s))) = not_both x ((ok.turns i j x y ms ns next).1 s) r
-neighbours log i j ok (Regular c, y, ms, ns, next, inr (inr (inl (r, t, never)))) = never (ok.from i j c y ms ns t next)
-neighbours log i j ok (Transitional l c, y, ms, ns, next, inr (inr (inl (r, t, never)))) = r
-neighbours log i j ok (x, Regular c, ms, ns, next, inr (inr (inr (inl (t, r, never))))) = never (ok.to i j x c ms ns t next)
-neighbours log i j ok (x, Transitional l c, ms, ns, next, inr (inr (inr (inl (t, r, never))))) = r
-neighbours log i j ok (x, y, ms, ns, next, inr (inr (inr (inr (c, d, least, is_x, is_y, other))))) =
-    other (ok.named i j c d least ms ns (rw (is_x, is_y) at next))
-
-turns : (run : List Log) (places : List Place) → BreaksTurns run places → MeetsSpec run spec.Turns → ⊥
-turns run (e ∷ []) (i, at, (x, change, t, first)) ok = not_both x ((ok.each e.proc).regular_first i x change first) t
-turns run (e ∷ f ∷ []) (i, at, (j, at', (same, inl wrong))) ok = neighbours (log_of run e.proc) i j (ok.each e.proc) wrong
-turns run (e ∷ f ∷ []) (i, at, (j, at', (same, inr wrong))) ok = neighbours (log_of run e.proc) j i (ok.each e.proc) wrong
-turns run (e ∷ f ∷ g ∷ h ∷ []) (i, at, (j, at', (o, at'', (l, at''', (same, same', (lt, c, d, t, ms, ns, ks, ls, moves, never, first, second)))))) ok =
-    never (ok.origin e.proc i j g.proc o l c d t ms ns ks ls lt moves first second)
-turns run [] h ok = h
-turns run (e ∷ f ∷ g ∷ []) h ok = h
-turns run (e ∷ f ∷ g ∷ h ∷ x ∷ more) b ok = b
-
-own : (run : List Log) (places : List Place) → BreaksOwnDelivery run places → MeetsSpec run spec.OwnDelivery → ⊥
-own run (e ∷ []) (i, at, (c, (m, sends, never))) ok = never (ok e.proc i m c sends)
-own run [] h ok = h
-own run (e ∷ f ∷ more) h ok = h
-
-goes : (log : List Entry) (x d : ConfId) (j : ℕ) → GoesAt log x d j → Goes log x d
-goes log x d j (i, from, next, to) = (i, j, from, next, to)
-
-atomicity : (run : List Log) (places : List Place) → BreaksAtomicity run places → MeetsSpec run spec.Atomicity → ⊥
-atomicity run (e ∷ f ∷ g ∷ []) (i, at_e, (j, at_f, (l, at_g, (same, (x, (m, d, delivers, by_p, by_q, never)))))) ok =
-    let there = ok e.proc g.proc x d (goes _ x d j by_p) (goes _ x d l by_q) i m delivers in never there.0 there.1
-atomicity run [] h ok = h
-atomicity run (e ∷ []) h ok = h
-atomicity run (e ∷ f ∷ []) h ok = h
-atomicity run (e ∷ f ∷ g ∷ x ∷ more) h ok = h
-
-causality : (run : List Log) (places : List Place) → BreaksCausality run places → MeetsSpec run spec.Causality → ⊥
-causality run (e ∷ f ∷ g ∷ []) (j, at_g, (c, m, n, first, second, before, delivers, never)) ok =
-    let there = ok c m n e f first second before g.proc j delivers in never there.0 there.1 there.2
-causality run [] h ok = h
-causality run (e ∷ []) h ok = h
-causality run (e ∷ f ∷ []) h ok = h
-causality run (e ∷ f ∷ g ∷ x ∷ more) h ok = h
-
-gap : (run : List Log) (places : List Place) → BreaksGap run places → MeetsSpec run spec.Gap → ⊥
-gap run (e ∷ f ∷ g ∷ []) (i, at_e, (j, at_f, (l, at_g, (same, (c, (m, n, d, x, s, o, del_m, del_n, lt, delivers, stays, sends, member, never)))))) ok =
-    never (ok c m n e.proc i j g.proc l d del_m del_n lt delivers stays s o x sends member)
-gap run [] h ok = h
-gap run (e ∷ []) h ok = h
-gap run (e ∷ f ∷ []) h ok = h
-gap run (e ∷ f ∷ g ∷ x ∷ more) h ok = h
-
-safety : (run : List Log) (places : List Place) → BreaksSafety run places → MeetsSpec run spec.Safety → ⊥
-safety run (e ∷ []) (i, at, (c, (m, d, q, safe, delivers, stays, member, never))) ok = never (ok c m e.proc i d q safe delivers stays member)
-safety run [] h ok = h
-safety run (e ∷ f ∷ more) h ok = h
-
-installed : (run : List Log) (places : List Place) → BreaksInstalled run places → MeetsSpec run spec.Installed → ⊥
-installed run (e ∷ []) (i, at, (c, (m, q, safe, delivers, member, never))) ok = let j = ok m e.proc i c q safe delivers member in never j.0 j.1
-installed run [] h ok = h
-installed run (e ∷ f ∷ more) h ok = h
-
-pub not_met : BrokenIsNotMet
-not_met run spec.Cycle places h ok = closed_cycles run places ok h
-not_met run spec.Unsent places h ok = unsent run places h ok
-not_met run spec.Twice places h ok = twice run places h ok
-not_met run spec.End places h ok = ends_alone run places h ok
-not_met run spec.Misplaced places h ok = misplaced run places h ok
-not_met run spec.Configuration places h ok = configuration run places h ok
-not_met run spec.Turns places h ok = turns run places h ok
-not_met run spec.OwnDelivery places h ok = own run places h ok
-not_met run spec.Atomicity places h ok = atomicity run places h ok
-not_met run spec.Causality places h ok = causality run places h ok
-not_met run spec.Order places h ok = closed_rises run ok.0 ok.1 places h
-not_met run spec.Gap places h ok = gap run places h ok
-not_met run spec.Safety places h ok = safety run places h ok
-not_met run spec.Installed places h ok = installed run places h ok
+use Rattle.totem_laws.specs.Laws.{FaultsAreNotMet, EachIsMet}
 
 pub faults_not_met : FaultsAreNotMet
 faults_not_met run faults answered = λ i fault within ok.
     let named = get_or faults i fault in not_met run named.spec named.places ((sound run (No faults) answered).1 i fault within) ok
 
-one_of : (run : List Log) → IsVirtuallySynchronous run → (k : SpecNo) → MeetsSpec run k
-one_of run ev spec.Cycle = ev.basic.no_cycle
-one_of run ev spec.Unsent = ev.basic.sent
-one_of run ev spec.Twice = ev.basic.once
-one_of run ev spec.End = ev.changes.together
-one_of run ev spec.Misplaced = ev.changes.in_place
-one_of run ev spec.Configuration = ev.changes.one
-one_of run ev spec.Turns = record { each = ev.changes.turns; origin = ev.changes.origin }
-one_of run ev spec.OwnDelivery = ev.own
-one_of run ev spec.Atomicity = ev.atomic
-one_of run ev spec.Causality = ev.causal
-one_of run ev spec.Order = ev.order
-one_of run ev spec.Gap = ev.no_gaps
-one_of run ev spec.Safety = ev.safe.reaches
-one_of run ev spec.Installed = ev.safe.installed
-
-all_of : (run : List Log) → ((k : SpecNo) → MeetsSpec run k) → IsVirtuallySynchronous run
+all_of : (run : List Log) → ((k : SpecNo) → Meets run k) → IsVirtuallySynchronous run
 all_of run meets =
     let turn : TakeTurns run = meets spec.Turns in
     record {

@@ -27,7 +27,7 @@ listed run pending q c m are sent owes ends =
     (are.exact q m).1 (record { ring = c; sent = sent; still_open = still_open run q c m owes ends; missing = owes.missing })
 
 pub sender : SenderIsPending
-sender run pending ev are p i m c sends owes = listed run pending p c m are (p, i, sends) owes (ev.own p i m c sends)
+sender run pending ev are p i m c sends owes = listed run pending p c m are (p, i, sends) owes ((ev.own c).each p i m sends)
 
 -- one entry changes to one configuration
 one_ring : (log : List Entry) (b c : RingId) (i : ℕ) → ChangesTo log i (Regular b) → ChangesTo log i (Regular c) → b ≡ c
@@ -50,7 +50,7 @@ one_origin log b c d once (inr f) (inr g) = elim (less_or_not f.from g.from) [
 
 pub member : MemberIsPending
 member run pending ev are c m p i d q safe delivers stays is_member owes =
-    listed run pending q c m are (from_send (ev.basic.sent p i m d delivers)) owes (ev.safe.reaches c m p i d q safe delivers stays is_member)
+    listed run pending q c m are (from_send (ev.basic.sent p i m d delivers)) owes ((ev.safe.reaches c).each m p i d q safe delivers stays is_member)
   where
     from_send : WasSentFor run p m d → WasSentIn run m (Regular c)
     from_send (b, sent, also) =

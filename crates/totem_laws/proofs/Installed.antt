@@ -25,7 +25,7 @@ module _ (run : List Log) (q : ℕ) (c : RingId) (never : (j : ℕ) → ChangesT
   nothing_there m placed (inr (inr (loud, (d, goes_on, last, stays)))) = not_there d last.index last.change stays
 
 pub with_safety : InstalledBreaksWithSafety
-with_safety run (e ∷ []) placed (i, at, (c, (m, q, safe, delivers, member, never))) =
-    (i, at, (c, (m, Regular c, q, safe, delivers, inl refl, member, nothing_there run q c never m (placed q))))
+with_safety run (e ∷ []) placed (c, (i, at, (m, q, safe, delivers, member, never))) =
+    (c, (i, at, (m, Regular c, q, safe, delivers, inl refl, member, nothing_there run q c never m (placed q))))
 with_safety run [] placed h = h
 with_safety run (e ∷ f ∷ more) placed h = h

@@ -1,5 +1,4 @@
 pub mod Broken
-pub mod BrokenIn
 pub mod Installed
 pub mod Excused
 pub mod RisingLists

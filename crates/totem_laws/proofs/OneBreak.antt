@@ -7,13 +7,11 @@ use Rattle.totem_names.specs.declared.place.Place.{Place}
 use Rattle.totem_evs.specs.declared.log.Log.{Log}
 use Rattle.totem_evs.specs.declared.fault.Fault.{Fault}
 use Rattle.totem_evs.specs.declared.spec.SpecNo.{SpecNo}
-use Rattle.totem_evs.specs.declared.spec.SpecNo.TheVariants as spec
 use Rattle.totem_evs.specs.Faults.{Breaks}
+use Rattle.totem_evs.proofs.Consistent.{not_met, not_met_in}
 use Rattle.totem_evs.specs.RingFaults.{BreaksIn}
-use Rattle.totem_evs.specs.Answers.{ComesFirst, IsLeast, Meets, ListsRings, ListsEach, specs_d}
+use Rattle.totem_evs.specs.Answers.{ComesFirst, IsLeast, ListsRings, ListsEach, specs_d}
 use Rattle.totem_laws.specs.OneAnswer.{LeastBreaksAreOne, PassFaultsAreOne, ConfigurationFaultsAreOne}
-use Rattle.totem_laws.proofs.Broken.{not_met}
-use Rattle.totem_laws.proofs.BrokenIn.{not_met_in}
 use Rattle.totem_laws.proofs.OneList.{rings_one}
 
 -- ---- the least list
@@ -41,15 +39,6 @@ least_one run k a b least also = one_least (Breaks run k) a b least also
 
 -- ---- passes A and B
 
-passes_meet : (run : List Log) (k : SpecNo) (places : List Place) → Meets run k → Breaks run k places → ⊥
-passes_meet run spec.Unsent places ok h = not_met run spec.Unsent places h ok
-passes_meet run spec.Twice places ok h = not_met run spec.Twice places h ok
-passes_meet run spec.End places ok h = not_met run spec.End places h ok
-passes_meet run spec.Misplaced places ok h = not_met run spec.Misplaced places h ok
-passes_meet run spec.Configuration places ok h = not_met run spec.Configuration places h ok
-passes_meet run spec.Turns places ok h = not_met run spec.Turns places h ok
-passes_meet run _ places ok h = ok
-
 same_faults : (k : SpecNo) (a b : List Place) (r s : List Fault) → a ≡ b → r ≡ s
     → ◌≡◌ {A = List Fault} (record { spec = k; places = a } ∷ r) (record { spec = k; places = b } ∷ s)
 same_faults k a b r s same rest = rw (same, rest) refl
@@ -57,8 +46,8 @@ same_faults k a b r s same rest = rw (same, rest) refl
 pub passes_one : PassFaultsAreOne
 passes_one run [] a b is also = is ∙ sym also
 passes_one run (k ∷ ks) a b (inl (ok, more)) (inl (fine, rest)) = passes_one run ks a b more rest
-passes_one run (k ∷ ks) a b (inl (ok, more)) (inr (places, rest, is, least, others)) = absurd (passes_meet run k places ok least.holds)
-passes_one run (k ∷ ks) a b (inr (places, rest, is, least, others)) (inl (ok, more)) = absurd (passes_meet run k places ok least.holds)
+passes_one run (k ∷ ks) a b (inl (ok, more)) (inr (places, rest, is, least, others)) = absurd (not_met run k places least.holds ok)
+passes_one run (k ∷ ks) a b (inr (places, rest, is, least, others)) (inl (ok, more)) = absurd (not_met run k places least.holds ok)
 passes_one run (k ∷ ks) a b (inr (ps, r, is, least, more)) (inr (qs, s, are, also, others)) =
     is ∙ same_faults k ps qs r s (least_one run k ps qs least also) (passes_one run ks r s more others) ∙ sym are
 

@@ -1,4 +1,3 @@
-pub mod Specifications
 pub mod Excuses
 pub mod OneAnswer
 pub mod Laws

@@ -13,13 +13,14 @@ use Rattle.totem_evs.specs.declared.log.Log.{Log}
 use Rattle.totem_evs.specs.Events.{log_of, entry_at, at_place, Delivers}
 use Rattle.totem_evs.specs.Steps.{SendsAt}
 use Rattle.totem_evs.specs.Following.{Com, DeliversIn}
+use Rattle.totem_evs.specs.AgreementFaults.{IsNotDeliveredFirst}
 use Rattle.totem_evs.specs.RingAgreement.{IsHop, CausalityIn}
 use Rattle.totem_evs.specs.RingFaults.{BreaksCausalityIn}
 use Rattle.totem_table.specs.Search.{place, HoldsOfNone, NoneFrom}
 use Rattle.totem_pass_d.specs.declared.stays.Stay.{Stay}
 use Rattle.totem_pass_d.specs.Acts.{IsAmong, DeliversNot}
 use Rattle.totem_pass_d.specs.Search.{IsInside, EachBeginsWithin, NoneWithin, IsLeastWithin, BeginsWithin, IsOneEvent}
-use Rattle.totem_pass_d.specs.Searched.{IsSurprise, IsEffect}
+use Rattle.totem_pass_d.specs.Searched.{IsEffect}
 use Rattle.totem_pass_d.proofs.Deciding.{delivery_or_not}
 use Rattle.totem_judge_run.proofs.Decisions.{both_or_not, below_or_not}
 use Rattle.totem_judge_run.proofs.SentOrNot.{in_or_not}
@@ -39,25 +40,25 @@ use Rattle.totem_pass_d.specs.Suspects.{Handles, ComesBefore, ComesNotBefore, Is
 pub one_delivery_in : (run : List Log) (c : RingId) (stays : List Stay) (p i j : ℕ) (m : MsgId) → Facts run c stays → DeliversIn (log_of run p) c m i → DeliversIn (log_of run p) c m j → i ≡ j
 one_delivery_in run c stays p i j m facts (x, at_i, _) (y, at_j, _) = facts.meets.once.one_delivery p i j m x y at_i at_j
 
-pub none_undelivered : (run : List Log) (c : RingId) (stay : Stay) (m n : MsgId) → DeliversNot (log_of run stay.proc) c n → NoneWithin IsInside (IsOneEvent (IsSurprise run c m n)) stay
-none_undelivered run c stay m n never = no_event IsInside (IsSurprise run c m n) stay (λ i (delivers, none). never.never (i, delivers))
+pub none_undelivered : (run : List Log) (c : RingId) (stay : Stay) (m n : MsgId) → DeliversNot (log_of run stay.proc) c n → NoneWithin IsInside (IsOneEvent (IsNotDeliveredFirst run c m n)) stay
+none_undelivered run c stay m n never = no_event IsInside (IsNotDeliveredFirst run c m n) stay (λ i (delivers, none). never.never (i, delivers))
 
 pub none_caused : (run : List Log) (c : RingId) (stays : List Stay) (stay : Stay) (m n : MsgId) (k : ℕ) → Facts run c stays → DeliversIn (log_of run stay.proc) c n k → ComesBefore run c stay.proc m k
-    → NoneWithin IsInside (IsOneEvent (IsSurprise run c m n)) stay
+    → NoneWithin IsInside (IsOneEvent (IsNotDeliveredFirst run c m n)) stay
 none_caused run c stays stay m n k facts effect before =
-    no_event IsInside (IsSurprise run c m n) stay (λ i (delivers, none). none before.index (rw (one_delivery_in run c stays stay.proc i k n facts delivers effect) before.before) before.delivers)
+    no_event IsInside (IsNotDeliveredFirst run c m n) stay (λ i (delivers, none). none before.index (rw (one_delivery_in run c stays stay.proc i k n facts delivers effect) before.before) before.delivers)
 
-pub surprise_here : (run : List Log) (c : RingId) (stays : List Stay) (stay : Stay) (m n : MsgId) (k : ℕ) (places : List Place) → Facts run c stays → DeliversIn (log_of run stay.proc) c n k
-    → ((l : ℕ) → l < k → DeliversIn (log_of run stay.proc) c m l → ⊥) → places ≡ place stay.proc k ∷ [] → IsLeastWithin IsInside (IsOneEvent (IsSurprise run c m n)) stay places
-surprise_here run c stays stay m n k places facts delivers none is =
-    only_event IsInside (IsSurprise run c m n) stay k places (delivers, none) (λ i h. one_delivery_in run c stays stay.proc i k n facts h.0 delivers) is
+pub uncaused_here : (run : List Log) (c : RingId) (stays : List Stay) (stay : Stay) (m n : MsgId) (k : ℕ) (places : List Place) → Facts run c stays → DeliversIn (log_of run stay.proc) c n k
+    → ((l : ℕ) → l < k → DeliversIn (log_of run stay.proc) c m l → ⊥) → places ≡ place stay.proc k ∷ [] → IsLeastWithin IsInside (IsOneEvent (IsNotDeliveredFirst run c m n)) stay places
+uncaused_here run c stays stay m n k places facts delivers none is =
+    only_event IsInside (IsNotDeliveredFirst run c m n) stay k places (delivers, none) (λ i h. one_delivery_in run c stays stay.proc i k n facts h.0 delivers) is
 
 not_before : (run : List Log) (c : RingId) (stays : List Stay) (stay : Stay) (m : MsgId) (k l : ℕ) → Facts run c stays → DeliversIn (log_of run stay.proc) c m l → k ≤ l
     → (i : ℕ) → i < k → DeliversIn (log_of run stay.proc) c m i → ⊥
 not_before run c stays stay m k l facts cause le i lt delivers = let same = one_delivery_in run c stays stay.proc i l m facts delivers cause in omega arith
 
-pub surprises_begin : (run : List Log) (c : RingId) (stays : List Stay) (m n : MsgId) → Facts run c stays → EachBeginsWithin stays IsInside (IsOneEvent (IsSurprise run c m n))
-surprises_begin run c stays m n facts = begins_inside (IsSurprise run c m n) stays (record { each = λ p k ((x, at, belongs), none). facts.inside p k x (Deliver n x, at, refl) belongs })
+pub not_first_begin : (run : List Log) (c : RingId) (stays : List Stay) (m n : MsgId) → Facts run c stays → EachBeginsWithin stays IsInside (IsOneEvent (IsNotDeliveredFirst run c m n))
+not_first_begin run c stays m n facts = begins_inside (IsNotDeliveredFirst run c m n) stays (record { each = λ p k ((x, at, belongs), none). facts.inside p k x (Deliver n x, at, refl) belongs })
 
 pub hop_decided : (run : List Log) (c : RingId) (stays : List Stay) (stay : Stay) (m : MsgId) (p i j : ℕ) (b : Bool) → ((stay.proc ≡ p) × (i < j) → ⊥) → Facts run c stays → IsAmong stays stay → j < stay.turn
     → OnTrue b (ComesBefore run c stay.proc m j) → OnFalse b (ComesNotBefore run c stay.proc m j) → IsTrue b ↔ IsHop run c m (place p i) (place stay.proc j)
@@ -80,14 +81,14 @@ pub send_here : (run : List Log) (c : RingId) (stays : List Stay) (stay : Stay) 
 send_here run c stays stay i m x s facts among inside at = (facts.each stay among).sends i m x inside (s, at)
 
 -- the effects of what is sent at a place
-effect_at : (run : List Log) (c : RingId) (m n : MsgId) (x : ConfId) (s : Service) (e : Place) (q j : ℕ) (rest : List Place) → slice_get (log_of run q) j ≡ Some (Send n x s) → IsEffect run c m e (place q j ∷ rest) → IsOneEvent (IsSurprise run c m n) rest
+effect_at : (run : List Log) (c : RingId) (m n : MsgId) (x : ConfId) (s : Service) (e : Place) (q j : ℕ) (rest : List Place) → slice_get (log_of run q) j ≡ Some (Send n x s) → IsEffect run c m e (place q j ∷ rest) → IsOneEvent (IsNotDeliveredFirst run c m n) rest
 effect_at run c m n x s e q j rest at (o, send, hop, one) =
     let sends = sends_there run q j o (Regular c) send in
     let there : slice_get (log_of run q) j ≡ Some (Send o (Regular c) sends.0) = sends.1 in
     let same : o ≡ n = cc in rw same at one
 
 pub effect_starts : (run : List Log) (c : RingId) (m n : MsgId) (x : ConfId) (s : Service) (e : Place) (q j : ℕ) → slice_get (log_of run q) j ≡ Some (Send n x s) → x ≡ Regular c → IsHop run c m e (place q j)
-    → Starts (IsOneEvent (IsSurprise run c m n)) (IsEffect run c m e) q j
+    → Starts (IsOneEvent (IsNotDeliveredFirst run c m n)) (IsEffect run c m e) q j
 effect_starts run c m n x s e q j at is hop = record {
   to = λ rest h. (n, there_sends run q j n (Regular c) (s, rw is at at), hop, h);
   from = λ rest h. effect_at run c m n x s e q j rest at h;
@@ -102,7 +103,7 @@ effects_begin run c stays m e facts = record { each = λ places h. go places h }
 
 -- the causes
 cause_at : (run : List Log) (c : RingId) (m : MsgId) (x : ConfId) (s : Service) (p i : ℕ) (rest : List Place) → slice_get (log_of run p) i ≡ Some (Send m x s) → BreaksCausalityIn run c (place p i ∷ rest) → IsEffect run c m (place p i) rest
-cause_at run c m x s p i (f ∷ g ∷ []) at (k, is, (o, n, send, effect, hop, delivers, none)) =
+cause_at run c m x s p i (f ∷ g ∷ []) at (k, is, (o, n, send, effect, hop, (delivers, none))) =
     let sends = sends_there run p i o (Regular c) send in
     let there : slice_get (log_of run p) i ≡ Some (Send o (Regular c) sends.0) = sends.1 in
     let same : o ≡ m = cc in
@@ -111,11 +112,11 @@ cause_at run c m x s p i rest at h = absurd h
 
 caused : (run : List Log) (c : RingId) (m : MsgId) (s : Service) (p i : ℕ) (rest : List Place) → slice_get (log_of run p) i ≡ Some (Send m (Regular c) s) → IsEffect run c m (place p i) rest → BreaksCausalityIn run c (place p i ∷ rest)
 caused run c m s p i [] at h = absurd h
-caused run c m s p i (f ∷ g ∷ []) at (n, effect, hop, (k, is, (delivers, none))) = (k, is, (m, n, there_sends run p i m (Regular c) (s, at), effect, hop, delivers, none))
+caused run c m s p i (f ∷ g ∷ []) at (n, effect, hop, (k, is, (delivers, none))) = (k, is, (m, n, there_sends run p i m (Regular c) (s, at), effect, hop, (delivers, none)))
 caused run c m s p i (f ∷ rest) at (n, effect, hop, b) = absurd b
 
 sent_first : (run : List Log) (c : RingId) (e : Place) (rest : List Place) → BreaksCausalityIn run c (e ∷ rest) → (m : MsgId) × SendsAt run e m (Regular c)
-sent_first run c e (f ∷ g ∷ []) (k, is, (m, n, send, effect, hop, delivers, none)) = (m, send)
+sent_first run c e (f ∷ g ∷ []) (k, is, (m, n, send, effect, hop, wrong)) = (m, send)
 sent_first run c e rest h = absurd h
 
 pub cause_starts : (run : List Log) (c : RingId) (m : MsgId) (x : ConfId) (s : Service) (p i : ℕ) → slice_get (log_of run p) i ≡ Some (Send m x s) → x ≡ Regular c → Starts (IsEffect run c m (place p i)) (BreaksCausalityIn run c) p i
@@ -136,7 +137,7 @@ pub causal : (run : List Log) (c : RingId) → HoldsOfNone (BreaksCausalityIn ru
 causal run c none = record {
   each = λ m n e f send effect hop r j delivers. elim (delivery_or_not (λ l x. (l < j) × Com (log_of run r) c x) (log_of run r) m (λ l x. both_or_not (below_or_not l j) (in_or_not (log_of run r) c x))) [
     | inl (l, x, at, (lt, inside)) ↦ (l, lt, (x, at, inside))
-    | inr never ↦ absurd (none.none (e ∷ f ∷ place r j ∷ []) (j, refl, (m, n, send, effect, hop, delivers, λ l lt (x, at, inside). never l x at (lt, inside))))
+    | inr never ↦ absurd (none.none (e ∷ f ∷ place r j ∷ []) (j, refl, (m, n, send, effect, hop, (delivers, λ l lt (x, at, inside). never l x at (lt, inside)))))
   ];
 }
 
@@ -315,7 +316,7 @@ module _ (cmp : MsgId → MsgId → Ordering) (s : BTreeSet MsgId) (run : List L
       by_walk p i j r k (Deliver m (Regular c)) m n v (omega arith) delivers (Deliver m (Regular c), delivers, refl) refl at_f d never
 
   broken : (m : MsgId) (x : ConfId) (v : Service) (p i : ℕ) (rest : List Place) → slice_get (log_of run p) i ≡ Some (Send m x v) → BreaksCausalityIn run c (place p i ∷ rest) → IsSuspect cmp s m
-  broken m x v p i (f ∷ g ∷ []) at (k, is, (o, n, send, effect, hop, delivers, none)) =
+  broken m x v p i (f ∷ g ∷ []) at (k, is, (o, n, send, effect, hop, (delivers, none))) =
       let sends = sends_there run p i o (Regular c) send in
       let there : slice_get (log_of run p) i ≡ Some (Send o (Regular c) sends.0) = sends.1 in
       let same : o ≡ m = cc in

@@ -15,9 +15,8 @@ use Rattle.totem_evs.specs.declared.entry.Entry.TheVariants.{Deliver}
 use Rattle.totem_evs.specs.declared.log.Log.{Log}
 use Rattle.totem_evs.specs.Events.{log_of, Sends, Delivers, WasSentIn, IsMember}
 use Rattle.totem_evs.specs.Following.{Com, DeliversIn}
-use Rattle.totem_evs.specs.RingAgreement.{NoGapsIn}
-use Rattle.totem_evs.specs.RingFaults.{BreaksGapIn}
-use Rattle.totem_evs.specs.AgreementFaults.{IsGap}
+use Rattle.totem_evs.specs.Agreement.{NoGapsIn}
+use Rattle.totem_evs.specs.AgreementFaults.{IsGap, BreaksGapIn}
 use Rattle.totem_evs.specs.Answers.{ComesFirst, MeetsPasses}
 use Rattle.totem_evs.proofs.LogOf.{less_or_not}
 use Rattle.totem_evs.proofs.Pushing.{Along}

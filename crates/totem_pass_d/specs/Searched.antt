@@ -9,7 +9,7 @@ use Rattle.totem_evs.specs.declared.entry.Entry.{Entry}
 use Rattle.totem_evs.specs.declared.log.Log.{Log}
 use Rattle.totem_evs.specs.Events.{IsChange, Sends, Delivers, log_of, IsMember}
 use Rattle.totem_evs.specs.Following.{Com, DeliversIn, HasDelivered}
-use Rattle.totem_evs.specs.AgreementFaults.{GoesAt}
+use Rattle.totem_evs.specs.AgreementFaults.{GoesAt, IsNotDeliveredFirst}
 use Rattle.totem_pass_d.specs.declared.stays.Stay.{Stay}
 use Rattle.totem_pass_d.specs.declared.gap_6_3.Last.{Last}
 use Rattle.totem_names.specs.declared.place.Place.{Place}
@@ -45,14 +45,10 @@ IsPartner run c m x d q k = Com (log_of run q) c x × GoesAt (log_of run q) x d 
 
 -- ---- 5: a send of a cause, a later send of its effect, and a delivery of the effect without the cause before it
 
--- the entry delivers the effect, and no entry before it delivers the cause
-abbrev pub IsSurprise : List Log → RingId → MsgId → MsgId → ℕ → ℕ → Type 0
-IsSurprise run c cause effect r k = DeliversIn (log_of run r) c effect k × ((l : ℕ) → l < k → DeliversIn (log_of run r) c cause l → ⊥)
-
 -- the send of an effect of what e sends, and such an entry
 abbrev pub IsEffect : List Log → RingId → MsgId → Place → List Place → Type 0
 IsEffect run c cause e [] = ⊥
-IsEffect run c cause e (f ∷ rest) = (effect : MsgId) × SendsAt run f effect (Regular c) × IsHop run c cause e f × IsOneEvent (IsSurprise run c cause effect) rest
+IsEffect run c cause e (f ∷ rest) = (effect : MsgId) × SendsAt run f effect (Regular c) × IsHop run c cause e f × IsOneEvent (IsNotDeliveredFirst run c cause effect) rest
 
 -- ---- 6.3: a delivery, a later one of the same log, and a delivery of the later message by a process that lacks the earlier one
 

@@ -3,6 +3,7 @@
 //! totem_judge_traffic `causality_5`.
 ghost use Rattle.std.specs.Prelude.{◌≡◌, ◌↔◌, ◌<◌, IsTrue, IfOk, length};
 ghost use Rattle.totem_table.specs.Search.{place};
+ghost use Rattle.totem_evs.specs.AgreementFaults.{IsNotDeliveredFirst};
 ghost use Rattle.totem_evs.specs.RingFaults.{BreaksCausalityIn, MeetsIn};
 ghost use Rattle.totem_evs.specs.RingAgreement.{IsHop};
 ghost use Rattle.std.specs.Bool.{OnTrue};
@@ -10,7 +11,7 @@ ghost use Rattle.totem_evs.specs.Answers.{FindsIn};
 ghost use Rattle.totem_pass_d.specs.KnownStays.{AreKnown};
 ghost use Rattle.totem_pass_d.specs.Acts.{IsAmong};
 ghost use Rattle.totem_pass_d.specs.Search.{IsInside, IsOneEvent};
-ghost use Rattle.totem_pass_d.specs.Searched.{IsEffect, IsSurprise};
+ghost use Rattle.totem_pass_d.specs.Searched.{IsEffect};
 ghost use Rattle.totem_pass_d.specs.Suspects.{AreSuspects};
 
 use crate::search::{EachIndex, Finder, FoundList, Relation, first_found, least_found, only};
@@ -23,18 +24,18 @@ use totem_names::{MsgId, Proc};
 
 /// The deliveries of a message without its cause before it.
 #[derive(Clone, Copy)]
-struct Surprises<'s, 'r, 'm> {
+struct Uncaused<'s, 'r, 'm> {
     stays: &'s Stays<'r>,
     cause: &'m MsgId,
     effect: &'m MsgId,
 }
 
-impl Finder for Surprises<'_, '_, '_> {
+impl Finder for Uncaused<'_, '_, '_> {
     ghost among = { λ s. s.stays.now };
 
     ghost reaches = { λ s. IsInside };
 
-    ghost holds = { λ s. IsOneEvent (IsSurprise s.stays.now.run.now.logs s.stays.now.ring s.cause.now s.effect.now) };
+    ghost holds = { λ s. IsOneEvent (IsNotDeliveredFirst s.stays.now.run.now.logs s.stays.now.ring s.cause.now s.effect.now) };
 
     fn find_in(&self, alloc: Global, stay: &Stay) -> FoundList {
         let Some(at) = self.stays.delivery_of(stay, self.effect) else {
@@ -83,12 +84,12 @@ impl Relation for Effects<'_, '_, '_> {
         if !self.is_hop(stay, at) {
             return Ok(None);
         }
-        let surprises = Surprises {
+        let uncaused = Uncaused {
             stays: self.stays,
             cause: self.cause,
             effect,
         };
-        first_found(&surprises, alloc, self.stays)
+        first_found(&uncaused, alloc, self.stays)
     }
 }
 

@@ -3,7 +3,8 @@
 ghost use Rattle.std.specs.Prelude.{◌≡◌, ◌↔◌, ◌<◌, ◌≤◌, IsTrue, IfOk, MatchOption, Contains};
 ghost use Rattle.std.specs.Bool.{OnTrue, OnFalse};
 ghost use Rattle.totem_table.specs.Search.{NoneFrom, IsLeastFrom};
-ghost use Rattle.totem_evs.specs.RingFaults.{BreaksGapIn, MeetsIn};
+ghost use Rattle.totem_evs.specs.AgreementFaults.{BreaksGapIn};
+ghost use Rattle.totem_evs.specs.RingFaults.{MeetsIn};
 ghost use Rattle.totem_evs.specs.Answers.{FindsIn};
 ghost use Rattle.totem_pass_d.specs.KnownStays.{AreKnown};
 ghost use Rattle.totem_pass_d.specs.Acts.{IsAmong};

@@ -52,7 +52,7 @@ module _ (run : List Log) (c : RingId) (p q : ℕ) (deliveries : Deliveries) (me
         later = place p b.second;
         sender = refl;
         index = b.index;
-        uncaused = (b.cause, b.effect, sends, b.sends, hop, index_delivers b.effect b.index b.delivered, late);
+        uncaused = (b.cause, b.effect, sends, b.sends, hop, (index_delivers b.effect b.index b.delivered, late));
       }
 
       of_sent : (d : RingId) → Delivers (log_of run p) b.first b.cause (Regular c) → WasSentIn run b.cause (Regular d) → Com (log_of run p) d (Regular c) → BreaksBetween run c p q
@@ -88,8 +88,8 @@ not_both : (run : List Log) (c : RingId) (p q : ℕ) → BreaksBetween run c p q
 not_both run c p q b causal = go b.uncaused
   where
     go : (m n : MsgId) × SendsAt run b.earlier m (Regular c) × SendsAt run b.later n (Regular c) × IsHop run c m b.earlier b.later
-        × DeliversIn (log_of run q) c n b.index × ((i : ℕ) → i < b.index → DeliversIn (log_of run q) c m i → ⊥) → ⊥
-    go (m, n, sends_e, sends_f, hop, delivers, late) = let r = causal.each m n b.earlier b.later sends_e sends_f b.sender hop b.index delivers in late r.0 r.1 r.2
+        × (DeliversIn (log_of run q) c n b.index × ((i : ℕ) → i < b.index → DeliversIn (log_of run q) c m i → ⊥)) → ⊥
+    go (m, n, sends_e, sends_f, hop, (delivers, late)) = let r = causal.each m n b.earlier b.later sends_e sends_f b.sender hop b.index delivers in late r.0 r.1 r.2
 
 pub decided : (run : List Log) (c : RingId) (p q : ℕ) (kept : Bool) → OnTrue kept (IsCausalBetween run c p q) → OnFalse kept (BreaksBetween run c p q) → IsTrue kept ↔ IsCausalBetween run c p q
 decided run c p q true causal broken = (λ t. causal, λ h. refl)

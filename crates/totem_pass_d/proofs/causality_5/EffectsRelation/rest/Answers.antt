@@ -1,7 +1,7 @@
 use Rattle.std.proofs.Common.{refl}
 use Rattle.totem_pass_d.proofs.Facts.{facts_of}
 use Rattle.totem_pass_d.proofs.Searching.{started}
-use Rattle.totem_pass_d.proofs.CausalityFaults.{send_here, surprises_begin, effect_starts}
+use Rattle.totem_pass_d.proofs.CausalityFaults.{send_here, not_first_begin, effect_starts}
 use Rattle.totem_pass_d.proofs.causality_5.EffectsRelation.rest.Goals as goal
 
 pub is_hop-requires-clause-before : goal.is_hop-requires-clause-before
@@ -10,7 +10,7 @@ is_hop-requires-clause-before c =
     (send_here _ _ _ c.args.stay.now _ _ _ _ of c.requires.among c.requires.inside (rw c.in-Send.is at c.entry_in.ensures)).1
 
 pub first_found-requires-clause-begins : goal.first_found-requires-clause-begins
-first_found-requires-clause-begins c = surprises_begin _ _ _ _ _ (facts_of c.args.self.now.stays.now c.requires.known)
+first_found-requires-clause-begins c = not_first_begin _ _ _ _ _ (facts_of c.args.self.now.stays.now c.requires.known)
 
 pub returns : goal.returns
 returns c =
