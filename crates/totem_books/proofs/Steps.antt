@@ -1,20 +1,24 @@
 -- One call more is one input more in the replay.
-use Rattle.std.proofs.Common.{◌≡◌, ℕ, List, [], ◌∷◌, ◌++◌, Ok, Err, refl, sym, ap, subst, ◌∙◌, append-nil, Option, None, Some, IfSome}
-use Rattle.std.proofs.lemmas.List.{reverse-append, map-append}
+use Rattle.std.proofs.Common.{◌≡◌, ℕ, List, [], ◌∷◌, ◌++◌, Ok, Err, refl, sym, ap, subst, ◌∙◌, append-nil, Option, None, Some, IfSome, map, fold}
+use Rattle.std.proofs.lemmas.List.{map-append}
+use Rattle.std.proofs.lemmas.List.Sums.{fold-append}
 use Rattle.totem_evs.specs.declared.entry.Entry.{Entry}
 use Rattle.totem_core.specs.declared.input.Input.{Input}
 use Rattle.totem_core.specs.Nodes.{Node, Stepped}
 use Rattle.totem_core.specs.Outcomes.{Outcome}
 use Rattle.totem_core.specs.Table.{step}
-use Rattle.totem_core.specs.Replay.{Answer, Life, lived, one_input}
+use Rattle.totem_core.specs.Replay.{Answer, Life, born, lived, one_input}
 use Rattle.totem_books.specs.Replies.{entries_of}
 use Rattle.totem_books.specs.Calls.{Called, Receipt}
-use Rattle.totem_books.specs.Replay.{Start, replay, lived_back, answer_to, node_behind, IsReplay}
+use Rattle.totem_books.specs.Replay.{Start, replay, answer_to, node_behind, IsReplay}
 use Rattle.totem_books.specs.History.{called}
 use Rattle.totem_books.specs.Taking.{IsTaken, IsAdded}
 
 pub replay_one_more : (start : Start) (calls : List Called) (call : Called) → replay start (calls ++ call ∷ []) ≡ one_input (replay start calls) call.input
-replay_one_more start calls call = ap (lived_back start) (reverse-append calls (call ∷ []))
+replay_one_more start calls call =
+    let life = born start.me start.ring start.members in
+    let input : Called → Input = λ (c : Called). c.input in
+    ap (fold one_input life) (map-append input calls (call ∷ [])) ∙ fold-append one_input life (map input calls) (call.input ∷ [])
 
 -- what a step makes of a life
 lived-node : (life : Life) (s : Outcome Stepped) → (lived life s).node ≡ node_behind life.node s

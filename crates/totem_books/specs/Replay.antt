@@ -1,10 +1,10 @@
 -- The effect of a book's calls on a node: one step for each call (docs/PROTOCOL.md, "Books").
-use Rattle.std.specs.Prelude.{◌≡◌, ℕ, List, [], ◌∷◌, map, reverse, Ok, Err}
+use Rattle.std.specs.Prelude.{◌≡◌, ℕ, List, map, Ok, Err}
 use Rattle.totem_names.specs.Names.{RingName}
 use Rattle.totem_evs.specs.declared.entry.Entry.{Entry}
 use Rattle.totem_core.specs.Nodes.{Node, Stepped}
 use Rattle.totem_core.specs.Outcomes.{Outcome}
-use Rattle.totem_core.specs.Replay.{Answer, Life, born, one_input}
+use Rattle.totem_core.specs.Replay.{Answer, Life, replay as node_replay}
 use Rattle.totem_books.specs.Calls.{Called}
 
 -- a node's start: its process, its first ring and the ring's members
@@ -13,18 +13,9 @@ pub record Start : Type 0 where
   pub ring : RingName
   pub members : List ℕ
 
--- a node's life before its first input
-abbrev pub beginning : Start → Life
-beginning s = born s.me s.ring s.members
-
--- the calls with the last one first: it adds one input to the life that the calls before it make
-abbrev pub lived_back : Start → List Called → Life
-lived_back start [] = beginning start
-lived_back start (call ∷ before) = one_input (lived_back start before) call.input
-
 -- the replay of the calls' inputs, in their order
 abbrev pub replay : Start → List Called → Life
-replay start calls = lived_back start (reverse calls)
+replay start calls = node_replay start.me start.ring start.members (map (λ (call : Called). call.input) calls)
 
 abbrev pub replies_of : List Called → List (Outcome Answer)
 replies_of calls = map (λ (call : Called). call.reply) calls

@@ -1,5 +1,6 @@
 //! A thread's access to a shared book.
 ghost use Rattle.std.specs.Prelude.{◌≡◌, [], length};
+ghost use Rattle.totem_books.specs.Journals.{calls_in};
 
 use crate::call::Stub;
 use crate::name::BookName;
@@ -38,6 +39,7 @@ impl<L: BookName> Seat<L> {
         requires pen { pen.journal ≡ L.journal }
         ensures stubs { result.stubs ≡ [] }
         ensures share { result.share ≡ 0 }
+        ensures seen { result.seen ≡ calls_in pen.seen }
     {
         Seat {
             stubs: Vec::new(alloc),

@@ -54,6 +54,7 @@ impl<L: BookName> SharedBook<L> {
         requires seats { (seats ≡ L.parts) × (0 < seats) × (seats ≤ 64) }
         ensures count { IfOk result (λ r. vec_len r.1 ≡ seats) }
         ensures empty { IfOk result (λ r. All (λ seat. (seat.stubs ≡ []) × (seat.share ≡ 0)) r.1.items) }
+        ensures unseen { IfOk result (λ r. All (λ seat. seat.seen ≡ []) r.1.items) }
     {
         let Blank { ledger, journal } = blank;
         let (total, mut all) = ledger.open::<L>();

@@ -39,9 +39,10 @@ impl<E> Journal<E> {
         }
     }
 
-    /// Makes a pen of this journal.
+    /// Makes a pen of this journal, which has seen all entries.
     pub fn pen(&mut self) -> Pen<E>
-        ensures { (result.journal ≡ self.old.name) × (self.new.name ≡ self.old.name) × (self.new.entries ≡ self.old.entries) }
+        ensures { (result.journal ≡ self.old.name) × (self.new.name ≡ self.old.name) × (self.new.entries ≡ self.old.entries)
+            × (result.seen ≡ self.old.entries) }
     {
         Pen {
             marker: PhantomData,

@@ -18,6 +18,8 @@ macro_rules! again {
 }
 
 #[cfg(test)]
+mod answers;
+#[cfg(test)]
 mod copies;
 #[cfg(test)]
 mod forged;

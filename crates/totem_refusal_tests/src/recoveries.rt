@@ -24,7 +24,7 @@ const OLD_MESSAGES: [(u32, u16, Service); 8] = [
     (9, 3, Service::Agreed),
 ];
 
-fn app(service: Service) -> Body {
+pub fn app(service: Service) -> Body {
     Body::App {
         service,
         payload: Payload::of(Bytes::from_static(b"x")),
@@ -238,14 +238,15 @@ fn the_old_ring_is_left(rt: HostRuntime) -> Result<(), Fail> {
 }
 
 /// Submits a body.
-fn submit(state: &mut RingState, service: Service) -> Result<(), RingFault> {
+pub fn submit(state: &mut RingState, service: Service) -> Result<(), RingFault> {
     match state.submit(app(service)) {
         Err(RingFault::Memory) => state.submit(app(service)),
         answer => answer,
     }
 }
 
-fn visit(alloc: Global, state: &mut RingState) -> Result<RingOut, RingFault> {
+/// Returns what a member does when the first token comes.
+pub fn visit(alloc: Global, state: &mut RingState) -> Result<RingOut, RingFault> {
     let token = first_token(alloc, four());
     match state.on_token(alloc, &token) {
         Err(RingFault::Memory) => state.on_token(alloc, &token),

@@ -1,9 +1,8 @@
 -- Where no life but the first is named: from the words of the threads to the logs of their books.
-use Rattle.std.proofs.Common.{◌≡◌, ℕ, zero, suc, ◌<◌, ◌+◌, ◌-◌, ◌==◌, List, [], ◌∷◌, length, map, reverse, Bool, true, false, Ok, Err, IfSome, refl, arith}
+use Rattle.std.proofs.Common.{◌≡◌, ℕ, zero, suc, ◌<◌, ◌+◌, ◌-◌, ◌==◌, List, [], ◌∷◌, length, map, fold, Bool, true, false, Ok, Err, IfSome, refl, arith}
 use Rattle.std.specs.Prelude.{All, IfOk, slice_get}
 use Rattle.std.proofs.lemmas.Bool.{eqb-true}
-use Rattle.std.proofs.lemmas.List.{reverse-append}
-use Rattle.std.proofs.lemmas.List.Elements.{All-nil, All-cons, All-head, All-tail, All-append, All-push, All-map, All-weaker}
+use Rattle.std.proofs.lemmas.List.Elements.{All-nil, All-cons, All-head, All-tail, All-append, All-map, All-weaker}
 use Rattle.std.proofs.lemmas.List.Sums.{sum_by-cons}
 use Rattle.totem_names.specs.Ranks.{life_of}
 use Rattle.totem_names.specs.declared.version.Version.{Version}
@@ -19,12 +18,13 @@ use Rattle.totem_recover.specs.Lives.{first_rank, first_ranks}
 use Rattle.totem_core.specs.Nodes.{Stepped}
 use Rattle.totem_core.specs.Outcomes.{Outcome}
 use Rattle.totem_core.specs.Table.{step}
-use Rattle.totem_core.specs.Replay.{Life, lived, first_change}
+use Rattle.totem_core.specs.declared.input.Input.{Input}
+use Rattle.totem_core.specs.Replay.{Life, lived, born, one_input, first_change}
 use Rattle.totem_core.specs.FirstLives.{AreFirstReports, IsFirstInput, IsFirstEntry, IsFirstNode, IsFirstStep}
 use Rattle.totem_core.proofs.FirstLives.{step_stays}
 use Rattle.totem_net.specs.Nodes.{node_numbers}
 use Rattle.totem_books.specs.Calls.{Called, Receipt}
-use Rattle.totem_books.specs.Replay.{Start, lived_back, IsRecorded}
+use Rattle.totem_books.specs.Replay.{Start, IsRecorded}
 use Rattle.totem_books.specs.Receipts.{FitRising, count_at, count_in, Agree, Covers}
 use Rattle.totem_books.specs.Seats.{SeatRecord, Closed}
 use Rattle.totem_threads.specs.Starts.{starts}
@@ -98,25 +98,23 @@ lived_first : (life : Life) (o : Outcome Stepped) → IsFirstLife life → IfOk 
 lived_first life (Ok s) is stays = record { node = stays.node; entries = All-append IsFirstEntry life.entries s.entries is.entries stays.entries }
 lived_first life (Err fault) is stays = record { node = is.node; entries = is.entries }
 
-module _ (start : Start) (me : life_of start.me ≡ 1) (members : AreFirst start.members) where
-  back_first : (calls : List Called) → All IsFirstCall calls → IsFirstLife (lived_back start calls)
-  back_first [] all = record {
-    node = record { life = me; state = tt };
-    entries = All-cons IsFirstEntry (first_change start.ring start.members) [] members (All-nil IsFirstEntry);
-  }
-  back_first (call ∷ before) all =
-      let life = lived_back start before in
-      let is = back_first before (All-tail IsFirstCall call before all) in
-      lived_first life (step life.node call.input) is (step_stays life.node call.input is.node (All-head IsFirstCall call before all))
+lives_first : (inputs : List Input) (life : Life) → IsFirstLife life → All IsFirstInput inputs → IsFirstLife (fold one_input life inputs)
+lives_first [] life is all = is
+lives_first (i ∷ more) life is all =
+    let next = lived_first life (step life.node i) is (step_stays life.node i is.node (All-head IsFirstInput i more all)) in
+    lives_first more (one_input life i) next (All-tail IsFirstInput i more all)
 
-reversed : {X : Type 0} (P : X → Type 0) (xs : List X) → All P xs → All P (reverse xs)
-reversed P [] all = all
-reversed P (x ∷ xs) all = rw (reverse-append (x ∷ []) xs) (All-push P (reverse xs) x (reversed P xs (All-tail P x xs all)) (All-head P x xs all))
+born_first : (start : Start) → life_of start.me ≡ 1 → AreFirst start.members → IsFirstLife (born start.me start.ring start.members)
+born_first start me members = record {
+  node = record { life = me; state = tt };
+  entries = All-cons IsFirstEntry (first_change start.ring start.members) [] members (All-nil IsFirstEntry);
+}
 
 pub book_first : (start : Start) (calls : List Called) (log : List Entry) (seats : List SeatRecord) → IsRecorded start calls log → life_of start.me ≡ 1
     → AreFirst start.members → Agree calls seats → Covers calls seats → All IsFirstSeat seats → All IsFirstEntry log
 book_first start calls log seats recorded me members agree covers first =
-    rw recorded.log_is (back_first start me members (reverse calls) (reversed IsFirstCall calls (calls_first calls seats agree covers first))).entries
+    let inputs = All-map IsFirstInput (λ (call : Called). call.input) calls (calls_first calls seats agree covers first) in
+    rw recorded.log_is (lives_first _ (born start.me start.ring start.members) (born_first start me members) inputs).entries
 
 -- ---- the logs of all books
 

@@ -1,8 +1,8 @@
 -- From the time when a node is sealed, as it is in Recovery, its life has no step on the ring that is installed then.
 use Rattle.std.proofs.Common.{◌≡◌, ◌≢◌, ℕ, ◌+◌, ◌≤◌, List, [], ◌∷◌, ◌++◌, length, drop, Option, None, Some, IfOk, Ok, Err, refl, sym, ap, ◌∙◌, subst, append_assoc, true, is_some, length-append, arith}
-use Rattle.std.specs.Prelude.{All, fold}
+use Rattle.std.specs.Prelude.{All, fold, map}
 use Rattle.std.proofs.lemmas.Bool.{true≢false}
-use Rattle.std.proofs.lemmas.List.{append-nil}
+use Rattle.std.proofs.lemmas.List.{append-nil, map-append, length-map}
 use Rattle.std.proofs.lemmas.List.Sums.{fold-append}
 use Rattle.std.proofs.lemmas.List.Elements.{All-nil, All-push, All-same, All-weaker}
 use Rattle.std.proofs.Math.Seq.{drop-append_seam}
@@ -13,7 +13,9 @@ use Rattle.totem_core.specs.Nodes.{Node, Stepped, is_sealed}
 use Rattle.totem_core.specs.Outcomes.{Outcome}
 use Rattle.totem_core.specs.Table.{step}
 use Rattle.totem_core.specs.Replay.{Answer, Life, born, lived, one_input, replay}
-use Rattle.totem_weave.specs.Adopting.{TellsNoStepOn, replies_after, OnlyAdoptsLast}
+use Rattle.totem_books.specs.Calls.{Called}
+use Rattle.totem_books.specs.Replay.{replies_of}
+use Rattle.totem_weave.specs.Adopting.{TellsNoStepOn, replies_after, OnlyAdoptsLast, BooksAdoptLast}
 use Rattle.totem_weave.proofs.Standing.{Suits, NodeStands, Goes, least_from}
 use Rattle.totem_weave.proofs.Going.{step_goes}
 
@@ -111,3 +113,17 @@ adopts_last me ring members before more i adopted adopts =
     let is : n.filled ≡ Some adopts.recovering.ring.ring =
     subst (λ (state : State). Suits state n.filled) adopts.recovers (has_lived me ring members before).stands.suits in
     rw adopts.of_installed (none_once_sealed me ring members before (ap is_some is) (i ∷ more))
+
+pub books_adopt : BooksAdoptLast
+books_adopt start before more call log adopted recorded adopts =
+    let input : Called → Input = λ (c : Called). c.input in
+    let life : List Input → List (Outcome Answer) = λ (inputs : List Input). (replay start.me start.ring start.members inputs).replies in
+    let stored : replies_of before ++ replies_of (call ∷ more) ≡ life (map input before ++ map input (call ∷ more)) =
+    sym (map-append (λ (c : Called). c.reply) before (call ∷ more)) ∙ recorded.replies_are ∙ ap life (map-append input before (call ∷ more)) in
+    let many : length (map input before) ≡ length (replies_of before) =
+    omega (arith, length-map before input, length-map before (λ (c : Called). c.reply)) in
+    let later : replies_of (call ∷ more) ≡ replies_after start.me start.ring start.members (map input before) (map input (call ∷ more)) =
+    sym (drop-append_seam (replies_of before) (replies_of (call ∷ more))) ∙ ap (drop (length (replies_of before))) stored
+    ∙ ap (λ (k : ℕ). drop k (life (map input before ++ map input (call ∷ more)))) (sym many) in
+    All-same (TellsNoStepOn adopted.ring) _ _ later
+    (adopts_last start.me start.ring start.members (map input before) (map input more) call.input adopted adopts)

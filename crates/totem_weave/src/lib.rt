@@ -6,7 +6,8 @@
 //!   (`IsWoven`, specs/Woven). Of the lists of messages that any two members delivered to their nodes, one is a prefix of the other
 //!   (`AreOneOrder`).
 //! - `Members` comes exactly if books and members don't fit; an `Orphan` is a member's call that is in no schedule (`Refuses`).
-//! - A node takes no step on a ring after it has adopted a message of it: the law `only_adopts_last` (specs/Adopting).
+//! - A node takes no step on a ring after it has adopted a message of it: the law `only_adopts_last`, and of
+//!   a closed book `books_adopt_last` (specs/Adopting).
 //! - The laws from `state_is_own` to `whole_is_one_order` say why a search member by member finds all (specs/Laws).
 //!
 //! Nothing is assumed of the network or the threads: the books alone say what was on the ring.
@@ -26,7 +27,7 @@ mod weaver;
 mod weaving;
 mod woven;
 
-pub use adopting::only_adopts_last;
+pub use adopting::{books_adopt_last, only_adopts_last};
 pub use fault::WeaveFault;
 pub use laws::{
     left_is_orphan, others_leave, own_sent_grows, sent_grows, sent_is_own, state_is_own,

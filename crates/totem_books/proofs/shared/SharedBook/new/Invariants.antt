@@ -10,4 +10,5 @@ invariant-loop g l = record {
   named : l.journal.name ≡ g.L.BookName.journal;
   blank : l.journal.entries ≡ [];
   empty : All (λ seat. (seat.stubs ≡ []) × (seat.share ≡ 0)) l.empty.items;
+  unseen : All (λ seat. seat.seen ≡ []) l.empty.items;
 }

@@ -27,4 +27,4 @@ pen_spec 𝓤 𝓛 𝓜 𝓡 wired E _ =
     move ! (2 ∷ []) $ use0 𝓛 (‵ ((Token E').own_val (record {}, tt) (token ∷ []))) (token_made E' 𝓛) $ fjoin ! $
     sets ! (agg ! (no_more !)) refl (tt, tt) $ sets ! (agg ! (and_then ! (get ! refl) (no_more !))) refl (tt, (tt, tt)) $
     returns ! (look_at ! 0 refl) $ free_all ! refl $ keep ! (1 ∷ 2 ∷ 0 ∷ []) $
-    by ! (ends 𝓛 En hs c y token (record { marker = record {}; journal = j.name; mark = m; seen = j.entries }) (j, tt) (tt, tt) (fact_i 𝓤 _ (emp 𝓤) (refl, refl, refl)))))))
+    by ! (ends 𝓛 En hs c y token (record { marker = record {}; journal = j.name; mark = m; seen = j.entries }) (j, tt) (tt, tt) (fact_i 𝓤 _ (emp 𝓤) (refl, refl, refl, refl)))))))
