@@ -8,7 +8,7 @@ use Rattle.totem_evs.specs.ClosedLists.{IsCycle}
 use Rattle.totem_evs.specs.Certificates.{Numbering}
 use Rattle.totem_evs.specs.Positions.{IsPositions}
 use Rattle.totem_pass_ab.specs.Listed.{ListsFirst}
-use Rattle.totem_check.specs.declared.accepted.Accepted.{Accepted}
+use Rattle.totem_outcome.specs.declared.accepted.Accepted.{Accepted}
 use Rattle.totem_check.specs.Judged.{IsMet}
 use Rattle.totem_audit.specs.Early.{BreaksEarly, ListsEarly}
 

@@ -1,6 +1,6 @@
 -- From what the passes list, and what is observed, to the judgement on a run whose events have an order.
 use Rattle.std.specs.Prelude.{Contains}
-use Rattle.std.proofs.Common.{◌≡◌, ◌≢◌, inl, inr, List, [], ◌∷◌, refl}
+use Rattle.std.proofs.Common.{◌≡◌, ◌≢◌, inl, inr, List, [], ◌∷◌, Ok, refl}
 use Rattle.totem_names.specs.declared.ring.RingId.{RingId}
 use Rattle.totem_evs.specs.declared.log.Log.{Log}
 use Rattle.totem_evs.specs.declared.fault.Fault.{Fault}
@@ -9,13 +9,13 @@ use Rattle.totem_evs.specs.Runs.{IsRun}
 use Rattle.totem_evs.specs.RingFaults.{MeetsIn}
 use Rattle.totem_evs.specs.Answers.{No, IsAnswered, HasCertificate, Lists, ListsRings, ListsConfigurations, MeetsPasses, pass_a, pass_b}
 use Rattle.totem_evs.specs.Certificates.{Numbering, Certified}
-use Rattle.totem_evs.proofs.Synchronous.{MeetsConfigurations, MeetsEach, meets_passes}
+use Rattle.totem_evs.proofs.Synchronous.{MeetsConfigurations, MeetsEach, meets_passes, meets_configurations, synchronous}
 use Rattle.totem_pass_ab.specs.Listed.{ListsFirst}
 use Rattle.totem_judge.specs.declared.judging.View.{View}
 use Rattle.totem_judge.specs.Judged.{Agree}
 use Rattle.totem_judge.proofs.Settled.{configurations}
-use Rattle.totem_check.specs.declared.accepted.Accepted.{Accepted}
-use Rattle.totem_check.specs.Checks.{ListsOpen}
+use Rattle.totem_outcome.specs.declared.accepted.Accepted.{Accepted}
+use Rattle.totem_outcome.specs.Checks.{ListsOpen, Checks}
 use Rattle.totem_check.specs.Judged.{IsViewOf, IsMet}
 use Rattle.totem_check.proofs.AllRings.{all_rings, is_first, in_rest}
 
@@ -62,3 +62,8 @@ pub met_agreed : (run : List Log) (lines : List Numbering) (view : View) (accept
     → ListsOpen run accepted → IsMet run accepted
 met_agreed run lines view accepted is certified seen agree open_lists =
     met_last run [] accepted seen.meets refl (lists_none run is (configurations run lines view.observed.items view.pending.items certified seen agree)) open_lists
+
+-- the result for a certified run: a yes
+pub accepted : (run : List Log) (lines : List Numbering) (open_lists : Accepted) → Certified run lines → IsMet run open_lists → Checks run lines (Ok open_lists)
+accepted run lines open_lists c met =
+    (record { certified = c; meets = synchronous run lines (meets_passes run met.a met.b) c (meets_configurations run met.d) }, met.lists)

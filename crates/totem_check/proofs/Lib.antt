@@ -1,3 +1,2 @@
 pub mod AllRings
 pub mod Judging
-pub mod Checking

@@ -7,13 +7,13 @@ use Rattle.totem_pass_ab.specs.Listed.{ListsFirst}
 use Rattle.totem_pass_d.specs.Jobs.{AreJobs}
 use Rattle.totem_judge.specs.declared.judging.View.{View}
 use Rattle.totem_judge.specs.Judged.{IsView}
-use Rattle.totem_check.specs.declared.accepted.Accepted.{Accepted}
+use Rattle.totem_outcome.specs.declared.accepted.Accepted.{Accepted}
 use Rattle.totem_check.specs.declared.early.Early.{Early}
 use Rattle.totem_check.specs.declared.early.Early.TheVariants.{Broken, Passed}
 use Rattle.totem_check.specs.declared.last_pass.LastPass.{LastPass}
 use Rattle.totem_check.specs.declared.judgement.Judgement.{Judgement}
 use Rattle.totem_check.specs.declared.judgement.Judgement.TheVariants as judgements
-use Rattle.totem_check.specs.Checks.{ListsOpen}
+use Rattle.totem_outcome.specs.Checks.{ListsOpen}
 
 -- the view is one of this run
 abbrev pub IsViewOf : List Log → View → Type 0

@@ -1,3 +1,1 @@
-pub mod CheckFaults
-pub mod Checks
 pub mod Judged

@@ -8,18 +8,17 @@
 //! If a rule says no, the passes (totem_pass_ab and totem_pass_d, with totem_table) search for what is broken. If they found nothing, the
 //! answer would be yes all the same, and would depend on them, too; but no such run is known.
 ghost use Rattle.totem_evs.specs.Certificates.{Certified};
-ghost use Rattle.totem_check.specs.Checks.{Checks, RefusesRightly};
+ghost use Rattle.totem_outcome.specs.Checks.{Checks, RefusesRightly};
 
-use crate::accepted::Accepted;
-use crate::check_fault::CheckFault;
 use crate::judgement::{Judgement, judge};
 use std::alloc::Global;
 use totem_certificate::Certificate;
 use totem_evs::Run;
 use totem_judge_certificate::certified;
+use totem_outcome::{Accepted, CheckFault};
 
 /// Judges a certified run: what it leaves open, or its first fault.
-#[tactic(auto, using(crate::proofs::Checking::starved))]
+#[tactic(auto, using(totem_outcome::proofs::Checking::starved))]
 fn judged(alloc: Global, run: &Run, certificate: &Certificate) -> Result<Accepted, CheckFault>
     requires { Certified run.now.logs certificate.now.lines }
     ensures { Checks run.now.logs certificate.now.lines result }

@@ -4,7 +4,6 @@ ghost use Rattle.totem_evs.specs.Answers.{HasCertificate, MeetsPasses};
 ghost use Rattle.totem_evs.specs.Certificates.{Certified};
 ghost use Rattle.totem_check.specs.Judged.{IsViewOf, IsJudged};
 
-use crate::accepted::Accepted;
 use crate::early::{Early, early_along};
 use crate::last_pass::LastPass;
 use std::alloc::{AllocError, Global};
@@ -12,6 +11,7 @@ use totem_certificate::Certificate;
 use totem_evs::{Fault, Run};
 use totem_judge::View;
 use totem_judge_run::waiting;
+use totem_outcome::Accepted;
 use totem_pass_d::pass_d_of;
 
 /// What is found of a run whose events have an order.

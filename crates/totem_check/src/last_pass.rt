@@ -3,12 +3,12 @@ ghost use Rattle.std.specs.Prelude.{IfOk, IfSome};
 ghost use Rattle.totem_evs.specs.Answers.{HasCertificate, MeetsPasses, ListsConfigurations};
 ghost use Rattle.totem_check.specs.Judged.{IsViewOf, IsLastPass, IsJudged};
 
-use crate::accepted::Accepted;
 use crate::judgement::Judgement;
 use std::alloc::{AllocError, Global};
 use totem_evs::{Fault, Pending, Run};
 use totem_judge::View;
 use totem_judge_run::waiting;
+use totem_outcome::Accepted;
 use totem_pass_d::{Jobs, pending_of};
 
 /// The jobs of the last pass, and all that is pending.

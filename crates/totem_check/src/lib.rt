@@ -7,20 +7,20 @@
 //! `judge` judges a run along an order of its events (`IsJudged`, specs/Judged): the checker after the tests of the certificate, and the
 //! audit once it has found an order. `early_along` and `LastPass` are its parts, for an audit with workers.
 //!
+//! `check_plainly`, of totem_plain, has the contract of `check`, and tests each specification as it is defined, by plain loops.
+//!
 //! Module `checker` begins with what a yes depends on.
 #![tactic(auto)]
 
-mod accepted;
-mod check_fault;
 mod checker;
 mod early;
 mod judgement;
 mod last_pass;
 
-pub use accepted::Accepted;
-pub use check_fault::CheckFault;
 pub use checker::check;
 pub use early::{Early, early_along};
 pub use judgement::{Judgement, judge};
 pub use last_pass::LastPass;
-pub use totem_judge_certificate::{CertificateFault, certified};
+pub use totem_judge_certificate::certified;
+pub use totem_outcome::{Accepted, CertificateFault, CheckFault};
+pub use totem_plain::check_plainly;

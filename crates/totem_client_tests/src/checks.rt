@@ -1,7 +1,7 @@
 //! The checker: totem_check.
 use std::alloc::{AllocError, Global};
 use totem_cert::Certificate;
-use totem_check::{Accepted, CheckFault, check};
+use totem_check::{Accepted, CheckFault, check, check_plainly};
 use totem_evs::{Fault, Pending, Run, Waiting};
 
 pub fn checked(
@@ -10,6 +10,14 @@ pub fn checked(
     certificate: &Certificate,
 ) -> Result<Accepted, CheckFault> {
     check(alloc, run, certificate)
+}
+
+pub fn checked_plainly(
+    alloc: Global,
+    run: &Run,
+    certificate: &Certificate,
+) -> Result<Accepted, CheckFault> {
+    check_plainly(alloc, run, certificate)
 }
 
 pub fn left(accepted: Accepted) -> (Vec<Pending>, Vec<Waiting>) {

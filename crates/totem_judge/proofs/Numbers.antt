@@ -10,11 +10,10 @@ use Rattle.totem_evs.specs.declared.log.Log.{Log}
 use Rattle.totem_evs.specs.Events.{log_of}
 use Rattle.totem_evs.specs.Certificates.{Numbering, Matches, Certified}
 use Rattle.totem_evs.proofs.LogOf.{Rising, log_of_at, less_or_not}
-use Rattle.totem_judge_certificate.specs.Numbered.{Stands, place}
-use Rattle.totem_judge_certificate.specs.Rising.{RisesBefore}
-use Rattle.totem_judge_certificate.proofs.Matching.{line_at, matches_at}
-use Rattle.totem_judge_certificate.proofs.Walking.{at_index}
-use Rattle.totem_judge_certificate.proofs.Standing.{stands_at}
+use Rattle.totem_outcome.specs.Numbered.{Stands, place}
+use Rattle.totem_outcome.specs.Rising.{RisesBefore}
+use Rattle.totem_outcome.proofs.Matching.{line_at, matches_at}
+use Rattle.totem_outcome.proofs.Standing.{at_index, stands_at}
 use Rattle.totem_judge_traffic.specs.Traffics.{IsLogAt}
 use Rattle.totem_judge.specs.Events.{IsEventAt}
 

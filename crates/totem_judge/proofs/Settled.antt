@@ -15,7 +15,7 @@ use Rattle.totem_evs.specs.Certificates.{Numbering, Certified}
 use Rattle.totem_evs.specs.Synchrony.{IsVirtuallySynchronous}
 use Rattle.totem_evs.proofs.Synchronous.{MeetsConfigurations, synchronous}
 use Rattle.totem_evs.proofs.Originating.{ring_of_send}
-use Rattle.totem_judge_certificate.proofs.Walking.{at_index}
+use Rattle.totem_outcome.proofs.Standing.{at_index}
 use Rattle.totem_judge_traffic.specs.declared.observed.Observed.{Observed}
 use Rattle.totem_judge_traffic.specs.Clean.{AgreesIn}
 use Rattle.totem_judge_traffic.specs.Pending.{IsPendingIn}

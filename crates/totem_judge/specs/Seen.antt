@@ -4,7 +4,7 @@ use Rattle.totem_names.specs.declared.conf.ConfId.{ConfId}
 use Rattle.totem_evs.specs.declared.log.Log.{Log}
 use Rattle.totem_evs.specs.Events.{ChangesWith}
 use Rattle.totem_evs.specs.Certificates.{Numbering}
-use Rattle.totem_judge_certificate.specs.Rising.{RisesBefore}
+use Rattle.totem_outcome.specs.Rising.{RisesBefore}
 use Rattle.totem_judge_traffic.specs.declared.log_set.LogSet.{LogSet}
 use Rattle.totem_judge_traffic.specs.declared.traffic.MemberLogs.{MemberLogs}
 use Rattle.totem_judge_traffic.specs.declared.traffic.Traffic.{Traffic}

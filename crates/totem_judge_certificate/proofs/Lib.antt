@@ -1,8 +1,4 @@
-pub mod Matching
-pub mod Standing
 pub mod Entering
-pub mod Certain
-pub mod Exactly
 pub mod Naming
 pub mod Walking
 pub mod Passing

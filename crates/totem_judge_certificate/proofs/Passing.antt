@@ -15,11 +15,11 @@ use Rattle.totem_judge_certificate.specs.declared.class.Class.{Class}
 use Rattle.totem_judge_certificate.specs.declared.class.Class.TheVariants.{Delivery}
 use Rattle.totem_judge_certificate.specs.declared.walk.Head.{Head}
 use Rattle.totem_judge_certificate.specs.ClassOf.{class_of, has}
-use Rattle.totem_judge_certificate.specs.Numbered.{Stands}
-use Rattle.totem_judge_certificate.specs.Each.{SomeEvent}
-use Rattle.totem_judge_certificate.specs.Rising.{LinesRise}
+use Rattle.totem_outcome.specs.Numbered.{Stands}
+use Rattle.totem_outcome.specs.Each.{SomeEvent}
+use Rattle.totem_outcome.specs.Rising.{LinesRise}
 use Rattle.totem_judge_certificate.specs.Walks.{IsAhead, AreOne, IsLeastHead, IsPassed, AreClasses, class_barred_by, IsNew, IsOld, Adds, IsCleanTo, IsClean, IsUnclean}
-use Rattle.totem_judge_certificate.proofs.Certain.{sends_below, send_late, classes_one, class_split, others_apart}
+use Rattle.totem_outcome.proofs.Certain.{sends_below, send_late, classes_one, class_split, others_apart}
 use Rattle.totem_judge_certificate.proofs.Naming.{through, back, class_shared, shares_class, own_class_bars}
 use Rattle.totem_judge_certificate.proofs.Walking.{ahead_stands, positive_number, head_is_above, passed_or_next, one_ahead}
 

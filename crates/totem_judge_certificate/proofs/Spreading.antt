@@ -11,12 +11,12 @@ use Rattle.totem_judge_certificate.specs.declared.class.Class.{Class}
 use Rattle.totem_judge_certificate.specs.declared.class.Class.TheVariants.{Delivery}
 use Rattle.totem_judge_certificate.specs.declared.spread.Spread.{Spread}
 use Rattle.totem_judge_certificate.specs.ClassOf.{class_of}
-use Rattle.totem_judge_certificate.specs.Numbered.{Stands}
-use Rattle.totem_judge_certificate.specs.Each.{EachEvent, SomeEvent, EachPair, SomePair, IsIn}
-use Rattle.totem_judge_certificate.specs.Kinds.{SendIsBelow, SendIsNotBelow}
-use Rattle.totem_judge_certificate.specs.Certifying.{ClassesAreOne, TwinsAreApart}
+use Rattle.totem_outcome.specs.Numbered.{Stands}
+use Rattle.totem_outcome.specs.Each.{EachEvent, SomeEvent, EachPair, SomePair, IsIn}
+use Rattle.totem_outcome.specs.Kinds.{SendIsBelow, SendIsNotBelow}
+use Rattle.totem_outcome.specs.Certifying.{ClassesAreOne, TwinsAreApart}
 use Rattle.totem_judge_certificate.specs.Spreads.{least_of, Differs, IsLeastOf, IsEntered, IsKnown, IsNoted, IsTrueOf, KnowsTo, Knows, IsEarly, AreEarlyTo}
-use Rattle.totem_judge_certificate.proofs.Certain.{class_split, classes_one}
+use Rattle.totem_outcome.proofs.Certain.{class_split, classes_one}
 use Rattle.totem_judge_certificate.proofs.Naming.{class_shared, shares_class}
 use Rattle.totem_judge_certificate.proofs.Entering.{weaker_past, more_past, next_log, all_past}
 

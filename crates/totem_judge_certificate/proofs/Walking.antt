@@ -10,19 +10,13 @@ use Rattle.totem_evs.specs.Certificates.{Numbering, Matches}
 use Rattle.totem_evs.proofs.LogOf.{Rising, in_order, less_or_not}
 use Rattle.totem_certificate.specs.Keeping.{IsLine, IsCertificate}
 use Rattle.totem_judge_certificate.specs.declared.walk.Head.{Head}
-use Rattle.totem_judge_certificate.specs.Numbered.{Stands, place}
-use Rattle.totem_judge_certificate.specs.Each.{SomePair, IsIn}
-use Rattle.totem_judge_certificate.specs.Kinds.{NumberIsShared}
-use Rattle.totem_judge_certificate.specs.Rising.{LinesRise}
+use Rattle.totem_outcome.specs.Numbered.{Stands, place}
+use Rattle.totem_outcome.specs.Each.{SomePair, IsIn}
+use Rattle.totem_outcome.specs.Kinds.{NumberIsShared}
+use Rattle.totem_outcome.specs.Rising.{LinesRise}
 use Rattle.totem_judge_certificate.specs.Walks.{IsAhead, IsHead, IsPassed, NoneLeftTo, IsLeastHead, IsLeastTo, IsLesser, IsStepOf, IsStepped, AreOneBefore}
-use Rattle.totem_judge_certificate.proofs.Matching.{as_many, matches_at}
-use Rattle.totem_judge_certificate.proofs.Standing.{in_stands, one_in, locate}
-
--- what is at an index of a list
-pub at_index : {A : Type 0} → (xs : List A) (i : ℕ) → i < length xs → (x : A) × (slice_get xs i ≡ Some x)
-at_index [] i lt = absurd (omega arith)
-at_index (x ∷ xs) zero lt = (x, refl)
-at_index (x ∷ xs) (suc i) lt = at_index xs i (omega arith)
+use Rattle.totem_outcome.proofs.Matching.{as_many, matches_at}
+use Rattle.totem_outcome.proofs.Standing.{at_index, in_stands, one_in, locate}
 
 pub ahead_stands : (run : List Log) (lines : List Numbering) (passed : List ℕ) (i : ℕ) (e : Place) (x : Entry) (n : ℕ) → Rising run → Matches run lines → IsAhead run lines passed i e x n → Stands run lines e x n
 ahead_stands run lines passed i e x n rising matches h = in_stands run lines i h.at e x n rising matches h.is

@@ -1,9 +1,3 @@
 pub mod ClassOf
-pub mod Numbered
-pub mod Each
-pub mod Kinds
-pub mod Counts
-pub mod Rising
 pub mod Walks
 pub mod Spreads
-pub mod Certifying

@@ -10,8 +10,8 @@ use Rattle.totem_judge_certificate.specs.declared.class.Class.{Class}
 use Rattle.totem_judge_certificate.specs.declared.class.Class.TheVariants.{Delivery}
 use Rattle.totem_judge_certificate.specs.declared.spread.Spread.{Spread}
 use Rattle.totem_judge_certificate.specs.ClassOf.{class_of, class_order}
-use Rattle.totem_judge_certificate.specs.Each.{EachEvent, SomeEvent, EachPast}
-use Rattle.totem_judge_certificate.specs.Certifying.{TwinsAreApart}
+use Rattle.totem_outcome.specs.Each.{EachEvent, SomeEvent, EachPast}
+use Rattle.totem_outcome.specs.Certifying.{TwinsAreApart}
 
 -- the least number of a class, if it has any
 abbrev pub least_of : Spread → Class → Option ℕ

@@ -10,12 +10,12 @@ use Rattle.totem_evs.specs.Certificates.{Numbering}
 use Rattle.totem_judge_certificate.specs.declared.class.Class.{Class}
 use Rattle.totem_judge_certificate.specs.declared.walk.Head.{Head}
 use Rattle.totem_judge_certificate.specs.declared.class.Class.TheVariants.{Change, Delivery}
-use Rattle.totem_judge_certificate.specs.declared.certificate_fault.CertificateFault.{CertificateFault}
-use Rattle.totem_judge_certificate.specs.declared.certificate_fault.CertificateFault.TheVariants as faults
+use Rattle.totem_outcome.specs.declared.certificate_fault.CertificateFault.{CertificateFault}
+use Rattle.totem_outcome.specs.declared.certificate_fault.CertificateFault.TheVariants as faults
 use Rattle.totem_judge_certificate.specs.ClassOf.{class_of, has}
-use Rattle.totem_judge_certificate.specs.Numbered.{Stands}
-use Rattle.totem_judge_certificate.specs.Each.{SomeEvent, IsIn}
-use Rattle.totem_judge_certificate.specs.Certifying.{SendsAreBelow, SendIsLate, ClassesAreOne, TwinsAreApart, OthersAreApart, OthersShare}
+use Rattle.totem_outcome.specs.Numbered.{Stands}
+use Rattle.totem_outcome.specs.Each.{SomeEvent, IsIn}
+use Rattle.totem_outcome.specs.Certifying.{SendsAreBelow, SendIsLate, ClassesAreOne, TwinsAreApart, OthersAreApart, OthersShare}
 
 -- ---- where the walk is
 

@@ -1,7 +1,7 @@
 //! Tests whether there is a line for each log, and a number for each entry.
 ghost use Rattle.std.specs.Prelude.{◌↔◌, IsTrue, MatchBool};
 ghost use Rattle.totem_evs.specs.Certificates.{Matches};
-ghost use Rattle.totem_judge_certificate.specs.Counts.{IsLineOf};
+ghost use Rattle.totem_outcome.specs.Counts.{IsLineOf};
 
 use totem_certificate::Line;
 use totem_evs::Log;

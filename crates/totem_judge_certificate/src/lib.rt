@@ -9,7 +9,6 @@
 //! `rises` (specs/Rising) tests a list of numbers; totem_judge uses it, too. This crate uses no table, pass or search of the audit.
 #![tactic(auto)]
 
-mod certificate_fault;
 mod certification;
 mod class;
 mod counts;
@@ -18,6 +17,6 @@ mod sends;
 mod spread;
 mod walk;
 
-pub use certificate_fault::CertificateFault;
 pub use certification::certified;
 pub use rising::rises;
+pub use totem_outcome::CertificateFault;

@@ -1,6 +1,6 @@
 //! Tests whether the numbers of each log are ascending.
 ghost use Rattle.std.specs.Prelude.{MatchBool, length};
-ghost use Rattle.totem_judge_certificate.specs.Rising.{RisesBefore, FallsSomewhere, LinesRise, LineFalls};
+ghost use Rattle.totem_outcome.specs.Rising.{RisesBefore, FallsSomewhere, LinesRise, LineFalls};
 
 use totem_certificate::Line;
 

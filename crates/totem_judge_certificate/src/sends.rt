@@ -2,8 +2,8 @@
 ghost use Rattle.std.specs.Prelude.{◌↔◌, ◌+◌, ◌<◌, IsTrue, MatchBool, length};
 ghost use Rattle.totem_evs.specs.Certificates.{Matches};
 ghost use Rattle.totem_evs.specs.Runs.{IsRun};
-ghost use Rattle.totem_judge_certificate.specs.Each.{EachPair, SomePair};
-ghost use Rattle.totem_judge_certificate.specs.Kinds.{SendIsBelow, SendIsNotBelow};
+ghost use Rattle.totem_outcome.specs.Each.{EachPair, SomePair};
+ghost use Rattle.totem_outcome.specs.Kinds.{SendIsBelow, SendIsNotBelow};
 ghost use Rattle.totem_judge_certificate.specs.Spreads.{IsEarly, Knows, AreEarlyTo};
 
 use crate::class::Class;

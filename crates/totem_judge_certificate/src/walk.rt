@@ -5,9 +5,9 @@ ghost use Rattle.totem_names.specs.declared.place.Place.{Place};
 ghost use Rattle.totem_evs.specs.Certificates.{Matches};
 ghost use Rattle.totem_evs.specs.Runs.{IsRun};
 ghost use Rattle.totem_certificate.specs.Keeping.{IsCertificate};
-ghost use Rattle.totem_judge_certificate.specs.Each.{SomePair};
-ghost use Rattle.totem_judge_certificate.specs.Kinds.{NumberIsShared};
-ghost use Rattle.totem_judge_certificate.specs.Rising.{LinesRise};
+ghost use Rattle.totem_outcome.specs.Each.{SomePair};
+ghost use Rattle.totem_outcome.specs.Kinds.{NumberIsShared};
+ghost use Rattle.totem_outcome.specs.Rising.{LinesRise};
 ghost use Rattle.totem_judge_certificate.specs.Walks.{IsHead, IsAhead, IsLesser, IsLeastTo, IsStepped, AreOne, IsPassed, AreClasses, IsNew, IsOld, Adds, IsCleanTo, IsClean, IsUnclean};
 
 use crate::class::Class;

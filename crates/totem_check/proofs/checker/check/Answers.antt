@@ -1,4 +1,4 @@
-use Rattle.totem_check.proofs.Checking.{rightly}
+use Rattle.totem_outcome.proofs.Checking.{rightly}
 use Rattle.totem_check.proofs.checker.check.Goals as goal
 
 pub returns-clause-exact : goal.returns-clause-exact

@@ -1,4 +1,5 @@
-use Rattle.totem_check.proofs.Checking.{accepted, broken_first}
+use Rattle.totem_outcome.proofs.Checking.{broken_first}
+use Rattle.totem_check.proofs.Judging.{accepted}
 use Rattle.totem_check.proofs.checker.judged.Goals as goal
 
 pub returns-in-Yes : goal.returns-in-Yes

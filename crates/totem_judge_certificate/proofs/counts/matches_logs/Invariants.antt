@@ -1,4 +1,4 @@
-use Rattle.totem_judge_certificate.proofs.Matching.{LinesBefore}
+use Rattle.totem_outcome.proofs.Matching.{LinesBefore}
 use Rattle.totem_judge_certificate.proofs.counts.matches_logs.Given as goal
 
 abbrev pub invariant-loop-at : goal.invariant-loop-at

@@ -1,4 +1,4 @@
-use Rattle.totem_judge_certificate.specs.Rising.{RisesBefore}
+use Rattle.totem_outcome.specs.Rising.{RisesBefore}
 use Rattle.totem_judge_certificate.proofs.rising.rises.Given as goal
 
 abbrev pub invariant-loop-at : goal.invariant-loop-at

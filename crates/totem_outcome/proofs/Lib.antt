@@ -1,0 +1,5 @@
+pub mod Matching
+pub mod Standing
+pub mod Certain
+pub mod Exactly
+pub mod Checking

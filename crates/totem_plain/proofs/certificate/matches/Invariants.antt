@@ -1,0 +1,5 @@
+use Rattle.totem_outcome.proofs.Matching.{LinesBefore}
+use Rattle.totem_plain.proofs.certificate.matches.Given as goal
+
+abbrev pub invariant-loop-at : goal.invariant-loop-at
+invariant-loop-at l = LinesBefore l.logs l.lines l.at

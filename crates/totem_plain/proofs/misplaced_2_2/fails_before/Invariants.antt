@@ -1,0 +1,6 @@
+use Rattle.totem_plain.specs.Plain.{IsFailureAt}
+use Rattle.totem_plain.proofs.Loops.{NoneBelow}
+use Rattle.totem_plain.proofs.misplaced_2_2.fails_before.Given as goal
+
+abbrev pub invariant-loop-at : goal.invariant-loop-at
+invariant-loop-at l = NoneBelow (λ k. IsFailureAt l.log k) l.at

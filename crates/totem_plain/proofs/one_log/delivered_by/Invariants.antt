@@ -1,0 +1,6 @@
+use Rattle.totem_evs.specs.Events.{Delivers}
+use Rattle.totem_plain.proofs.Loops.{NoneBelow}
+use Rattle.totem_plain.proofs.one_log.delivered_by.Given as goal
+
+abbrev pub invariant-loop-at : goal.invariant-loop-at
+invariant-loop-at l = NoneBelow (λ k. Delivers l.log k l.message l.conf) l.at

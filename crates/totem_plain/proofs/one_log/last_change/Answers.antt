@@ -1,0 +1,6 @@
+use Rattle.std.proofs.lemmas.Option.{slice_get_within}
+use Rattle.totem_plain.proofs.Loops.{none_yet}
+use Rattle.totem_plain.proofs.one_log.last_change.Goals as goal
+
+pub returns-clause-none : goal.returns-clause-none
+returns-clause-none c = record { none = λ x last. none_yet _ _ c.loop-at.invariant _ c.loop-at-test.false (λ k ((y, (ms, at)), none). slice_get_within _ k _ at) last.index ((x, last.change), record { none = last.none_after }) }

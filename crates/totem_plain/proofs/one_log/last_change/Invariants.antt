@@ -1,0 +1,7 @@
+use Rattle.totem_evs.specs.Events.{IsChange}
+use Rattle.totem_plain.specs.Plain.{NoNextChange}
+use Rattle.totem_plain.proofs.Loops.{NoneBelow}
+use Rattle.totem_plain.proofs.one_log.last_change.Given as goal
+
+abbrev pub invariant-loop-at : goal.invariant-loop-at
+invariant-loop-at l = NoneBelow (λ k. IsChange l.log k × NoNextChange l.log k) l.at

@@ -1,0 +1,6 @@
+use Rattle.totem_plain.specs.Plain.{IsLastChangeBefore}
+use Rattle.totem_plain.proofs.Loops.{NoneBelow}
+use Rattle.totem_plain.proofs.one_log.stands_in.Given as goal
+
+abbrev pub invariant-loop-at : goal.invariant-loop-at
+invariant-loop-at l = NoneBelow (λ k. IsLastChangeBefore l.log l.conf l.end k) l.at

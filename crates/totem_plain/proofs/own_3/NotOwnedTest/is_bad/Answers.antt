@@ -1,0 +1,9 @@
+use Rattle.std.proofs.Common.{refl}
+use Rattle.std.proofs.lemmas.Option.{slice_get_read}
+use Rattle.totem_plain.proofs.Alone.{owned_told}
+use Rattle.totem_plain.proofs.own_3.NotOwnedTest.is_bad.Goals as goal
+
+pub returns : goal.returns
+returns c =
+    let at = slice_get_read c.args.log.now _ c.args.at c.index-log-at.result refl c.requires.within c.index-log-at.is in
+    owned_told c.args.self.now.run.now.logs c.args.self.now.ring.now c.args.proc c.args.at c.index-log-at.result _ (rw c.requires.log at at) c.is_unowned.ensures

@@ -1,0 +1,6 @@
+use Rattle.std.proofs.Common.{take}
+use Rattle.totem_evs.specs.Answers.{ListsRings}
+use Rattle.totem_plain.proofs.passes.faults_of.Given as goal
+
+abbrev pub invariant-loop-index : goal.invariant-loop-index
+invariant-loop-index l = ListsRings l.run.logs l.spec (take l.index l.rings) l.faults.items
