@@ -57,6 +57,7 @@ LINES = r'(?:[ -~]*\n)+'
 PICTURE = r'<svg [ -~]+\n%s' % LINES
 COUNTS = r'(?:count [a-z0-9.-]+ (?:0|%s)\n)+' % NUMBER
 UNTESTED = r'totem: not tested: [a-z0-9., -]+\n'
+VIEWS = r'The run: [ -~]+\n' + '(?:%s)?' % LINES
 YES, NO = r'Yes: [ -~]+\n' + LINES, r'No: [ -~]+\n' + LINES
 
 # The output and the errors for each status of each command (with its options other than workers).
@@ -64,6 +65,9 @@ FORMS = {
     'audit': {0: (_of_either(lambda texts: 'verdict yes\n%s%send\n' % (texts.left_open, texts.certificate)), ''),
               1: (_of_either(lambda texts: 'verdict no\n(?:%s)+end\n' % texts.fault), ''),
               2: ('', RUN_REFUSED)},
+    'audit --brief': {0: (_of_either(lambda texts: 'verdict yes\n%send\n' % texts.left_open), ''),
+                      1: (_of_either(lambda texts: 'verdict no\n(?:%s)+end\n' % texts.fault), ''),
+                      2: ('', RUN_REFUSED)},
     'check': {0: (_of_either(lambda texts: 'verdict yes\n%send\n' % texts.left_open), ''),
               1: (_of_either(lambda texts: 'verdict no\n%send\n' % texts.fault), ''),
               2: ('', '(?:%s|%s)' % (RUN_REFUSED, CERTIFICATE_REFUSED))},
@@ -72,6 +76,11 @@ FORMS = {
     'explain --counts': {0: (COUNTS, ''), 1: (COUNTS, ''), 2: ('', RUN_REFUSED + LINES)},
     'explain --counts --require': {0: (COUNTS, ''), 1: (COUNTS, ''), 2: ('', RUN_REFUSED + LINES), 5: (COUNTS, UNTESTED)},
     'explain --svg': {0: (PICTURE, ''), 1: (PICTURE, ''), 2: ('', RUN_REFUSED + LINES)},
+    'explain --views': {0: (VIEWS, ''), 1: (VIEWS, ''), 2: ('', RUN_REFUSED + LINES)},
+    'explain --svg --views': {0: (PICTURE, ''), 1: (PICTURE, ''), 2: ('', RUN_REFUSED + LINES)},
+    'explain --svg --fault': {1: (PICTURE, ''), 2: ('', RUN_REFUSED + LINES), 6: ('', r'totem: there is no fault [0-9]+: [ -~]+\n')},
+    'explain --message': {0: (r'Message [0-9.#]+\n' + LINES, ''), 2: ('', RUN_REFUSED + LINES),
+                          6: (r'No log sends or delivers [0-9.#]+\.\n', '')},
     'explain --script': {0: (RUN, ''), 2: ('', SCRIPT_REFUSED + LINES)},
     'sim': {0: (RUN, ''), 2: ('', SCRIPT_REFUSED)},
 }
@@ -84,7 +93,7 @@ FORMS = {
 def asked_for(words):
     """The key of the forms that the answer to these arguments may have."""
     names = [word.partition('=')[0] for word in words]
-    flags = [flag for flag in ('--svg', '--script', '--counts', '--require') if flag in names]
+    flags = [flag for flag in ('--svg', '--script', '--counts', '--require', '--views', '--message', '--fault', '--brief') if flag in names]
     return ' '.join([words[0], *flags])
 
 

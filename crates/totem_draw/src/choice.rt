@@ -1,7 +1,8 @@
 //! Which entries of a run are drawn.
+use crate::subject::Subject;
 use std::alloc::{AllocError, Global};
 use totem_evs::{Entry, Log, Run};
-use totem_explain::{Lane, entry_at};
+use totem_explain::{Absence, Excerpt, Lacked, Lane, entry_at};
 use totem_names::{MsgId, Place};
 
 /// A run with at most this many entries is drawn whole.
@@ -21,6 +22,7 @@ const FOLLOWED: usize = 150;
 struct Choice<'a> {
     is_whole: bool,
     places: &'a [Place],
+    absences: &'a [Absence],
     messages: Vec<MsgId>,
     /// How many entries with the messages may still be added.
     left: usize,
@@ -43,24 +45,40 @@ fn message_of(entry: &Entry) -> Option<MsgId> {
     }
 }
 
-/// Returns the messages that are sent or delivered at these places.
-fn messages_at(alloc: Global, run: &Run, places: &[Place]) -> Result<Vec<MsgId>, AllocError> {
+fn add_message(messages: &mut Vec<MsgId>, message: MsgId) -> Result<(), AllocError> {
+    if !messages.contains(&message) {
+        messages.push(message)?;
+    }
+    Ok(())
+}
+
+/// Returns the messages that are sent or delivered at the places of a subject, or that logs lack.
+fn messages_of(alloc: Global, subject: &Subject<'_>) -> Result<Vec<MsgId>, AllocError> {
     let mut messages = Vec::new(alloc);
-    for place in places.iter().take(PLACES) {
-        if let Some(message) = entry_at(run, *place).and_then(message_of) {
-            if !messages.contains(&message) {
-                messages.push(message)?;
-            }
+    for place in subject.places.iter().take(PLACES) {
+        if let Some(message) = entry_at(subject.run, *place).and_then(message_of) {
+            add_message(&mut messages, message)?;
+        }
+    }
+    for absence in subject.absences.iter().take(PLACES) {
+        if let Lacked::Delivery(message) = absence.event {
+            add_message(&mut messages, message)?;
         }
     }
     Ok(messages)
 }
 
+fn are_near(one: Place, other: Place) -> bool {
+    one.proc == other.proc && one.at.abs_diff(other.at) <= AROUND
+}
+
 impl<'a> Choice<'a> {
-    /// Returns whether an entry is near one of the places.
+    /// Returns whether an entry is near one of the places, or near the place at which a missing event was due.
     fn is_near(&self, place: Place) -> bool {
         let mut places = self.places.iter().take(PLACES);
-        places.any(|near| near.proc == place.proc && near.at.abs_diff(place.at) <= AROUND)
+        let mut absences = self.absences.iter().take(PLACES);
+        places.any(|near| are_near(*near, place))
+            || absences.any(|absence| are_near(absence.due, place))
     }
 
     /// Returns whether an entry has one of the messages and may be drawn, and if so counts it.
@@ -89,20 +107,29 @@ impl<'a> Choice<'a> {
     }
 }
 
-/// Returns the lanes of a run: all its entries if it is small, otherwise those near the places and those that send or deliver
+/// Returns the lanes of a subject's run: all its entries if it is small, otherwise those near the places and those that send or deliver
 /// the messages there. A log of which nothing is drawn has no lane.
-pub fn lanes_of(alloc: Global, run: &Run, places: &[Place]) -> Result<Vec<Lane>, AllocError> {
+pub fn lanes_of(alloc: Global, subject: &Subject<'_>) -> Result<Vec<Lane>, AllocError> {
+    let run = subject.run;
     let mut choice = Choice {
         is_whole: length(run) <= WHOLE,
-        places,
-        messages: messages_at(alloc, run, places)?,
+        places: subject.places,
+        absences: subject.absences,
+        messages: messages_of(alloc, subject)?,
         left: FOLLOWED,
     };
     let mut lanes = Vec::new(alloc);
     for log in run.logs.as_slice() {
         let shown = choice.shown_of(alloc, log)?;
         if shown.contains(&true) {
-            lanes.push(Lane::of(alloc, log, shown.as_slice())?)?;
+            lanes.push(Lane::of(
+                alloc,
+                Excerpt {
+                    log,
+                    entries: shown.as_slice(),
+                    absences: subject.absences,
+                },
+            )?)?;
         }
     }
     Ok(lanes)

@@ -1,11 +1,22 @@
 //! The events of the lanes.
 use crate::frame::Frame;
 use crate::marks::{number_of, told};
-use crate::shapes::{Point, push_bar, push_cross, push_dot, push_label, push_mark, push_ring};
+use crate::shapes::{
+    Point, push_bar, push_cross, push_dot, push_label, push_mark, push_missing, push_ring,
+};
 use crate::subject::Subject;
 use std::alloc::{AllocError, Global};
-use totem_explain::{Lane, Spot, What, place_name};
+use totem_explain::{Gap, Lane, Spot, What, place_name};
 use totem_names::{MsgId, Place};
+
+/// Adds a name below its event.
+fn push_below(text: &mut String, at: Point, name: &str) -> Result<(), AllocError> {
+    let below = Point {
+        x: at.x,
+        y: at.y.saturating_add(26),
+    };
+    push_label(text, below, name)
+}
 
 /// Adds the message's name below its event.
 fn push_name(
@@ -15,14 +26,19 @@ fn push_name(
     message: MsgId,
 ) -> Result<(), AllocError> {
     let name = format!(in alloc; "{message}")?;
-    let below = Point {
-        x: at.x,
-        y: at.y.saturating_add(26),
-    };
-    push_label(text, below, name.as_str())
+    push_below(text, at, name.as_str())
 }
 
-/// Returns how many letters the name at a spot has. It is the name of a message or of a configuration.
+/// Returns the text about entries that are left out: how many they are, and to how many configurations they change.
+fn gap_name(alloc: Global, gap: Gap) -> Result<String, AllocError> {
+    let Gap { entries, changes } = gap;
+    if changes == 0 {
+        return format!(in alloc; ".. {entries}");
+    }
+    format!(in alloc; ".. {entries}, {changes} conf")
+}
+
+/// Returns how many letters the name at a spot has.
 fn letters_at(alloc: Global, spot: &Spot) -> Result<usize, AllocError> {
     match spot.what {
         What::Send(message) | What::Delivery(message) => {
@@ -32,7 +48,9 @@ fn letters_at(alloc: Global, spot: &Spot) -> Result<usize, AllocError> {
             Some(conf) => Ok(format!(in alloc; "{conf}")?.len()),
             None => Ok(0),
         },
-        What::Failure | What::LeftOut(_) => Ok(0),
+        What::LeftOut(gap) => Ok(gap_name(alloc, gap)?.len()),
+        What::Lacking(event) => Ok(event.line(alloc)?.len()),
+        What::Failure => Ok(0),
     }
 }
 
@@ -50,6 +68,10 @@ pub fn most_letters(alloc: Global, lanes: &[Lane]) -> Result<usize, AllocError> 
 /// Adds the shape of the event at a spot.
 fn push_shape(alloc: Global, text: &mut String, at: Point, what: What) -> Result<(), AllocError> {
     match what {
+        What::Lacking(event) => {
+            push_missing(text, at)?;
+            push_below(text, at, event.line(alloc)?.as_str())
+        }
         What::Change => push_bar(text, at),
         What::Failure => push_cross(text, at),
         What::Send(message) => {
@@ -60,8 +82,8 @@ fn push_shape(alloc: Global, text: &mut String, at: Point, what: What) -> Result
             push_ring(text, at)?;
             push_name(alloc, text, at, message)
         }
-        What::LeftOut(count) => {
-            let words = format!(in alloc; ".. {count}")?;
+        What::LeftOut(gap) => {
+            let words = gap_name(alloc, gap)?;
             let below = Point {
                 x: at.x,
                 y: at.y.saturating_add(4),
@@ -89,10 +111,18 @@ fn push_spot(
     spot: &Spot,
     subject: &Subject<'_>,
 ) -> Result<(), AllocError> {
-    if let What::LeftOut(_) = spot.what {
-        return push_shape(alloc, text, at, spot.what);
-    }
     let run = subject.run;
+    match spot.what {
+        What::LeftOut(_) => return push_shape(alloc, text, at, spot.what),
+        What::Lacking(event) => {
+            let proc = place.proc.written(run.version);
+            let event = event.line(alloc)?;
+            write!(text, "<g><title>log {proc}: {event}</title>\n")?;
+            push_shape(alloc, text, at, spot.what)?;
+            return text.push_str("</g>\n");
+        }
+        _ => {}
+    }
     let event = told(alloc, run, place)?;
     let name = place_name(alloc, run.version, place)?;
     write!(text, "<g><title>{name}: {event}</title>\n")?;

@@ -1,6 +1,6 @@
 //! The lines from the sends of messages to their deliveries.
 use crate::frame::Frame;
-use crate::shapes::{Point, push_dashed, push_line};
+use crate::shapes::{Point, push_dashed, push_dashes, push_line};
 use std::alloc::AllocError;
 use totem_evs::Pending;
 use totem_explain::Lane;
@@ -32,18 +32,23 @@ fn push_lane(
     y: u32,
 ) -> Result<(), AllocError> {
     for spot in lane.spots.as_slice() {
-        let Some(message) = spot.delivers() else {
+        let Some(message) = spot.needs() else {
             continue;
         };
-        if let Some(from) = send_of(frame, lanes, message) {
-            let x = frame.middle(spot.slot);
+        let Some(from) = send_of(frame, lanes, message) else {
+            continue;
+        };
+        let x = frame.middle(spot.slot);
+        if spot.delivers().is_some() {
             push_line(text, from, Point { x, y })?;
+        } else {
+            push_dashes(text, from, Point { x, y })?;
         }
     }
     Ok(())
 }
 
-/// Adds a line for each delivery whose send is drawn too.
+/// Adds a line for each delivery whose send is drawn too, dashed for one that is missing.
 pub fn push_lines(text: &mut String, frame: &Frame, lanes: &[Lane]) -> Result<(), AllocError> {
     let mut number = 0u32;
     for lane in lanes {

@@ -29,7 +29,7 @@ pub fn lines_of(alloc: Global, run: &Run, places: &[Place]) -> Result<Vec<String
         number = number.saturating_add(1);
         let event = told(alloc, run, *place)?;
         let place = place_name(alloc, run.version, *place)?;
-        lines.push(format!(in alloc; "{number}: {place}, {event}")?)?;
+        lines.push(format!(in alloc; "({number}) {place}: {event}")?)?;
     }
     let more = places.len().saturating_sub(TOLD);
     if more > 0 {

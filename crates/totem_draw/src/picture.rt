@@ -1,5 +1,5 @@
 //! A whole picture (docs/PROGRAM.md, "Pictures").
-use crate::bands::push_bands;
+use crate::bands::Bands;
 use crate::choice::lanes_of;
 use crate::events::{most_letters, push_events};
 use crate::frame::{Frame, LINE, step_for};
@@ -10,15 +10,15 @@ use crate::subject::Subject;
 use crate::words::wrapped;
 use std::alloc::{AllocError, Global};
 use totem_evs::{Fault, Pending, Run};
-use totem_explain::{Lane, lay_out, rule_of};
+use totem_explain::{Lane, absences, lay_out, reason_of, rule_of};
 use totem_names::Place;
 
 /// The text below a picture that says how to read it.
 const LEGEND: &str =
-    "From left to right as each process saw it. A dot is a send, a ring a delivery, a bar a change of the configuration, whose band follows (dashed: transitional), a cross a failure, a dashed line a pending delivery.";
+    "From left to right as each process saw it. A dot is a send, a ring a delivery, a bar a change of the configuration, whose band follows (dashed: transitional), a cross a failure, a dashed ring an event that is missing, a dashed line to a ring behind the lane a pending delivery.";
 
 /// Adds lines of text, one below the other. The height is that of the first one's baseline.
-fn push_text(text: &mut String, from: u32, lines: &[String]) -> Result<(), AllocError> {
+pub fn push_text(text: &mut String, from: u32, lines: &[String]) -> Result<(), AllocError> {
     let mut y = from;
     for line in lines {
         push_words(text, Point { x: 16, y }, line.as_str())?;
@@ -36,14 +36,16 @@ fn push_lanes(
     subject: &Subject<'_>,
 ) -> Result<(), AllocError> {
     let run = subject.run;
-    push_bands(alloc, text, run.version, frame, lanes)?;
+    let bands = Bands::of_lanes(alloc, frame, lanes)?;
+    bands.push(alloc, text, run.version, frame)?;
     push_lines(text, frame, lanes)?;
     push_pending(text, frame, lanes, subject.pending)?;
+    bands.push_names(alloc, text, frame)?;
     push_events(alloc, text, frame, lanes, subject)
 }
 
 /// Returns the beginning of the picture, which names and describes it for people who cannot see it.
-fn opening(
+pub fn opening(
     alloc: Global,
     width: u32,
     height: u32,
@@ -60,14 +62,23 @@ fn opening(
     Ok(text)
 }
 
+/// Adds lines of text, those that are too long in several.
+pub fn push_wrapped(alloc: Global, list: &mut Vec<String>, text: &str) -> Result<(), AllocError> {
+    for line in text.lines() {
+        for part in wrapped(alloc, line)? {
+            list.push(part)?;
+        }
+    }
+    Ok(())
+}
+
 fn draw(alloc: Global, subject: &Subject<'_>) -> Result<String, AllocError> {
-    let mut lanes = lanes_of(alloc, subject.run, subject.places)?;
+    let mut lanes = lanes_of(alloc, subject)?;
     let slots = lay_out(alloc, lanes.as_mut_slice())?;
     let above = wrapped(alloc, subject.title)?;
     let mut below = lines_of(alloc, subject.run, subject.marked)?;
-    for line in wrapped(alloc, LEGEND)? {
-        below.push(line)?;
-    }
+    push_wrapped(alloc, &mut below, subject.why)?;
+    push_wrapped(alloc, &mut below, LEGEND)?;
     let lines = u32::try_from(above.len()).unwrap_or(u32::MAX);
     let frame = Frame {
         top: LINE.saturating_mul(lines.saturating_add(1)),
@@ -86,36 +97,51 @@ fn draw(alloc: Global, subject: &Subject<'_>) -> Result<String, AllocError> {
     Ok(text)
 }
 
-/// Returns the title of a fault's picture.
-fn title_of(alloc: Global, fault: &Fault, count: usize) -> Result<String, AllocError> {
+/// Returns the title of the picture of the fault with this number, of so many.
+fn title_of(
+    alloc: Global,
+    fault: &Fault,
+    number: usize,
+    count: usize,
+) -> Result<String, AllocError> {
     let spec = fault.spec;
     let rule = rule_of(spec);
     if count == 1 {
         return format!(in alloc; "No: the run breaks specification {spec}. It requires: {rule}");
     }
     format!(in alloc;
-        "No: the run breaks specification {spec}, the first of {count} faults. It requires: {rule}"
+        "No: the run breaks specification {spec}, fault {number} of {count}. It requires: {rule}"
     )
 }
 
-/// Draws the first fault of a run as a picture in SVG: the run around its places, which are marked by their numbers. A small run
-/// is drawn whole.
-pub fn draw_no(alloc: Global, run: &Run, faults: &[Fault]) -> Result<String, AllocError> {
-    let Some(fault) = faults.first() else {
-        return draw_yes(alloc, run, &[]);
+/// Draws a fault of a run as a picture in SVG: the run around its places, which are marked by their numbers, and around the places at which
+/// something is missing. A small run is drawn whole. Faults are counted from 1; returns `None` if the run has no such fault.
+pub fn draw_no(
+    alloc: Global,
+    run: &Run,
+    faults: &[Fault],
+    number: usize,
+) -> Result<Option<String>, AllocError> {
+    let Some(fault) = faults.get(number.saturating_sub(1)) else {
+        return Ok(None);
     };
-    let title = title_of(alloc, fault, faults.len())?;
+    let title = title_of(alloc, fault, number, faults.len())?;
     let places = fault.places.as_slice();
-    draw(
+    let absences = absences(alloc, run, fault)?;
+    let why = reason_of(alloc, run, fault)?;
+    let text = draw(
         alloc,
         &Subject {
             run,
             title: title.as_str(),
             places,
             marked: places,
+            absences: absences.as_slice(),
+            why: why.as_str(),
             pending: &[],
         },
-    )
+    )?;
+    Ok(Some(text))
 }
 
 /// Returns the place of the last entry of each log.
@@ -141,6 +167,8 @@ pub fn draw_yes(alloc: Global, run: &Run, pending: &[Pending]) -> Result<String,
             title: "Yes: the run meets specifications 1 to 7.",
             places: places.as_slice(),
             marked: &[],
+            absences: &[],
+            why: "",
             pending,
         },
     )

@@ -9,13 +9,16 @@ pub struct Point {
 }
 
 /// The colours of configurations, which colour-blind people can tell apart.
-const COLOURS: [&str; 6] = [
+const COLOURS: [&str; COLOUR_COUNT] = [
     "#56b4e9", "#e69f00", "#009e73", "#f0e442", "#cc79a7", "#0072b2",
 ];
 
-/// Returns the colour of the n-th configuration.
+/// How many colours there are.
+pub const COLOUR_COUNT: usize = 6;
+
+/// Returns the n-th colour.
 fn colour(n: usize) -> &'static str {
-    match COLOURS.get(n % COLOURS.len()) {
+    match COLOURS.get(n % COLOUR_COUNT) {
         Some(colour) => colour,
         None => "#56b4e9",
     }
@@ -27,16 +30,16 @@ pub fn push_words(text: &mut String, at: Point, words: &str) -> Result<(), Alloc
     write!(text, "<text x='{x}' y='{y}'>{words}</text>\n")
 }
 
-/// Adds a short text centred at a point.
+/// Adds a short text centred at a point, with a white edge, which covers what was drawn there before.
 pub fn push_label(text: &mut String, at: Point, words: &str) -> Result<(), AllocError> {
     let Point { x, y } = at;
     write!(
         text,
-        "<text x='{x}' y='{y}' text-anchor='middle' font-size='10'>{words}</text>\n"
+        "<text x='{x}' y='{y}' text-anchor='middle' font-size='10' paint-order='stroke' stroke='#ffffff' stroke-width='3'>{words}</text>\n"
     )
 }
 
-/// Adds the band of the n-th configuration, which is dashed if that is transitional.
+/// Adds the band of a configuration in the n-th colour, which is dashed if that is transitional.
 pub fn push_band(
     text: &mut String,
     at: Point,
@@ -67,13 +70,23 @@ pub fn push_line(text: &mut String, from: Point, to: Point) -> Result<(), AllocE
     )
 }
 
-/// Adds the dashed line of a message from its send to a delivery that may still happen.
-pub fn push_dashed(text: &mut String, from: Point, to: Point) -> Result<(), AllocError> {
+/// Adds the dashed line of a message from its send to where its delivery is missing.
+pub fn push_dashes(text: &mut String, from: Point, to: Point) -> Result<(), AllocError> {
     let Point { x, y } = from;
     let Point { x: end, y: bottom } = to;
     write!(
         text,
-        "<line x1='{x}' y1='{y}' x2='{end}' y2='{bottom}' stroke='#555555' stroke-dasharray='5 4'/>\n<circle cx='{end}' cy='{bottom}' r='6' fill='#ffffff' stroke='#555555' stroke-dasharray='3 2'/>\n"
+        "<line x1='{x}' y1='{y}' x2='{end}' y2='{bottom}' stroke='#555555' stroke-dasharray='5 4'/>\n"
+    )
+}
+
+/// Adds the dashed line of a message from its send to a delivery that may still happen, and that delivery.
+pub fn push_dashed(text: &mut String, from: Point, to: Point) -> Result<(), AllocError> {
+    push_dashes(text, from, to)?;
+    let Point { x: end, y: bottom } = to;
+    write!(
+        text,
+        "<circle cx='{end}' cy='{bottom}' r='6' fill='#ffffff' stroke='#555555' stroke-dasharray='3 2'/>\n"
     )
 }
 
@@ -89,6 +102,15 @@ pub fn push_ring(text: &mut String, at: Point) -> Result<(), AllocError> {
     write!(
         text,
         "<circle cx='{x}' cy='{y}' r='6' fill='#ffffff' stroke='#000000' stroke-width='2'/>\n"
+    )
+}
+
+/// Adds a dashed ring, for an event that is missing.
+pub fn push_missing(text: &mut String, at: Point) -> Result<(), AllocError> {
+    let Point { x, y } = at;
+    write!(
+        text,
+        "<circle cx='{x}' cy='{y}' r='8' fill='#ffffff' stroke='#b34700' stroke-width='2' stroke-dasharray='3 2'/>\n"
     )
 }
 

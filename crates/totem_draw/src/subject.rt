@@ -1,5 +1,6 @@
 //! The subject of a picture.
 use totem_evs::{Pending, Run};
+use totem_explain::Absence;
 use totem_names::Place;
 
 /// What a picture shows of a run.
@@ -11,5 +12,9 @@ pub struct Subject<'a> {
     pub places: &'a [Place],
     /// The places that are marked with their numbers.
     pub marked: &'a [Place],
+    /// The events whose absence is the fault.
+    pub absences: &'a [Absence],
+    /// Why it is a fault, in lines.
+    pub why: &'a str,
     pub pending: &'a [Pending],
 }

@@ -1,5 +1,5 @@
 -- How many entries of each kind a run has (docs/SPECIFICATIONS.md, "Counts").
-use Rattle.std.specs.Prelude.{◌≡◌, ◌≤◌, ◌+◌, ℕ, List, [], ◌∷◌, length, filter, Bool, true, false}
+use Rattle.std.specs.Prelude.{◌≡◌, ◌≤◌, ◌+◌, ℕ, List, length, filter, Bool, true, false}
 use Rattle.std.specs.List.{flat_map}
 use Rattle.totem_names.specs.declared.conf.ConfId.TheVariants.{Regular, Transitional}
 use Rattle.totem_names.specs.declared.message.Service.TheVariants.{Agreed, Safe}

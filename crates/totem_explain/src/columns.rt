@@ -1,6 +1,7 @@
 //! The lines of the logs around the places of a fault, side by side.
+use crate::absence::Absence;
 use crate::event::line_of;
-use crate::lane::{Lane, Spot, What};
+use crate::lane::{Excerpt, Gap, Lane, Spot, What};
 use crate::layout::lay_out;
 use crate::lookup::{entry_of, log_of};
 use std::alloc::{AllocError, Global};
@@ -9,9 +10,6 @@ use totem_names::{Place, Version};
 
 /// How many entries are shown before and after a place.
 const AROUND: u32 = 2;
-
-/// How many letters a row has at most, unless a single column has more.
-const WIDTH: usize = 110;
 
 /// How many spaces precede the first column.
 const INDENT: usize = 2;
@@ -27,44 +25,84 @@ enum Shown {
     Marked,
 }
 
-/// Marks entry `at`, counted from 1, and shows those around it.
-fn mark(shown: &mut Vec<Shown>, at: u32) {
-    for near in at.saturating_sub(AROUND)..=at.saturating_add(AROUND) {
-        let Some(index) = near.checked_sub(1) else {
-            continue;
-        };
-        if let Some(one) = shown.get_mut(index as usize) {
-            if near == at {
-                *one = Shown::Marked;
-            } else if *one == Shown::LeftOut {
+/// Shows the entries of a log from one to another, counted from 1, if it has them.
+fn show(shown: &mut Vec<Shown>, from: u32, to: u32) {
+    for near in from.max(1)..=to {
+        if let Some(one) = shown.get_mut(near.saturating_sub(1) as usize) {
+            if *one == Shown::LeftOut {
                 *one = Shown::Near;
             }
         }
     }
 }
 
-/// Returns for each entry of a log whether it is shown.
-fn shown_of(alloc: Global, log: &Log, places: &[Place]) -> Result<Vec<Shown>, AllocError> {
-    let entries = log.entries.as_slice();
-    let mut shown = Vec::with_capacity(alloc, entries.len())?;
-    for _ in entries {
-        shown.push(Shown::LeftOut)?;
+/// Marks entry `at`, counted from 1, and shows those around it.
+fn mark(shown: &mut Vec<Shown>, at: u32) {
+    show(shown, at.saturating_sub(AROUND), at.saturating_add(AROUND));
+    if let Some(one) = shown.get_mut(at.saturating_sub(1) as usize) {
+        *one = Shown::Marked;
     }
-    for place in places {
-        if place.proc == log.proc {
-            mark(&mut shown, place.at);
-        }
-    }
-    Ok(shown)
 }
 
-/// Returns what is shown of a log.
-fn lane_of(alloc: Global, log: &Log, shown: &[Shown]) -> Result<Lane, AllocError> {
-    let mut is_shown = Vec::with_capacity(alloc, shown.len())?;
-    for one in shown {
-        is_shown.push(*one != Shown::LeftOut)?;
+/// What the columns are about.
+#[derive(Clone, Copy)]
+pub struct Focus<'a> {
+    pub run: &'a Run,
+    /// The places of the fault.
+    pub places: &'a [Place],
+    /// The events whose absence is the fault.
+    pub absences: &'a [Absence],
+}
+
+impl Focus<'_> {
+    /// Returns whether a log has one of the places, or lacks one of the events.
+    fn has(&self, log: &Log) -> bool {
+        let mut places = self.places.iter();
+        let mut absences = self.absences.iter();
+        places.any(|place| place.proc == log.proc)
+            || absences.any(|absence| absence.due.proc == log.proc)
     }
-    Lane::of(alloc, log, is_shown.as_slice())
+
+    /// Returns for each entry of a log whether it is shown.
+    fn shown_of(&self, alloc: Global, log: &Log) -> Result<Vec<Shown>, AllocError> {
+        let entries = log.entries.as_slice();
+        let mut shown = Vec::with_capacity(alloc, entries.len())?;
+        for _ in entries {
+            shown.push(Shown::LeftOut)?;
+        }
+        for absence in self.absences {
+            if absence.due.proc == log.proc {
+                let due = absence.due.at;
+                show(
+                    &mut shown,
+                    due.saturating_sub(AROUND),
+                    due.saturating_add(1),
+                );
+            }
+        }
+        for place in self.places {
+            if place.proc == log.proc {
+                mark(&mut shown, place.at);
+            }
+        }
+        Ok(shown)
+    }
+
+    /// Returns what is shown of a log.
+    fn lane_of(&self, alloc: Global, log: &Log, shown: &[Shown]) -> Result<Lane, AllocError> {
+        let mut is_shown = Vec::with_capacity(alloc, shown.len())?;
+        for one in shown {
+            is_shown.push(*one != Shown::LeftOut)?;
+        }
+        Lane::of(
+            alloc,
+            Excerpt {
+                log,
+                entries: is_shown.as_slice(),
+                absences: self.absences,
+            },
+        )
+    }
 }
 
 /// The text of a column in one row.
@@ -91,7 +129,19 @@ fn closing(ending: Ending) -> &'static str {
     }
 }
 
-/// Returns the text of the cell of a spot: the entry with its number and its mark, if any, or how many entries are left out.
+/// Returns how many entries are left out, and how many of them are changes.
+fn gap_text(alloc: Global, gap: Gap) -> Result<String, AllocError> {
+    let Gap { entries, changes } = gap;
+    let noun = if entries == 1 { "entry" } else { "entries" };
+    match changes {
+        0 => format!(in alloc; "    .. {entries} {noun}"),
+        1 => format!(in alloc; "    .. {entries} {noun}, 1 change"),
+        _ => format!(in alloc; "    .. {entries} {noun}, {changes} changes"),
+    }
+}
+
+/// Returns the text of the cell of a spot: the entry with its number and its mark, if any, how many entries are left out, or what is
+/// missing.
 fn cell_text(
     alloc: Global,
     version: Version,
@@ -100,8 +150,11 @@ fn cell_text(
     shown: &[Shown],
 ) -> Result<String, AllocError> {
     match spot.what {
-        What::LeftOut(1) => return String::from_str(alloc, "    .. 1 entry"),
-        What::LeftOut(count) => return format!(in alloc; "    .. {count} entries"),
+        What::LeftOut(gap) => return gap_text(alloc, gap),
+        What::Lacking(event) => {
+            let line = event.line(alloc)?;
+            return format!(in alloc; "    -  {line}");
+        }
         _ => {}
     }
     let at = spot.before.saturating_add(1);
@@ -196,17 +249,18 @@ fn push_rows(text: &mut String, columns: &mut [Column], last: u32) -> Result<(),
     Ok(())
 }
 
-/// Adds as many columns side by side as there is space for, and the others below them.
+/// Adds as many columns side by side as fit, and the others below them.
 fn push_columns(
     alloc: Global,
     text: &mut String,
     columns: Vec<Column>,
     last: u32,
+    most: usize,
 ) -> Result<(), AllocError> {
     let mut side_by_side: Vec<Column> = Vec::new(alloc);
     let mut width = INDENT;
     for column in columns {
-        if !side_by_side.is_empty() && width.saturating_add(column.width) > WIDTH {
+        if !side_by_side.is_empty() && width.saturating_add(column.width) > most {
             push_rows(text, side_by_side.as_mut_slice(), last)?;
             side_by_side.clear();
             width = INDENT;
@@ -217,15 +271,17 @@ fn push_columns(
     push_rows(text, side_by_side.as_mut_slice(), last)
 }
 
-/// Returns the logs that have one of the places, side by side: the places, marked with `>`, and up to two entries before and after
-/// each. Each log goes from top to bottom, and a delivery is below its send if both are shown.
-pub fn columns(alloc: Global, run: &Run, places: &[Place]) -> Result<String, AllocError> {
+/// Returns the logs that have one of the places or lack one of the events, side by side: the places, marked with `>`, up to two entries before
+/// and after each, and, without a number, what is missing. Each log goes from top to bottom, and a delivery is below its send if both are
+/// shown. A row has at most `most` letters, unless a single column has more.
+pub fn columns(alloc: Global, focus: &Focus<'_>, most: usize) -> Result<String, AllocError> {
+    let run = focus.run;
     let mut shown = Vec::new(alloc);
     let mut lanes = Vec::new(alloc);
     for log in run.logs.as_slice() {
-        if places.iter().any(|place| place.proc == log.proc) {
-            let of_log = shown_of(alloc, log, places)?;
-            lanes.push(lane_of(alloc, log, of_log.as_slice())?)?;
+        if focus.has(log) {
+            let of_log = focus.shown_of(alloc, log)?;
+            lanes.push(focus.lane_of(alloc, log, of_log.as_slice())?)?;
             shown.push(of_log)?;
         }
     }
@@ -237,6 +293,6 @@ pub fn columns(alloc: Global, run: &Run, places: &[Place]) -> Result<String, All
         }
     }
     let mut text = String::new(alloc);
-    push_columns(alloc, &mut text, columns, last)?;
+    push_columns(alloc, &mut text, columns, last, most)?;
     Ok(text)
 }

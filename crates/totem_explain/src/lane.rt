@@ -1,7 +1,15 @@
 //! What is shown of a log.
+use crate::absence::{Absence, Lacked};
 use std::alloc::{AllocError, Global};
 use totem_evs::{Ending, Entry, Log};
 use totem_names::{ConfId, MsgId, Place, Proc};
+
+/// Entries that are left out: how many, and to how many configurations they change.
+#[derive(Clone, Copy, Debug, PartialEq, Eq)]
+pub struct Gap {
+    pub entries: u32,
+    pub changes: u32,
+}
 
 /// What a spot of a lane shows.
 #[derive(Clone, Copy, Debug, PartialEq, Eq)]
@@ -10,8 +18,9 @@ pub enum What {
     Send(MsgId),
     Delivery(MsgId),
     Failure,
-    /// This many entries that are left out.
-    LeftOut(u32),
+    LeftOut(Gap),
+    /// An event that the log lacks here.
+    Lacking(Lacked),
 }
 
 impl What {
@@ -46,6 +55,14 @@ impl Spot {
         }
     }
 
+    /// Returns the message that has to be sent before this spot, if any: the one that is delivered here, or should have been.
+    pub fn needs(&self) -> Option<MsgId> {
+        match self.what {
+            What::Delivery(message) | What::Lacking(Lacked::Delivery(message)) => Some(message),
+            _ => None,
+        }
+    }
+
     /// Returns the message that is delivered at this spot.
     pub fn delivers(&self) -> Option<MsgId> {
         match self.what {
@@ -65,6 +82,22 @@ pub struct Lane {
     pub placed: usize,
 }
 
+const NO_GAP: Gap = Gap {
+    entries: 0,
+    changes: 0,
+};
+
+impl Gap {
+    /// Returns these entries and one more.
+    fn with(&self, entry: &Entry) -> Gap {
+        let is_change = matches!(entry, Entry::Conf(..));
+        Gap {
+            entries: self.entries.saturating_add(1),
+            changes: self.changes.saturating_add(u32::from(is_change)),
+        }
+    }
+}
+
 /// A log of which some entries have been read, and what is shown of them.
 #[derive(Drop)]
 struct Reading {
@@ -72,8 +105,8 @@ struct Reading {
     read: u32,
     /// The configuration of the process.
     conf: Option<ConfId>,
-    /// How many entries have been left out since the last one that is shown.
-    left_out: u32,
+    /// The entries that have been left out since the last one that is shown.
+    left_out: Gap,
 }
 
 impl Reading {
@@ -89,11 +122,11 @@ impl Reading {
 
     /// Adds a spot for the entries left out, if any were.
     fn end_gap(&mut self) -> Result<(), AllocError> {
-        if self.left_out == 0 {
+        if self.left_out.entries == 0 {
             return Ok(());
         }
         self.add(What::LeftOut(self.left_out))?;
-        self.left_out = 0;
+        self.left_out = NO_GAP;
         Ok(())
     }
 
@@ -102,7 +135,7 @@ impl Reading {
         if is_shown {
             self.end_gap()?;
         } else {
-            self.left_out = self.left_out.saturating_add(1);
+            self.left_out = self.left_out.with(entry);
         }
         if let Entry::Conf(to, _) = entry {
             self.conf = Some(*to);
@@ -111,6 +144,30 @@ impl Reading {
             self.add(What::of(entry))?;
         }
         self.read = self.read.saturating_add(1);
+        Ok(())
+    }
+}
+
+/// A log of which some entries are shown, and some events that it lacks.
+#[derive(Clone, Copy)]
+pub struct Excerpt<'a> {
+    pub log: &'a Log,
+    /// For each entry, whether it is shown.
+    pub entries: &'a [bool],
+    /// The events that logs lack. Those of other logs are not shown.
+    pub absences: &'a [Absence],
+}
+
+impl Excerpt<'_> {
+    /// Adds the events that were due before entry `at`.
+    fn add_due(&self, reading: &mut Reading, at: u32) -> Result<(), AllocError> {
+        let log = self.log;
+        for absence in self.absences {
+            if absence.due.proc == log.proc && absence.due.at == at {
+                reading.end_gap()?;
+                reading.add(What::Lacking(absence.event))?;
+            }
+        }
         Ok(())
     }
 }
@@ -124,17 +181,22 @@ impl Lane {
         }
     }
 
-    /// Returns the lane of a log. `shown` says for each entry whether it is shown.
-    pub fn of(alloc: Global, log: &Log, shown: &[bool]) -> Result<Lane, AllocError> {
+    /// Returns the lane of what is shown of a log.
+    pub fn of(alloc: Global, excerpt: Excerpt<'_>) -> Result<Lane, AllocError> {
         let mut reading = Reading {
             spots: Vec::new(alloc),
             read: 0,
             conf: None,
-            left_out: 0,
+            left_out: NO_GAP,
         };
-        for (entry, is_shown) in log.entries.as_slice().iter().zip(shown) {
+        let log = excerpt.log;
+        let mut at = 1u32;
+        for (entry, is_shown) in log.entries.as_slice().iter().zip(excerpt.entries) {
+            excerpt.add_due(&mut reading, at)?;
             reading.take(entry, *is_shown)?;
+            at = at.saturating_add(1);
         }
+        excerpt.add_due(&mut reading, at)?;
         reading.end_gap()?;
         Ok(Lane {
             proc: log.proc,

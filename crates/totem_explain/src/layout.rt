@@ -27,9 +27,9 @@ impl Sends {
         })
     }
 
-    /// Returns whether a spot may be placed now. A delivery has to be after its send, if the send is shown.
+    /// Returns whether a spot may be placed now. A delivery has to be after its send, if the send is shown, also one that is missing.
     fn let_through(&self, spot: &Spot) -> bool {
-        match spot.delivers() {
+        match spot.needs() {
             Some(message) => self.placed.contains(&message) || !self.shown.contains(&message),
             None => true,
         }

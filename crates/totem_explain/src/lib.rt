@@ -6,41 +6,53 @@
 //! - `line_of` returns the entry's line as in the run's text (`entry_text`, totem_evs specs/RunText).
 //! - `Counts::of` counts the entries of each kind as they are (`IsSizeOf`, specs/Sizes).
 //! - Every call returns, whatever run, faults and lists it is given, and fails only as out of memory: `explain_yes`,
-//!   `explain_refusal`, `rule_of`.
+//!   `explain_message`, `explain_views`, `explain_refusal`, `rule_of`.
 //!
 //! That the wording and the other counts are right is tested and not proved. Lanes and their layout (`Lane`, `lay_out`) are shared
 //! with totem_draw.
 #![tactic(auto)]
 
+mod absence;
 mod columns;
 mod counts;
 mod cycle;
 mod event;
 mod fate;
+mod fitted;
 mod lane;
 mod layout;
 mod lookup;
+mod members;
+mod message;
 mod moves;
 mod no;
 mod pass;
-mod quiet_end;
 mod reason;
 mod refusal;
 mod required;
 mod rule;
+mod shared;
 mod size;
 mod tested;
 mod traffic;
+mod twice;
 mod unsent;
+mod views;
+mod visits;
 mod yes;
 
+pub use absence::{Absence, Lacked, absences};
 pub use counts::Counts;
 pub use event::{event_of, line_of, place_name};
-pub use lane::{Lane, Spot, What};
+pub use lane::{Excerpt, Gap, Lane, Spot, What};
 pub use layout::lay_out;
 pub use lookup::entry_at;
+pub use message::{Traced, explain_message};
 pub use no::{Explained, ExplainedNo, explain_no, stopped_by};
+pub use reason::reason_of;
 pub use refusal::explain_refusal;
 pub use required::{Lacking, REQUIRABLE, Required};
 pub use rule::rule_of;
+pub use views::explain_views;
+pub use visits::{Visit, Visits};
 pub use yes::explain_yes;

@@ -23,6 +23,14 @@ pub fn entry_at<'r>(run: &'r Run, place: Place) -> Option<&'r Entry> {
     entry_of(log_of(run, place.proc)?, place.at)
 }
 
+/// Returns the message that the entry at a place sends or delivers, or `None` if it does neither.
+pub fn message_at(run: &Run, place: Place) -> Option<MsgId> {
+    match entry_at(run, place)? {
+        Entry::Send(message, _, _) | Entry::Deliver(message, _) => Some(*message),
+        _ => None,
+    }
+}
+
 /// Returns the place of the log's entry at this index, counted from 0.
 pub fn place_of(log: &Log, index: usize) -> Place {
     let before = u32::try_from(index).unwrap_or(u32::MAX);

@@ -1,13 +1,16 @@
 //! The explanation of a no.
 ghost use Rattle.std.specs.Prelude.{◌≡◌, IfOk, map};
 
-use crate::columns::columns;
+use crate::absence::absences;
+use crate::columns::{Focus, columns as side_by_side};
 use crate::counts::Counts;
 use crate::event::{event_of, place_name};
+use crate::fitted::fitted;
 use crate::lookup::entry_at;
 use crate::pass::Pass;
-use crate::reason::reason;
+use crate::reason::reason_of;
 use crate::rule::rule_of;
+use crate::shared::same_as;
 use std::alloc::{AllocError, Global};
 use totem_evs::{Fault, Run, SpecNo};
 use totem_names::Place;
@@ -52,29 +55,54 @@ fn beginning(alloc: Global, run: &Run, fault: &Fault) -> Result<String, AllocErr
     format!(in alloc; "Specification {spec}: {rule}\n{events}")
 }
 
-/// Returns the explanation of a fault.
-fn told(alloc: Global, run: &Run, fault: &Fault) -> Result<String, AllocError> {
+/// Returns the explanation of a fault that comes after these others.
+fn told(
+    alloc: Global,
+    run: &Run,
+    earlier: &[Fault],
+    fault: &Fault,
+    columns: usize,
+) -> Result<String, AllocError> {
     let beginning = beginning(alloc, run, fault)?;
-    let reason = reason(alloc, run, fault)?;
-    let columns = columns(alloc, run, fault.places.as_slice())?;
-    format!(in alloc; "{beginning}Why it is broken:\n{reason}The logs there:\n{columns}")
+    let reason = reason_of(alloc, run, fault)?;
+    let same = same_as(alloc, run, earlier, fault)?;
+    let absences = absences(alloc, run, fault)?;
+    let focus = Focus {
+        run,
+        places: fault.places.as_slice(),
+        absences: absences.as_slice(),
+    };
+    let lines = side_by_side(alloc, &focus, columns)?;
+    let there = if absences.is_empty() {
+        "The logs there:"
+    } else {
+        "The logs there (after a -: what is missing):"
+    };
+    format!(in alloc; "{beginning}Why it is broken:\n{reason}{same}{there}\n{lines}")
 }
 
 /// Explains each of these faults of the run, in order: the first 100 in full, the others by the rule and what happened at their
 /// places.
-fn explain_each(alloc: Global, run: &Run, faults: &[Fault]) -> Result<Vec<Explained>, AllocError>
+fn explain_each(
+    alloc: Global,
+    run: &Run,
+    faults: &[Fault],
+    columns: usize,
+) -> Result<Vec<Explained>, AllocError>
     ensures { IfOk result (λ list. map (λ one. one.fault) list.items ≡ faults.now) }
 {
     let mut list = Vec::with_capacity(alloc, faults.len())?;
     for fault in faults {
-        let text = if list.len() < IN_FULL {
-            told(alloc, run, fault)?
+        let index = list.len();
+        let text = if index < IN_FULL {
+            let earlier = faults.get(..index).unwrap_or(&[]);
+            told(alloc, run, earlier, fault, columns)?
         } else {
             beginning(alloc, run, fault)?
         };
         list.push(Explained {
             fault: fault.try_clone(alloc)?,
-            text,
+            text: fitted(alloc, text.as_str(), columns)?,
         })?;
     }
     Ok(list)
@@ -135,18 +163,23 @@ pub fn stopped_by(faults: &[Fault]) -> Option<SpecNo> {
 }
 
 /// Explains the no of a run: how much was judged, each of these faults in order, and what the run put to the test, which are its counts.
-/// Only the first 100 faults are explained in full.
+/// Only the first 100 faults are explained in full. A line has at most this many columns, unless a word is longer.
 pub fn explain_no(
     alloc: Global,
     run: &Run,
     faults: &[Fault],
     counts: &Counts,
+    columns: usize,
 ) -> Result<ExplainedNo, AllocError>
     ensures { IfOk result (λ words. map (λ one. one.fault) words.faults.items ≡ faults.now) }
 {
     Ok(ExplainedNo {
-        heading: heading(alloc, run, faults, counts)?,
-        faults: explain_each(alloc, run, faults)?,
-        closing: closing(alloc, faults, counts)?,
+        heading: fitted(
+            alloc,
+            heading(alloc, run, faults, counts)?.as_str(),
+            columns,
+        )?,
+        faults: explain_each(alloc, run, faults, columns)?,
+        closing: fitted(alloc, closing(alloc, faults, counts)?.as_str(), columns)?,
     })
 }

@@ -1,39 +1,14 @@
 //! Why the places of a fault break the specification, and what is missing there.
 use crate::cycle::cycle;
 use crate::event::place_name;
-use crate::fate::{fate_of, next_of};
-use crate::lookup::{change_before, change_in, delivery_in, entry_at, entry_of, log_of};
-use crate::quiet_end::ended_alone;
+use crate::fate::next_of;
+use crate::lookup::{change_before, delivery_in, entry_at, entry_of, log_of, message_at};
+use crate::members::{Member, absent, lacking, parted, told_together};
+use crate::twice::twice;
 use crate::unsent::unsent;
 use std::alloc::{AllocError, Global};
 use totem_evs::{Entry, Fault, Run, SpecNo};
-use totem_names::{ConfId, MsgId, Place, Proc};
-
-/// Returns the message that the entry at a place sends or delivers, or `None` if it does neither.
-fn message_at(run: &Run, place: Place) -> Option<MsgId> {
-    match entry_at(run, place)? {
-        Entry::Send(message, _, _) | Entry::Deliver(message, _) => Some(*message),
-        _ => None,
-    }
-}
-
-/// 1.4: returns what is done twice.
-fn twice(alloc: Global, run: &Run, places: &[Place]) -> Result<String, AllocError> {
-    let Some(first) = places.first() else {
-        return Ok(String::new(alloc));
-    };
-    match (places.len(), entry_at(run, *first)) {
-        (1, _) => format!(in alloc; "  A process can't send in a transitional configuration.\n"),
-        (_, Some(Entry::Deliver(message, _))) => {
-            let proc = first.proc.written(run.version);
-            format!(in alloc; "  Process {proc} delivered {message} twice.\n")
-        }
-        (_, Some(Entry::Send(message, _, _))) => {
-            format!(in alloc; "  {message} was sent twice.\n")
-        }
-        _ => Ok(String::new(alloc)),
-    }
-}
+use totem_names::Place;
 
 /// 2.2: returns why the entry may not be at its place.
 fn misplaced(alloc: Global, run: &Run, place: Place) -> Result<String, AllocError> {
@@ -88,95 +63,70 @@ fn undelivered(alloc: Global, run: &Run, send: Place) -> Result<String, AllocErr
     ) else {
         return Ok(String::new(alloc));
     };
-    let proc = send.proc.written(run.version);
-    let next = next_of(log, *conf, send.at).told(alloc, run.version)?;
-    format!(in alloc;
-        "  Process {proc} did not deliver {message} in {conf} or what follows it: it {next}.\n"
-    )
+    let sender = Member {
+        proc: send.proc,
+        course: next_of(log, conf, send.at),
+    };
+    let missed = format!(in alloc; "did not deliver {message} in {conf} or what follows it")?;
+    told_together(alloc, run.version, missed.as_str(), &[sender])
 }
 
-/// Returns a line that says that the process at `missing` lacks the message at `delivery`, or delivers it too late.
-fn lacks(alloc: Global, run: &Run, delivery: Place, missing: Place) -> Result<String, AllocError> {
-    let (Some(message), Some(log)) = (message_at(run, delivery), log_of(run, missing.proc)) else {
+/// Returns what a process did at a place before which it had to deliver a message.
+fn done_instead(alloc: Global, run: &Run, place: Place) -> Result<String, AllocError> {
+    let name = place_name(alloc, run.version, place)?;
+    match entry_at(run, place) {
+        Some(Entry::Conf(conf, _)) => format!(in alloc; "went on to {conf} ({name})"),
+        Some(Entry::Deliver(message, conf)) => {
+            format!(in alloc; "delivered {message} in {conf} ({name})")
+        }
+        _ => Ok(name),
+    }
+}
+
+/// 4, 5, 6.3: returns a line that says that the process at `due` lacks the message at `known` there, and what it did instead.
+fn lacks(alloc: Global, run: &Run, known: Place, due: Place) -> Result<String, AllocError> {
+    let (Some(message), Some(log)) = (message_at(run, known), log_of(run, due.proc)) else {
         return Ok(String::new(alloc));
     };
-    let proc = missing.proc.written(run.version);
+    let proc = due.proc.written(run.version);
+    let instead = done_instead(alloc, run, due)?;
     match delivery_in(log, message) {
         Some(place) => {
             let place = place_name(alloc, run.version, place)?;
-            format!(in alloc; "  Process {proc} delivered {message} only at {place}.\n")
+            format!(in alloc;
+                "  Process {proc} delivered {message} too late ({place}): before, it {instead}.\n"
+            )
         }
-        None => format!(in alloc; "  Process {proc} never delivered {message}.\n"),
+        None => format!(in alloc;
+            "  Process {proc} never delivered {message}: it {instead} without it.\n"
+        ),
     }
-}
-
-fn has_delivered(run: &Run, proc: Proc, message: MsgId) -> bool {
-    match log_of(run, proc) {
-        Some(log) => delivery_in(log, message).is_some(),
-        None => false,
-    }
-}
-
-/// Adds what happened to a process in a configuration if it lacks the message and nothing excuses it.
-fn push_lacking(
-    alloc: Global,
-    text: &mut String,
-    run: &Run,
-    proc: Proc,
-    message: MsgId,
-    conf: &ConfId,
-) -> Result<(), AllocError> {
-    let fate = fate_of(run, proc, *conf);
-    if has_delivered(run, proc, message) || !fate.owes() {
-        return Ok(());
-    }
-    let told = fate.told(alloc, run.version)?;
-    let proc = proc.written(run.version);
-    write!(
-        text,
-        "  Process {proc} did not deliver {message}: it {told}.\n"
-    )
 }
 
 /// 7.1: returns which members lack the message and are not excused, and what happened to them.
 fn unsafe_for(alloc: Global, run: &Run, delivery: Place) -> Result<String, AllocError> {
-    let mut text = String::new(alloc);
-    let (Some(message), Some(log)) = (message_at(run, delivery), log_of(run, delivery.proc)) else {
-        return Ok(text);
+    let Some(message) = message_at(run, delivery) else {
+        return Ok(String::new(alloc));
     };
-    let Some((conf, members)) = change_before(log, delivery.at) else {
-        return Ok(text);
-    };
-    for member in members {
-        push_lacking(alloc, &mut text, run, *member, message, &conf)?;
-    }
-    Ok(text)
+    let members = lacking(alloc, run, delivery)?;
+    let missed = format!(in alloc; "did not deliver {message}")?;
+    told_together(alloc, run.version, missed.as_str(), members.as_slice())
 }
 
-/// 7.2: returns which members never changed to the configuration.
-fn absent(alloc: Global, run: &Run, delivery: Place) -> Result<String, AllocError> {
-    let mut text = String::new(alloc);
-    let Some(log) = log_of(run, delivery.proc) else {
-        return Ok(text);
-    };
-    let Some((conf, members)) = change_before(log, delivery.at) else {
-        return Ok(text);
-    };
-    for member in members {
-        let has = match log_of(run, *member) {
-            Some(log) => change_in(log, &conf).is_some(),
-            None => false,
-        };
-        if !has {
-            let member = member.written(run.version);
-            write!(text, "  Process {member} never came to {conf}.\n")?;
-        }
-    }
-    Ok(text)
+/// 7.2: returns which members never came to the configuration, and where they were instead.
+fn uninstalled(alloc: Global, run: &Run, delivery: Place) -> Result<String, AllocError> {
+    let members = absent(alloc, run, delivery)?;
+    told_together(alloc, run.version, "", members.as_slice())
+}
+
+/// 2.1: returns which members neither end in the configuration nor may still come, and where they are instead.
+fn ended_alone(alloc: Global, run: &Run, change: Place) -> Result<String, AllocError> {
+    let members = parted(alloc, run, change)?;
+    told_together(alloc, run.version, "", members.as_slice())
 }
 
 /// Returns lines that say why the places of the fault break the specification, and what is missing there.
-pub fn reason(alloc: Global, run: &Run, fault: &Fault) -> Result<String, AllocError> {
+pub fn reason_of(alloc: Global, run: &Run, fault: &Fault) -> Result<String, AllocError> {
     let places = fault.places.as_slice();
     match (fault.spec, places) {
         (SpecNo::Cycle | SpecNo::Order, _) => cycle(alloc, run, places),
@@ -190,11 +140,11 @@ pub fn reason(alloc: Global, run: &Run, fault: &Fault) -> Result<String, AllocEr
         (SpecNo::Configuration, _) => configuration(alloc, run, places),
         (SpecNo::Turns, _) => turns(alloc, places),
         (SpecNo::OwnDelivery, [send, ..]) => undelivered(alloc, run, *send),
-        (SpecNo::Atomicity, [delivery, _, change, ..]) => lacks(alloc, run, *delivery, *change),
-        (SpecNo::Causality, [send, _, delivery, ..]) => lacks(alloc, run, *send, *delivery),
-        (SpecNo::Gap, [earlier, _, later, ..]) => lacks(alloc, run, *earlier, *later),
+        (SpecNo::Atomicity | SpecNo::Causality | SpecNo::Gap, [known, _, due, ..]) => {
+            lacks(alloc, run, *known, *due)
+        }
         (SpecNo::Safety, [delivery, ..]) => unsafe_for(alloc, run, *delivery),
-        (SpecNo::Installed, [delivery, ..]) => absent(alloc, run, *delivery),
+        (SpecNo::Installed, [delivery, ..]) => uninstalled(alloc, run, *delivery),
         _ => Ok(String::new(alloc)),
     }
 }

@@ -34,6 +34,71 @@ const BEHIND: [(&[u8], &str); 5] = [
 const WANT_OF_A_LIFE: &str =
     "This process has no life: from version 2 on each is written with its life, as in `2:1`. `tools/logs join --lives` adds lives to members.\n";
 
+/// What is said of the log of one process.
+const ONE_LOG: &str =
+    "This looks like the log of one process. `tools/logs join` makes a run of a folder of such logs.\n";
+
+/// Texts that are no runs, by what their first line begins with, and what to do about each.
+const MISTAKEN: [(&[u8], &str); 9] = [
+    (b"conf ", ONE_LOG),
+    (b"send ", ONE_LOG),
+    (b"dlv ", ONE_LOG),
+    (b"fail ", ONE_LOG),
+    (
+        b"totem-script",
+        "This is a script. `totem sim` makes a run of it, and `totem explain --script` shows where a script is refused.\n",
+    ),
+    (
+        b"totem-cert",
+        "This is a certificate. It stands after the text of its run, for `totem check`.\n",
+    ),
+    (
+        &[0x1f, 0x8b],
+        "This is compressed by gzip: `gzip -dc FILE | totem explain` reads what it has.\n",
+    ),
+    (
+        &[0xfd, b'7', b'z', b'X', b'Z'],
+        "This is compressed by xz: `xz -dc FILE | totem explain` reads what it has.\n",
+    ),
+    (
+        &[0xef, 0xbb, 0xbf],
+        "The text begins with a byte order mark, which is no part of a run: save it without one, or read it by `tail -c +4 FILE`.\n",
+    ),
+];
+
+/// What is said of a line that ends as on other systems.
+const CARRIAGE_RETURN: &str =
+    "The line ends with a carriage return and a line feed. Here lines end with a line feed alone: `tr -d '\\r' < FILE` leaves the others out.\n";
+
+/// Returns what to do about a text that is no run, by its first line; nothing if that is not known.
+fn hint_of(line: &[u8]) -> &'static str {
+    for (front, hint) in &MISTAKEN {
+        if line.starts_with(front) {
+            return *hint;
+        }
+    }
+    ""
+}
+
+/// Returns what to do about the text that is refused at this place, if it is taken for a run by mistake.
+fn hint(
+    alloc: Global,
+    fault: &RunFault,
+    place: &TextPlace<'_>,
+) -> Result<&'static str, AllocError> {
+    if place.read.ends_with(b"\r") && place.rest.is_empty() {
+        return Ok(CARRIAGE_RETURN);
+    }
+    if !matches!(fault, RunFault::Header) {
+        return Ok("");
+    }
+    let mut line = Vec::new(alloc);
+    line.extend_from_slice(place.front)?;
+    line.extend_from_slice(place.read)?;
+    line.extend_from_slice(place.rest)?;
+    Ok(hint_of(line.as_slice()))
+}
+
 /// Returns what may follow this beginning of a line.
 fn behind(line: &[u8]) -> &'static str {
     for (front, wanted) in &BEHIND {
@@ -214,6 +279,7 @@ pub fn explain_refusal(
     let wanted = wanted(alloc, fault, begun)?;
     let mut text = shown(alloc, &place)?;
     text.push_str(wanted.as_str())?;
+    text.push_str(hint(alloc, fault, &place)?)?;
     if is_for_want_of_a_life(alloc, fault, &place)? {
         text.push_str(WANT_OF_A_LIFE)?;
     }

@@ -72,11 +72,12 @@ impl Required {
     }
 }
 
-/// The required counts that a run lacks.
+/// What a run lacks of what was asked for: required counts, or a fault.
 #[derive(Drop)]
 pub struct Lacking {
     required: Required,
     line: String,
+    no_fault: String,
 }
 
 impl Lacking {
@@ -85,6 +86,7 @@ impl Lacking {
         Lacking {
             required,
             line: String::new(alloc),
+            no_fault: String::new(alloc),
         }
     }
 
@@ -92,6 +94,24 @@ impl Lacking {
     pub fn learn(&mut self, alloc: Global, counts: &Counts) -> Result<(), AllocError> {
         self.line = self.required.lacking(alloc, counts)?;
         Ok(())
+    }
+
+    /// Learns that the report of the run has no fault with this number, but so many.
+    pub fn miss_fault(
+        &mut self,
+        alloc: Global,
+        number: u32,
+        count: usize,
+    ) -> Result<(), AllocError> {
+        self.no_fault = format!(in alloc;
+            "totem: there is no fault {number}: faults in the report: {count}\n"
+        )?;
+        Ok(())
+    }
+
+    /// Returns the line that says that a fault is lacking, or an empty text.
+    pub fn no_fault(&self) -> &str {
+        self.no_fault.as_str()
     }
 
     /// Returns the line that says which they are, or an empty text.

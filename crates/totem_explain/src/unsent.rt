@@ -6,7 +6,7 @@ use totem_evs::{Ending, Log, Run};
 use totem_names::{ConfId, MsgId, Place};
 
 /// Adds a line for each log that sends the message, with the place.
-fn push_sends(
+pub fn push_sends(
     alloc: Global,
     text: &mut String,
     run: &Run,

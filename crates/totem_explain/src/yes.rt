@@ -1,6 +1,8 @@
 //! The explanation of a yes. What a yes of the checker depends on is in totem_check, `checker`.
 use crate::counts::Counts;
-use crate::fate::fate_of;
+use crate::fate::{Number, course_of};
+use crate::fitted::fitted;
+use crate::members::bracketed;
 use std::alloc::{AllocError, Global};
 use totem_evs::{Pending, Run, Waiting};
 use totem_names::{MsgId, Version};
@@ -69,12 +71,17 @@ fn pending_lines(alloc: Global, version: Version, list: &[Pending]) -> Result<St
 fn waiting_lines(alloc: Global, run: &Run, list: &[Waiting]) -> Result<String, AllocError> {
     let mut text = String::new(alloc);
     for Waiting { proc, conf, other } in list {
-        let fate = fate_of(run, *other, *conf).told(alloc, run.version)?;
+        let course = course_of(run, *other, conf);
+        let told = course.fate.told(alloc, Number::One)?;
+        let place = match course.place {
+            Some(place) => bracketed(alloc, run.version, &[place])?,
+            None => String::new(alloc),
+        };
         let proc = proc.written(run.version);
         let other = other.written(run.version);
         write!(
             text,
-            "  process {proc} is in {conf} and waits for {other}, which {fate}\n"
+            "  process {proc} is in {conf} and waits for {other}, which {told}{place}\n"
         )?;
     }
     Ok(text)
@@ -89,13 +96,15 @@ fn push_headed(text: &mut String, heading: &str, lines: &str) -> Result<(), Allo
 }
 
 /// Explains the yes of a run: how much was judged, what is pending, which processes wait for which, and what the run put to the test,
-/// which are its counts. Both lists are expected to be ascending, as the audit returns them.
+/// which are its counts. Both lists are expected to be ascending, as the audit returns them. A line has at most this many columns, unless
+/// a word is longer.
 pub fn explain_yes(
     alloc: Global,
     run: &Run,
     pending: &[Pending],
     waiting: &[Waiting],
     counts: &Counts,
+    columns: usize,
 ) -> Result<String, AllocError> {
     let mut text = String::from_str(alloc, "Yes: the run meets specifications 1 to 7.\n")?;
     text.push_str(counts.size.summary(alloc, run)?.as_str())?;
@@ -113,5 +122,5 @@ pub fn explain_yes(
         waiting_lines(alloc, run, waiting)?.as_str(),
     )?;
     text.push_str(counts.told(alloc, None)?.as_str())?;
-    Ok(text)
+    fitted(alloc, text.as_str(), columns)
 }

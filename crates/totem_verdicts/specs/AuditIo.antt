@@ -13,7 +13,7 @@ use Rattle.totem_evs.specs.Missing.{EachHasLog, all_members}
 use Rattle.totem_evs.specs.Reading.{ReadsRun, ReadsEnd, FitsRun}
 use Rattle.totem_evs.specs.Answers.{Answer, Yes, No, IsAnswered}
 use Rattle.totem_evs.specs.Meanings.{IsSound}
-use Rattle.totem_verdicts.specs.Report.{report_text}
+use Rattle.totem_verdicts.specs.Report.{report_text, brief_text}
 use Rattle.totem_verdicts.specs.declared.outcome.Outcome.{Outcome}
 use Rattle.totem_verdicts.specs.declared.outcome.Outcome.TheVariants as outcomes
 use Rattle.totem_verdicts.specs.declared.verdict_fault.VerdictFault.{VerdictFault}
@@ -64,3 +64,18 @@ Audits old new was is (Err (faults.Cert fault)) = ⊥
 Audits old new was is (Err (faults.Refused fault)) = ⊥
 Audits old new was is (Err faults.Memory) = (is ≡ was) × (new.failures ≡ old.failures)
 Audits old new was is (Err faults.Write) = (is.failures ≡ (was.failures + 1) % 2 ^ 64) × ((run : RunRecord) × IsWhole old new run)
+
+-- a whole run was read, and the brief report of its answer and nothing else was written; the outcome is the answer's
+pub record IsAuditedBriefly (old new : Seen) (was is : Held) (outcome : Outcome) : Type 0 where
+  pub run : RunRecord
+  pub whole : IsWhole old new run
+  pub answer : Answer
+  pub written : IsAnswered run.logs answer
+  pub sound : IsSound run.logs answer
+  pub report : Wrote was is (brief_text run.version answer)
+  pub says : Says answer outcome
+
+-- the brief report was written; on failure the same holds as for the whole one
+abbrev pub AuditsBriefly : Seen → Seen → Held → Held → Result Outcome VerdictFault → Type 0
+AuditsBriefly old new was is (Ok outcome) = IsAuditedBriefly old new was is outcome
+AuditsBriefly old new was is (Err fault) = Audits old new was is (Err fault)

@@ -19,10 +19,10 @@ use Rattle.totem_certificate.specs.CertRecord.{CertRecord}
 use Rattle.totem_certificate.specs.Keeping.{IsCertificateOf}
 use Rattle.totem_certificate.specs.CertText.{cert_text}
 use Rattle.totem_certificate.specs.Reading.{ReadsCert, IsRead}
-use Rattle.totem_check.specs.declared.accepted.Accepted.{Accepted}
-use Rattle.totem_check.specs.declared.check_fault.CheckFault.{CheckFault}
-use Rattle.totem_check.specs.declared.check_fault.CheckFault.TheVariants as check_faults
-use Rattle.totem_check.specs.Checks.{Checks, IsAcceptable, ListsOpen, IsFirstFault}
+use Rattle.totem_outcome.specs.declared.accepted.Accepted.{Accepted}
+use Rattle.totem_outcome.specs.declared.check_fault.CheckFault.{CheckFault}
+use Rattle.totem_outcome.specs.declared.check_fault.CheckFault.TheVariants as check_faults
+use Rattle.totem_outcome.specs.Checks.{Checks, IsAcceptable, ListsOpen, IsFirstFault}
 use Rattle.totem_verdicts.specs.Report.{accepted_text, no_text}
 use Rattle.totem_verdicts.specs.declared.outcome.Outcome.{Outcome}
 use Rattle.totem_verdicts.specs.declared.outcome.Outcome.TheVariants as outcomes

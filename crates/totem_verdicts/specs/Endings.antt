@@ -1,5 +1,5 @@
 -- The endings of the calls that answer a command line: the status, and what is printed (docs/PROGRAM.md).
-use Rattle.std.specs.Prelude.{◌≡◌, ◌⊎◌, ℕ, ◌+◌, ◌%◌, ◌^◌, List, [], ◌++◌, codes, decimal, Ok, Err}
+use Rattle.std.specs.Prelude.{◌≡◌, ◌⊎◌, ℕ, ◌+◌, ◌%◌, ◌^◌, List, [], ◌++◌, codes, decimal, Bool, true, false, Ok, Err}
 use Rattle.std.specs.declared.option.Option.{Option}
 use Rattle.clap.specs.declared.error.kind.ErrorKind.{ErrorKind}
 use Rattle.clap.specs.declared.error.kind.ErrorKind.TheVariants as kinds
@@ -13,16 +13,16 @@ use Rattle.totem_evs.specs.RunFaults.{fault_number, fault_name}
 use Rattle.totem_certificate.specs.declared.cert_fault.CertFault.{CertFault}
 use Rattle.totem_certificate.specs.declared.cert_fault.CertFault.TheVariants as cert_faults
 use Rattle.totem_certificate.specs.CertFaults.{fault_number as cert_fault_number, fault_name as cert_fault_name}
-use Rattle.totem_check.specs.declared.check_fault.CheckFault.{CheckFault}
-use Rattle.totem_check.specs.CheckFaults.{fault_number as check_fault_number, fault_name as check_fault_name}
+use Rattle.totem_outcome.specs.declared.check_fault.CheckFault.{CheckFault}
+use Rattle.totem_outcome.specs.CheckFaults.{fault_number as check_fault_number, fault_name as check_fault_name}
 use Rattle.totem_verdicts.specs.declared.outcome.Outcome.{Outcome}
 use Rattle.totem_verdicts.specs.declared.outcome.Outcome.TheVariants as outcomes
 use Rattle.totem_verdicts.specs.declared.verdict_fault.VerdictFault.{VerdictFault}
 use Rattle.totem_verdicts.specs.declared.verdict_fault.VerdictFault.TheVariants as faults
-use Rattle.totem_verdicts.specs.AuditIo.{Audits}
+use Rattle.totem_verdicts.specs.AuditIo.{Audits, AuditsBriefly}
 use Rattle.totem_verdicts.specs.CheckIo.{ChecksText}
 use Rattle.totem_verdicts.specs.ExplainIo.{ExplainsRun}
-use Rattle.totem_verdicts.specs.RenderIo.{RendersRun}
+use Rattle.totem_verdicts.specs.RenderIo.{RendersRun, TracesRun}
 
 -- a sink's contents and failures, with no pieces gathered for it
 abbrev pub bare : {S : Type 0} → (S → Option (List ℕ)) → (S → ℕ) → S → Held
@@ -39,6 +39,11 @@ abbrev pub outcome_status : Outcome → ℕ
 outcome_status outcomes.Yes = 0
 outcome_status outcomes.No = 1
 outcome_status outcomes.Made = 0
+
+-- the status with which a message is looked for: whether a log names it
+abbrev pub found_status : Bool → ℕ
+found_status true = 0
+found_status false = 6
 
 -- the text of a refusal: what was refused, the number and the name of the fault
 abbrev pub refusal_text : List ℕ → ℕ → List ℕ → List ℕ
@@ -121,15 +126,19 @@ pub data Points (fault : VerdictFault) (quiet said : Held) : ℕ → Type 0 wher
   pointed : (words : List ℕ) → Tells quiet said (fault_line fault ++ words) → Points fault quiet said (fault_status fault)
   wordless : Tells quiet said memory_line → Points fault quiet said 3
 
--- how a run with this outcome is concluded: by its status; or, if it is a yes, with a line about what it did not put to the test, and status 5
+-- how a run with this outcome is concluded: by its status; or, if it is a yes, with a line about what it did not put to the test, and status 5;
+-- or with a line that says that a fault that was asked for is not there, and status 6
 pub data Concludes (outcome : Outcome) (quiet said : Held) : ℕ → Type 0 where
   concluded : said ≡ quiet → Concludes outcome quiet said (outcome_status outcome)
+  faultless : (text : List ℕ) → Tells quiet said text → Concludes outcome quiet said 6
   untested : (text : List ℕ) → outcome ≡ outcomes.Yes → Tells quiet said text → Concludes outcome quiet said 5
 
 -- the arguments ask for a verdict: what was read, what was written to the output and the errors, and the status
 pub data Judges (old new : Seen) (was is quiet said : Held) : ℕ → Type 0 where
   -- a run was judged
   judged : (outcome : Outcome) → Audits old new was is (Ok outcome) → said ≡ quiet → Judges old new was is quiet said (outcome_status outcome)
+  -- a run was judged, and the report is brief
+  briefed : (outcome : Outcome) → AuditsBriefly old new was is (Ok outcome) → said ≡ quiet → Judges old new was is quiet said (outcome_status outcome)
   -- it was not, and the fault is reported
   failed : (fault : VerdictFault) → Audits old new was is (Err fault) → Tells quiet said (fault_line fault) → Judges old new was is quiet said (fault_status fault)
   -- a run was judged and explained
@@ -140,6 +149,12 @@ pub data Judges (old new : Seen) (was is quiet said : Held) : ℕ → Type 0 whe
   rendered : (outcome : Outcome) (status : ℕ) → RendersRun old new was is (Ok outcome) → Concludes outcome quiet said status → Judges old new was is quiet said status
   -- it was not, and the fault is reported with an explanation
   unrendered : (fault : VerdictFault) (status : ℕ) → RendersRun old new was is (Err fault) → Points fault quiet said status → Judges old new was is quiet said status
+  -- a run was read, and a message looked for in it
+  traced : (found : Bool) → TracesRun old new was is (Ok found) → said ≡ quiet → Judges old new was is quiet said (found_status found)
+  -- it was not, and the fault is reported with an explanation
+  untraced : (fault : VerdictFault) (status : ℕ) → TracesRun old new was is (Err fault) → Points fault quiet said status → Judges old new was is quiet said status
+  -- nothing was read: the arguments ask for a message by what is no name of one
+  misnamed : (text : List ℕ) → new ≡ old → is ≡ was → Tells quiet said text → Judges old new was is quiet said 64
   -- a run was checked with its certificate
   checked : (outcome : Outcome) → ChecksText old new was is (Ok outcome) → said ≡ quiet → Judges old new was is quiet said (outcome_status outcome)
   -- it was not, and the fault is reported

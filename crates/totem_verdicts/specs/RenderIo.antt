@@ -1,5 +1,6 @@
--- What making a picture or counts of the run of a stream returns, reads and writes (docs/PROGRAM.md, "Pictures").
-use Rattle.std.specs.Prelude.{List, [], ℕ, Result, Ok, Err}
+-- What making a picture or counts of the run of a stream returns, reads and writes (docs/PROGRAM.md, "Pictures"), and what saying what
+-- became of a message does.
+use Rattle.std.specs.Prelude.{List, [], ℕ, Bool, Result, Ok, Err}
 use Rattle.totem_names.specs.Sources.{Seen}
 use Rattle.totem_names.specs.Writing.{Held, Wrote}
 use Rattle.totem_evs.specs.RunRecord.{RunRecord}
@@ -30,3 +31,15 @@ pub record IsRendered (old new : Seen) (was is : Held) (outcome : Outcome) : Typ
 abbrev pub RendersRun : Seen → Seen → Held → Held → Result Outcome VerdictFault → Type 0
 RendersRun old new was is (Ok outcome) = IsRendered old new was is outcome
 RendersRun old new was is (Err fault) = Audits old new was is (Err fault)
+
+-- a whole run was read, and some text and nothing else was written; the run was not judged
+pub record IsTraced (old new : Seen) (was is : Held) : Type 0 where
+  pub run : RunRecord
+  pub whole : IsWhole old new run
+  pub text : WritesRendered {A = Unit {0}} was is (Ok tt)
+
+-- what became of a message was written, and the contract says neither with which words nor whether a log names it; on failure the same
+-- holds as for an audit
+abbrev pub TracesRun : Seen → Seen → Held → Held → Result Bool VerdictFault → Type 0
+TracesRun old new was is (Ok found) = IsTraced old new was is
+TracesRun old new was is (Err fault) = Audits old new was is (Err fault)

@@ -36,3 +36,8 @@ report_text version (No faults) = no_text version faults
 -- the checker's yes
 abbrev pub accepted_text : Version → List Pending → List Waiting → List ℕ
 accepted_text version pending waiting = yes_text version pending waiting ++ line (codes "end")
+
+-- the brief report of an audit: a yes without the certificate, as the checker's
+abbrev pub brief_text : Version → Answer → List ℕ
+brief_text version (Yes lines pending waiting) = accepted_text version pending waiting
+brief_text version (No faults) = no_text version faults

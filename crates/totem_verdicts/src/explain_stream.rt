@@ -84,12 +84,13 @@ fn write_no<S: Sink>(
     Ok(())
 }
 
-/// Writes the explanation of a verdict on the run, which has these counts.
+/// Writes the explanation of a verdict on the run, which has these counts, in lines of this many columns.
 fn write_told<S: Sink>(
     alloc: Global,
     run: &Run,
     verdict: &Verdict,
     counts: &Counts,
+    columns: usize,
     sink: &mut S,
 ) -> Result<(), WriteFault>
     ensures { WritesTold run.now.version (held S.contents S.failures [] sink.old)
@@ -101,13 +102,13 @@ fn write_told<S: Sink>(
             waiting,
             ..
         } => {
-            let Ok(text) = explain_yes(alloc, run, pending, waiting, counts) else {
+            let Ok(text) = explain_yes(alloc, run, pending, waiting, counts, columns) else {
                 return Err(WriteFault::Memory);
             };
             write_text(alloc, text.as_bytes(), sink)
         }
         Verdict::No { faults } => {
-            let Ok(words) = explain_no(alloc, run, faults, counts) else {
+            let Ok(words) = explain_no(alloc, run, faults, counts, columns) else {
                 return Err(WriteFault::Memory);
             };
             write_no(alloc, run.version, &words, sink)
@@ -128,13 +129,15 @@ pub(crate) fn counted(
 
 /// Reads the text of a run to the end of the input, judges the run, and writes the explanation of the verdict
 /// (docs/PROGRAM.md, "Explanations"). The outcome is that of `audit_io`, and the text is the same for every number
-/// of workers. `lacking` learns the counts.
+/// of workers. A line has at most this many columns, but for a longer word and the lines of the faults as in the report. `lacking` learns the
+/// counts.
 pub fn explain_io<T: Threads + Wait + Sync, R: Source, W: Sink>(
     rt: &T,
     alloc: Global,
     input: &mut R,
     output: &mut W,
     workers: Workers,
+    columns: usize,
     lacking: &mut Lacking,
 ) -> Result<Outcome, VerdictFault>
     ensures { ExplainsRun (seen R.remaining R.failures input.old) (seen R.remaining R.failures input.new)
@@ -147,6 +150,6 @@ pub fn explain_io<T: Threads + Wait + Sync, R: Source, W: Sink>(
     let Ok(counts) = counted(alloc, &run, lacking) else {
         return Err(VerdictFault::Memory);
     };
-    write_told(alloc, &run, &verdict, &counts, output)?;
+    write_told(alloc, &run, &verdict, &counts, columns, output)?;
     Ok(outcome(&verdict))
 }

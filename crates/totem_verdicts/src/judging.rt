@@ -4,12 +4,13 @@ ghost use Rattle.totem_names.specs.Sources.{seen};
 ghost use Rattle.totem_names.specs.Writing.{held};
 ghost use Rattle.totem_verdicts.specs.Endings.{Concludes, Judges, Points, bare};
 
-use crate::audit_stream::audit_io;
-use crate::check_stream::check_io;
+use crate::audit_stream::{audit_io, brief_io};
+use crate::check_stream::check_by;
 use crate::explain_stream::explain_io;
 use crate::outcome::Outcome;
 use crate::render_stream::{Rendering, render_io};
 use crate::telling::{tell, tell_fault, tell_with_words};
+use crate::trace_stream::trace_io;
 use crate::verdict_fault::VerdictFault;
 use crate::words::Asked;
 use std::alloc::{AllocError, Global};
@@ -17,7 +18,14 @@ use std::sync::Wait;
 use std::thread::Threads;
 use totem_audit::Workers;
 use totem_explain::{Lacking, Required, explain_refusal};
-use totem_names::{Sink, Source};
+use totem_names::{MsgId, Sink, Source};
+
+/// What is printed if the arguments ask for a message by what is no name of one.
+const NO_MESSAGE: &str = "\
+error: invalid value for '--message <M>': a message is written as in 317.1#52, with the ring after which it is named and its number there
+
+For more information, try '--help'.
+";
 
 /// Returns this number of workers, or one worker if the number is out of range.
 fn as_many(workers: u32) -> Workers {
@@ -46,11 +54,15 @@ fn point<R: Source, E: Sink>(alloc: Global, fault: &VerdictFault, input: &R, err
     }
 }
 
-/// Returns the status of an outcome. After a yes, reports which required counts the run lacks.
-fn end<E: Sink>(outcome: Outcome, lacking: &str, errors: &mut E) -> u8
+/// Returns the status of an outcome. Reports a fault that was asked for and is not there and, after a yes, which required counts the run lacks.
+fn end<E: Sink>(outcome: Outcome, no_fault: &str, lacking: &str, errors: &mut E) -> u8
     ensures { Concludes outcome (bare E.contents E.failures errors.old) (bare E.contents E.failures errors.new) result }
 {
     match outcome {
+        _ if !no_fault.is_empty() => {
+            tell(errors, no_fault.as_bytes());
+            6
+        }
         Outcome::Yes if !lacking.is_empty() => {
             tell(errors, lacking.as_bytes());
             5
@@ -64,6 +76,7 @@ fn explained<T: Threads + Wait + Sync, R: Source, W: Sink, E: Sink>(
     rt: &T,
     alloc: Global,
     workers: Workers,
+    columns: usize,
     lacking: &mut Lacking,
     input: &mut R,
     output: &mut W,
@@ -73,8 +86,8 @@ fn explained<T: Threads + Wait + Sync, R: Source, W: Sink, E: Sink>(
         (held W.contents W.failures [] output.old) (held W.contents W.failures [] output.new)
         (bare E.contents E.failures errors.old) (bare E.contents E.failures errors.new) result }
 {
-    match explain_io(rt, alloc, input, output, workers, lacking) {
-        Ok(outcome) => end(outcome, lacking.line(), errors),
+    match explain_io(rt, alloc, input, output, workers, columns, lacking) {
+        Ok(outcome) => end(outcome, lacking.no_fault(), lacking.line(), errors),
         Err(fault) => point(alloc, &fault, input, errors),
     }
 }
@@ -83,6 +96,7 @@ fn explain<T: Threads + Wait + Sync, R: Source, W: Sink, E: Sink>(
     rt: &T,
     alloc: Global,
     workers: Workers,
+    columns: usize,
     required: Required,
     input: &mut R,
     output: &mut W,
@@ -93,7 +107,16 @@ fn explain<T: Threads + Wait + Sync, R: Source, W: Sink, E: Sink>(
         (bare E.contents E.failures errors.old) (bare E.contents E.failures errors.new) result }
 {
     let mut lacking = Lacking::of(alloc, required);
-    explained(rt, alloc, workers, &mut lacking, input, output, errors)
+    explained(
+        rt,
+        alloc,
+        workers,
+        columns,
+        &mut lacking,
+        input,
+        output,
+        errors,
+    )
 }
 
 /// Renders the run, and returns the status.
@@ -112,7 +135,7 @@ fn rendered<T: Threads + Wait + Sync, R: Source, W: Sink, E: Sink>(
         (bare E.contents E.failures errors.old) (bare E.contents E.failures errors.new) result }
 {
     match render_io(rt, alloc, input, output, workers, rendering, lacking) {
-        Ok(outcome) => end(outcome, lacking.line(), errors),
+        Ok(outcome) => end(outcome, lacking.no_fault(), lacking.line(), errors),
         Err(fault) => point(alloc, &fault, input, errors),
     }
 }
@@ -144,6 +167,30 @@ fn render<T: Threads + Wait + Sync, R: Source, W: Sink, E: Sink>(
     )
 }
 
+/// Says what became of a message, and returns the status: 6 if no log names it.
+fn traced<R: Source, W: Sink, E: Sink>(
+    alloc: Global,
+    message: Option<MsgId>,
+    columns: usize,
+    input: &mut R,
+    output: &mut W,
+    errors: &mut E,
+) -> u8
+    ensures { Judges (seen R.remaining R.failures input.old) (seen R.remaining R.failures input.new)
+        (held W.contents W.failures [] output.old) (held W.contents W.failures [] output.new)
+        (bare E.contents E.failures errors.old) (bare E.contents E.failures errors.new) result }
+{
+    let Some(message) = message else {
+        tell(errors, NO_MESSAGE.as_bytes());
+        return 64;
+    };
+    match trace_io(alloc, input, output, message, columns) {
+        Ok(true) => 0,
+        Ok(false) => 6,
+        Err(fault) => point(alloc, &fault, input, errors),
+    }
+}
+
 /// Gives the verdict that the arguments ask for, and returns the status.
 pub fn judge_io<T: Threads + Wait + Sync, R: Source, W: Sink, E: Sink>(
     rt: &T,
@@ -158,13 +205,24 @@ pub fn judge_io<T: Threads + Wait + Sync, R: Source, W: Sink, E: Sink>(
         (bare E.contents E.failures errors.old) (bare E.contents E.failures errors.new) result }
 {
     match asked {
-        Asked::Check => match check_io(alloc, input, output) {
+        Asked::Check { checker } => match check_by(alloc, checker, input, output) {
             Ok(outcome) => outcome.status(),
             Err(fault) => tell_fault(errors, &fault),
         },
-        Asked::Explain { workers, required } => {
-            explain(rt, alloc, as_many(workers), required, input, output, errors)
-        }
+        Asked::Explain {
+            workers,
+            columns,
+            required,
+        } => explain(
+            rt,
+            alloc,
+            as_many(workers),
+            columns as usize,
+            required,
+            input,
+            output,
+            errors,
+        ),
         Asked::Render {
             workers,
             rendering,
@@ -179,6 +237,13 @@ pub fn judge_io<T: Threads + Wait + Sync, R: Source, W: Sink, E: Sink>(
             output,
             errors,
         ),
+        Asked::Message { message, columns } => {
+            traced(alloc, message, columns as usize, input, output, errors)
+        }
+        Asked::Brief { workers } => match brief_io(rt, alloc, input, output, as_many(workers)) {
+            Ok(outcome) => outcome.status(),
+            Err(fault) => tell_fault(errors, &fault),
+        },
         Asked::Audit { workers } => match audit_io(rt, alloc, input, output, as_many(workers)) {
             Ok(outcome) => outcome.status(),
             Err(fault) => tell_fault(errors, &fault),

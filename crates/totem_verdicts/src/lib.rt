@@ -4,9 +4,10 @@
 //! What may be relied on:
 //! - `audit_io`: with an outcome, the whole input is the text of one run, and what was written is the report of that run's answer
 //!   and nothing else (`Audits`, specs/AuditIo). With a yes the run meets specifications 1 to 7.
-//! - `check_io`: the same for a run and its certificate, with the checker's report (`ChecksText`, specs/CheckIo).
+//! - `brief_io`: the same without the certificate (`AuditsBriefly`).
+//! - `check_by` and `check_io`: the same for a run and its certificate, with the checker's report (`ChecksText`, specs/CheckIo).
 //! - `explain_io` and `render_io`: the outcome is that of the run's answer; of what is written the contracts say less (`ExplainsRun`,
-//!   `RendersRun`).
+//!   `RendersRun`). `trace_io` judges nothing: what it writes, and whether it finds the message, no contract says (`TracesRun`).
 //! - At each fault except a failed write nothing was written, and the fault is that of the reader, the checker or a stream.
 //! - `judge_io`, `answer` and `auditor`: each status comes only with these streams (`Judges`, `Answers`, `Ends`, specs/Endings).
 //!
@@ -21,18 +22,20 @@ mod command_line;
 mod explain_stream;
 mod judging;
 mod left_open;
+mod message_name;
 mod outcome;
 mod render_stream;
 mod report;
 mod run_words;
 mod telling;
+mod trace_stream;
 mod verdict_fault;
 mod words;
 
 pub use alone::auditor;
 pub use answering::answer;
-pub use audit_stream::audit_io;
-pub use check_stream::check_io;
+pub use audit_stream::{audit_io, brief_io};
+pub use check_stream::{Checker, check_by, check_io};
 pub use command_line::{listed, no_words};
 pub use explain_stream::explain_io;
 pub use judging::judge_io;
@@ -43,5 +46,6 @@ pub use telling::{
     put_cert_fault, put_check_fault, put_refusal, put_run_fault, put_text, tell, tell_fault,
 };
 pub use totem_audit::Workers;
+pub use trace_stream::trace_io;
 pub use verdict_fault::VerdictFault;
 pub use words::{Asked, Words, read_words};

@@ -13,26 +13,47 @@ use std::alloc::{AllocError, Global};
 use std::sync::Wait;
 use std::thread::Threads;
 use totem_audit::{Verdict, Workers};
-use totem_draw::{draw_no, draw_yes};
+use totem_draw::{draw_no, draw_views, draw_yes};
 use totem_evs::{Run, WriteFault};
-use totem_explain::{Lacking, stopped_by};
+use totem_explain::{Lacking, explain_views, stopped_by};
 use totem_names::{Sink, Source};
 
 /// What is made of a run.
 #[derive(Clone, Copy)]
 pub enum Rendering {
-    /// A picture of its verdict, in SVG (docs/PROGRAM.md, "Pictures").
-    Picture,
+    /// A picture of its verdict, in SVG (docs/PROGRAM.md, "Pictures"): of the fault with this number, from 1; if it has none, of the first
+    /// fault or of a yes.
+    Picture(Option<u32>),
     /// What it put to the test, a line for each count (docs/SPECIFICATIONS.md, "Counts").
     Counts,
+    /// Its membership, in lines of this many columns (docs/PROGRAM.md, "The membership").
+    Views(usize),
+    /// A picture of its membership, in SVG.
+    DrawnViews,
 }
 
-/// Returns the picture of a verdict on the run.
-fn drawn(alloc: Global, run: &Run, verdict: &Verdict) -> Result<String, AllocError> {
-    match verdict {
-        Verdict::Yes { pending, .. } => draw_yes(alloc, run, pending),
-        Verdict::No { faults } => draw_no(alloc, run, faults),
-    }
+/// Returns the picture of a verdict on the run. If it has no fault with the number that is asked for, returns an empty text, and `lacking`
+/// learns so.
+fn drawn(
+    alloc: Global,
+    run: &Run,
+    verdict: &Verdict,
+    number: Option<u32>,
+    lacking: &mut Lacking,
+) -> Result<String, AllocError> {
+    let first = number.unwrap_or(1);
+    let count = match verdict {
+        Verdict::Yes { pending, .. } => match number {
+            None => return draw_yes(alloc, run, pending),
+            Some(_) => 0,
+        },
+        Verdict::No { faults } => match draw_no(alloc, run, faults, first as usize)? {
+            Some(picture) => return Ok(picture),
+            None => faults.len(),
+        },
+    };
+    lacking.miss_fault(alloc, first, count)?;
+    Ok(String::new(alloc))
 }
 
 /// Returns the lines of the counts of a run with this verdict.
@@ -57,8 +78,10 @@ fn rendered(
     lacking: &mut Lacking,
 ) -> Result<String, AllocError> {
     match rendering {
-        Rendering::Picture => drawn(alloc, run, verdict),
+        Rendering::Picture(number) => drawn(alloc, run, verdict, number, lacking),
         Rendering::Counts => count_lines(alloc, run, verdict, lacking),
+        Rendering::Views(columns) => explain_views(alloc, run, columns),
+        Rendering::DrawnViews => draw_views(alloc, run),
     }
 }
 
@@ -80,7 +103,8 @@ fn write_rendered<S: Sink>(
 }
 
 /// Reads the text of a run to the end of the input, judges the run, and writes what is made of it. The outcome is that of `audit_io`,
-/// and the text is the same for every number of workers. `lacking` learns the counts, if they are what is written.
+/// and the text is the same for every number of workers. `lacking` learns the counts, if they are what is written, and that a fault is not
+/// there; then nothing is written.
 pub fn render_io<T: Threads + Wait + Sync, R: Source, W: Sink>(
     rt: &T,
     alloc: Global,

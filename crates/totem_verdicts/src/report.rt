@@ -9,7 +9,7 @@ ghost use Rattle.totem_evs.specs.RunText.{line};
 ghost use Rattle.totem_evs.specs.WriteRun.{WritesText};
 ghost use Rattle.totem_certificate.specs.Keeping.{certificate_version};
 ghost use Rattle.totem_audit.specs.Verdicts.{answer_of, HasVersion};
-ghost use Rattle.totem_verdicts.specs.Report.{no_text, report_text, accepted_text};
+ghost use Rattle.totem_verdicts.specs.Report.{no_text, report_text, accepted_text, brief_text};
 
 use crate::left_open::put_yes;
 use std::alloc::Global;
@@ -114,6 +114,30 @@ fn put_report<S: Sink>(
     }
 }
 
+/// Puts the report without the certificate.
+#[tactic(auto, using(totem_names::proofs::Writers::wrote_then, totem_names::proofs::Writers::wrote_failed))]
+fn put_brief<S: Sink>(
+    pieces: &mut Pieces,
+    sink: &mut S,
+    version: Version,
+    verdict: &Verdict,
+) -> Result<(), Failed>
+    ensures { Writes (held S.contents S.failures pieces.old sink.old)
+        (held S.contents S.failures pieces.new sink.new) result (brief_text version (answer_of verdict.now)) }
+{
+    match verdict {
+        Verdict::Yes {
+            pending,
+            waiting,
+            ..
+        } => {
+            put_yes(pieces, sink, version, pending, waiting)?;
+            pieces.put(sink, b"end\n")
+        }
+        Verdict::No { faults } => put_no(pieces, sink, version, faults),
+    }
+}
+
 /// Puts the checker's yes.
 #[tactic(auto, using(totem_names::proofs::Writers::wrote_then, totem_names::proofs::Writers::wrote_failed))]
 fn put_accepted<S: Sink>(
@@ -144,6 +168,25 @@ pub fn write_report<S: Sink>(
         return Err(WriteFault::Memory);
     };
     if put_report(&mut pieces, sink, version, verdict).is_err() || pieces.flush(sink).is_err() {
+        return Err(WriteFault::Write);
+    }
+    Ok(())
+}
+
+/// Writes the report of a verdict on a run of this version without the certificate.
+pub fn write_brief<S: Sink>(
+    alloc: Global,
+    version: Version,
+    verdict: &Verdict,
+    sink: &mut S,
+) -> Result<(), WriteFault>
+    ensures { WritesText (held S.contents S.failures [] sink.old)
+        (held S.contents S.failures [] sink.new) result (brief_text version (answer_of verdict.now)) }
+{
+    let Ok(mut pieces) = Pieces::new(alloc) else {
+        return Err(WriteFault::Memory);
+    };
+    if put_brief(&mut pieces, sink, version, verdict).is_err() || pieces.flush(sink).is_err() {
         return Err(WriteFault::Write);
     }
     Ok(())

@@ -1,10 +1,13 @@
 //! The arguments of a command line.
+use crate::check_stream::Checker;
+use crate::message_name::message_named;
 use crate::render_stream::Rendering;
 use crate::run_words::{RunWords, run_command, run_words};
 use clap::builder::ValueParser;
 use clap::{Arg, ArgAction, ArgMatches, Command, Error};
 use std::alloc::{AllocError, Global};
 use totem_explain::{REQUIRABLE, Required};
+use totem_names::MsgId;
 
 /// What the arguments ask of the run on standard input.
 #[derive(Clone, Copy)]
@@ -13,9 +16,19 @@ pub enum Asked {
     Audit {
         workers: u32,
     },
-    /// The same audit with an explanation, by 1 to 64 workers.
+    /// The same audit, with a report without the certificate.
+    Brief {
+        workers: u32,
+    },
+    /// What became of a message, in lines of 40 to 400 columns. `None`: what the arguments have is no name of a message.
+    Message {
+        message: Option<MsgId>,
+        columns: u32,
+    },
+    /// The same audit with an explanation in lines of 40 to 400 columns, by 1 to 64 workers.
     Explain {
         workers: u32,
+        columns: u32,
         required: Required,
     },
     /// The same audit, by 1 to 64 workers, with a picture or counts of the run.
@@ -24,8 +37,10 @@ pub enum Asked {
         rendering: Rendering,
         required: Required,
     },
-    /// The check of the run and the certificate after it.
-    Check,
+    /// The check of the run and the certificate after it, by one of the checkers.
+    Check {
+        checker: Checker,
+    },
 }
 
 /// What the arguments of a command line ask for.
@@ -50,6 +65,8 @@ Exit status:
   2   the run, script or certificate was refused. `totem run` also ends with 2 if a node's log, or the record of its inputs and answers, is full; use fewer ticks
   3   out of memory. `totem run` also ends with 3 if a thread could not be started
   4   standard input could not be read, or standard output could not be written
+  5   explain --require: the verdict is yes, but a required count is 0
+  6   explain --message: no log of the run names the message. explain --svg --fault: the report has no such fault
   64  usage error";
 
 const AUDIT_EXAMPLE: &str = "\
@@ -81,7 +98,35 @@ fn audit_command<'a>(alloc: Global) -> Result<Command<'a>, AllocError> {
         .override_usage("totem audit [OPTIONS] < RUN")
         .about("Judges the run on standard input, and writes a report")
         .after_help(AUDIT_EXAMPLE)
-        .arg(workers_option(alloc))
+        .arg(workers_option(alloc))?
+        .arg(brief_option(alloc))
+}
+
+fn brief_option<'a>(alloc: Global) -> Arg<'a> {
+    Arg::new(alloc, "brief")
+        .long("brief")
+        .action(ArgAction::SetTrue)
+        .help(
+            "Leave out the certificate of a yes. The report is short enough for a pipe that reads only its beginning, as to `head` or `grep -q`",
+        )
+}
+
+fn message_option<'a>(alloc: Global) -> Arg<'a> {
+    Arg::new(alloc, "message")
+        .long("message")
+        .value_name("M")
+        .help(
+            "Instead of the verdict, write what became of a message, as in `--message 317.1#52`: who sent it, who delivered it where, and where those were who did not. The status is 6 if no log names it",
+        )
+}
+
+fn views_option<'a>(alloc: Global) -> Arg<'a> {
+    Arg::new(alloc, "views")
+        .long("views")
+        .action(ArgAction::SetTrue)
+        .help(
+            "Instead of the explanation, write the membership of the whole run: configuration by configuration, who came from where, who never came, how much was sent and delivered there, and whose log ends there",
+        )
 }
 
 fn svg_option<'a>(alloc: Global) -> Arg<'a> {
@@ -89,7 +134,17 @@ fn svg_option<'a>(alloc: Global) -> Arg<'a> {
         .long("svg")
         .action(ArgAction::SetTrue)
         .help(
-            "Draw the run as an SVG picture; of a long run, draw only the part around the first fault or, for a yes, the ends of the logs",
+            "Draw the run as an SVG picture; of a long run, draw only the part around the first fault or, for a yes, the ends of the logs. With --views draw the membership",
+        )
+}
+
+fn fault_option<'a>(alloc: Global) -> Arg<'a> {
+    Arg::new(alloc, "fault")
+        .long("fault")
+        .value_name("F")
+        .value_parser(ValueParser::Unsigned(1, 4_294_967_295))
+        .help(
+            "With --svg: draw this fault of the report, counted from 1, and not the first one. The status is 6 if the report has no such fault",
         )
 }
 
@@ -113,6 +168,17 @@ fn require_option<'a>(alloc: Global) -> Arg<'a> {
         )
 }
 
+fn columns_option<'a>(alloc: Global) -> Arg<'a> {
+    Arg::new(alloc, "columns")
+        .long("columns")
+        .value_name("N")
+        .value_parser(ValueParser::Unsigned(40, 400))
+        .default_value("79")
+        .help(
+            "Length of the lines of the explanation, from 40 to 400. Only longer words and the lines of the faults are longer",
+        )
+}
+
 fn script_option<'a>(alloc: Global) -> Arg<'a> {
     Arg::new(alloc, "script")
         .long("script")
@@ -131,6 +197,7 @@ fn explain_command<'a>(alloc: Global) -> Result<Command<'a>, AllocError> {
         .after_help(EXPLAIN_EXAMPLE)
         .arg(workers_option(alloc))?
         .arg(svg_option(alloc))?
+        .arg(columns_option(alloc))?
         .arg(counts_option(alloc).conflicts_with("svg")?)?
         .arg(require_option(alloc).conflicts_with("svg")?)?
         .arg(
@@ -138,18 +205,63 @@ fn explain_command<'a>(alloc: Global) -> Result<Command<'a>, AllocError> {
                 .conflicts_with("svg")?
                 .conflicts_with("counts")?
                 .conflicts_with("require")?,
+        )?
+        .arg(
+            fault_option(alloc)
+                .requires_arg("svg")?
+                .conflicts_with("counts")?
+                .conflicts_with("views")?
+                .conflicts_with("script")?,
+        )?
+        .arg(
+            views_option(alloc)
+                .conflicts_with("counts")?
+                .conflicts_with("require")?
+                .conflicts_with("script")?,
+        )?
+        .arg(
+            message_option(alloc)
+                .conflicts_with("views")?
+                .conflicts_with("fault")?
+                .conflicts_with("svg")?
+                .conflicts_with("counts")?
+                .conflicts_with("require")?
+                .conflicts_with("script")?,
         )
 }
 
+/// Returns the length of lines that the arguments of `explain` ask for.
+fn columns_of(matches: &ArgMatches<'_>) -> u32 {
+    matches.get_one::<u32>("columns").unwrap_or(79)
+}
+
 /// Returns what the arguments of `explain` ask for.
-fn explain_words(matches: &ArgMatches<'_>) -> Words {
+fn explain_words(alloc: Global, matches: &ArgMatches<'_>) -> Result<Words, AllocError> {
+    let columns = columns_of(matches);
+    if let Some(name) = matches.get_str("message") {
+        let message = message_named(alloc, name)?;
+        return Ok(Words::Verdict(Asked::Message { message, columns }));
+    }
+    Ok(verdict_words(matches, columns))
+}
+
+/// Returns which verdict the arguments of `explain` ask for, if they ask for no message.
+fn verdict_words(matches: &ArgMatches<'_>, columns: u32) -> Words {
     let workers = workers_of(matches);
     let required = Required::of(matches.get_strs("require").unwrap_or(&[]));
     let rendering = match (matches.get_flag("svg"), matches.get_flag("counts")) {
-        (true, _) => Rendering::Picture,
+        (true, _) if matches.get_flag("views") => Rendering::DrawnViews,
+        (true, _) => Rendering::Picture(matches.get_one::<u32>("fault")),
         (_, true) => Rendering::Counts,
+        _ if matches.get_flag("views") => Rendering::Views(columns as usize),
         _ if matches.get_flag("script") => return Words::ExplainScript,
-        _ => return Words::Verdict(Asked::Explain { workers, required }),
+        _ => {
+            return Words::Verdict(Asked::Explain {
+                workers,
+                columns,
+                required,
+            });
+        }
     };
     Words::Verdict(Asked::Render {
         workers,
@@ -158,18 +270,48 @@ fn explain_words(matches: &ArgMatches<'_>) -> Words {
     })
 }
 
+/// Returns what the arguments of `audit` ask for.
+fn audit_words(matches: &ArgMatches<'_>) -> Asked {
+    let workers = workers_of(matches);
+    if matches.get_flag("brief") {
+        Asked::Brief { workers }
+    } else {
+        Asked::Audit { workers }
+    }
+}
+
 /// Returns the number of workers that the arguments of a verdict ask for.
 fn workers_of(matches: &ArgMatches<'_>) -> u32 {
     matches.get_one::<u32>("workers").unwrap_or(1)
 }
 
-fn check_command<'a>(alloc: Global) -> Command<'a> {
+fn plain_option<'a>(alloc: Global) -> Arg<'a> {
+    Arg::new(alloc, "plain")
+        .long("plain")
+        .action(ArgAction::SetTrue)
+        .help(
+            "Check a small run by a second program, which tests each specification as it is defined and is short enough to be read. The answer is the same",
+        )
+}
+
+fn check_command<'a>(alloc: Global) -> Result<Command<'a>, AllocError> {
     Command::new(alloc, "check")
-        .override_usage("totem check < RUN_AND_CERTIFICATE")
+        .override_usage("totem check [OPTIONS] < RUN_AND_CERTIFICATE")
         .about(
             "Reads a run and then its certificate from standard input, and judges the run. Refuses a certificate that does not fit it",
         )
         .after_help(CHECK_EXAMPLE)
+        .arg(plain_option(alloc))
+}
+
+/// Returns what the arguments of `check` ask for.
+fn check_words(matches: &ArgMatches<'_>) -> Words {
+    let checker = if matches.get_flag("plain") {
+        Checker::Plain
+    } else {
+        Checker::Walk
+    };
+    Words::Verdict(Asked::Check { checker })
 }
 
 fn sim_command<'a>(alloc: Global) -> Command<'a> {
@@ -187,7 +329,7 @@ fn command<'a>(alloc: Global) -> Result<Command<'a>, AllocError> {
         .subcommand_required(true)
         .subcommand(audit_command(alloc)?)?
         .subcommand(explain_command(alloc)?)?
-        .subcommand(check_command(alloc))?
+        .subcommand(check_command(alloc)?)?
         .subcommand(sim_command(alloc))?
         .subcommand(run_command(alloc)?)
 }
@@ -196,14 +338,12 @@ fn command<'a>(alloc: Global) -> Result<Command<'a>, AllocError> {
 pub fn read_words(alloc: Global, words: &[String]) -> Result<Words, Error> {
     let matches = command(alloc)?.try_get_matches_from(words)?;
     Ok(match matches.subcommand() {
-        Some(("check", _)) => Words::Verdict(Asked::Check),
+        Some(("check", check)) => check_words(check),
         Some(("sim", _)) => Words::Sim,
         Some(("run", run)) if run.get_flag("quiet") => Words::RunQuietly(run_words(run)),
         Some(("run", run)) => Words::Run(run_words(run)),
-        Some(("explain", explain)) => explain_words(explain),
-        Some((_, audit)) => Words::Verdict(Asked::Audit {
-            workers: workers_of(audit),
-        }),
+        Some(("explain", explain)) => explain_words(alloc, explain)?,
+        Some((_, audit)) => Words::Verdict(audit_words(audit)),
         None => Words::Verdict(Asked::Audit { workers: 1 }),
     })
 }

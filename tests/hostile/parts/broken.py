@@ -90,7 +90,8 @@ def try_byte(places, trial, number):
 
 def explained(row):
     """The same row, for `explain`."""
-    return rows.Row(row.name, ('explain', *row.words[1:]), row.given, row.status, None)
+    words = tuple(word for word in row.words[1:] if word != '--brief')
+    return rows.Row(row.name, ('explain', *words), row.given, row.status, None)
 
 
 def is_picture(text):
@@ -160,7 +161,7 @@ def try_change(corpus, changes, trial, number):
     chosen, text = changes.changed(number)
     row = corpus[chosen]
     case = Case(row.name, 'change %d of seed %d' % (number, changes.seed), row.words, text)
-    if row.verb == 'audit':
+    if row.verb == 'audit' and '--brief' not in row.words:
         try_run(trial, case, number)
     elif row.verb == 'sim':
         try_script(trial, case, number)

@@ -5,9 +5,11 @@ from harness.sweep import MEMORY, Sweeper, always, one_of
 
 ROWS = (
     'one-message-delivered-by-both', 'empty-run', 'two-orders-of-two-messages', 'sent-and-open',
-    'sent-and-failed', 'sent-and-moved-on', 'partition-that-is-still-open', 'certificate-of-a-good-run',
+    'sent-and-failed', 'sent-and-moved-on', 'partition-that-is-still-open', 'certificate-of-a-good-run', 'the-checker-lists-what-is-open',
     'script-that-loses-a-message', 'script-that-parts-and-joins-a-ring', 'script-of-a-crash-in-recovery',
-    'explained-yes', 'explained-no', 'explained-refusal', 'explained-script', 'drawn-yes', 'drawn-no',
+    'explained-yes', 'explained-no', 'explained-one-missing-delivery', 'explained-7-1-of-several', 'explained-1-4-delivered-twice',
+    'message-that-members-lack', 'views-of-a-partition', 'brief-yes', 'explained-refusal', 'explained-script', 'drawn-yes',
+    'drawn-no',
 )
 # The arguments after `totem`, and their status.
 WORDS = (
@@ -30,7 +32,7 @@ def own_answer(tally, row, ended):
 def growths(asked, tally):
     """Out of memory at each refusal, the row's own answer if nothing was refused."""
     sweeper = Sweeper(tally, asked.jobs)
-    for row in map(rows.read, ROWS):
+    for row in (row for name in ROWS for row in rows.read_asked(name)):
         def make(**told):
             return asked.shim.run([asked.program, *row.words], row.given, **told)
 

@@ -1,4 +1,4 @@
-"""Changed certificates, and what the checker says about them: here the five tests of a certificate compare every pair of entries."""
+"""Changed certificates, and what both checkers say about them: here the five tests of a certificate compare every pair of entries."""
 import os
 import random
 from functools import partial
@@ -103,10 +103,11 @@ def try_changes(made, seed, program):
     for _ in range(CHANGES):
         some = changed(rng, lines)
         fault, text = fault_of(logs, some), text_of(version, some)
-        came, _ = process.run([program, 'check'], run + text)
         wanted = (2, b'', b'totem: certificate refused: %s\n' % fault) if fault else (0, lists + b'end\n', b'')
-        if (came.status, came.output, came.errors) != wanted:
-            return 'came:   %s\n  wanted: %s\n  of %r' % (came, wanted, text)
+        for words in (('check',), ('check', '--plain')):
+            came, _ = process.run([program, *words], run + text)
+            if (came.status, came.output, came.errors) != wanted:
+                return '%s\n  came:   %s\n  wanted: %s\n  of %r' % (' '.join(words), came, wanted, text)
     return None
 
 
@@ -123,7 +124,7 @@ def played(name, program):
 
 
 def certificates():
-    """The checker names the first test that a changed certificate fails, and accepts it if it fails none."""
+    """Both checkers name the first test that a changed certificate fails, and accept it if it fails none."""
     for seed, name in enumerate(RUNS + SCRIPTS):
         made = partial(read if name in RUNS else played, name)
         yield 'changed certificates of %s' % name, partial(try_changes, made, seed)

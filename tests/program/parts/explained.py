@@ -1,4 +1,6 @@
 """Explanations and pictures of texts that are made here: long ones, and each example of a row."""
+import gzip
+import lzma
 import re
 from functools import partial
 
@@ -28,9 +30,9 @@ def try_many_faults(program):
     text = came.output.decode()
     is_right = came.status == 1 and \
         '\nOf 101 faults the first 100 are explained in full.\n\nfault 3 1@2\n' in text and \
-        '  Process 1 did not deliver 400.1#1 in r400.1 or what follows it: it went on to r404.1 (1@301).\n' in text and \
+        '  Process 1 did not deliver 400.1#1 in r400.1 or what follows it: it went on to\n      r404.1 (1@301).\n' in text and \
         '      open\n\nfault 3 1@302\n' \
-        'Specification 3: A process that sends a message delivers it, unless it fails or is still in that configuration.\n' \
+        'Specification 3: A process that sends a message delivers it, unless it fails or\n    is still in that configuration.\n' \
         '  1@302  process 1 sent 404.1#1 in r404.1, an agreed message\n\nWhat the run put to the test:\n' in text
     return None if is_right else 'came: %s' % came
 
@@ -53,15 +55,16 @@ def long_run():
 
 
 def try_long_picture(program):
-    """A long run is drawn around its fault: the last four of 202 entries of log 2, nothing of log 1. Seven letters take 53 pixels."""
+    """A long run is drawn around its fault: the last four of 202 entries of log 2, nothing of log 1. The text about the
+    gap has 14 letters, which take 102 pixels."""
     came = told_by(program, ('--svg',), long_run())
     text = came.output.decode()
     parts = (
         "<title id='title'>No: the run breaks specification 1.3. It requires: A message is delivered only",
-        '>1: 2@202, process 2 delivered 4.1#999 in r4.1</text>',
-        '>.. 198</text>',
+        '>(1) 2@202: process 2 delivered 4.1#999 in r4.1</text>',
+        '>.. 198, 1 conf</text>',
         '<title>2@199: process 2 delivered 4.1#198 in r4.1</title>',
-        "stroke='#d55e00' stroke-width='3'/>\n<text x='348' y='70' text-anchor='middle' font-weight='bold' "
+        "stroke='#d55e00' stroke-width='3'/>\n<text x='569' y='70' text-anchor='middle' font-weight='bold' "
         "fill='#b34700'>1</text>",
     )
     is_right = came.status == 1 and all(part in text for part in parts) and text.count('<g>') == 4 and \
@@ -70,14 +73,49 @@ def try_long_picture(program):
 
 
 def try_drawn(row, program):
-    """The picture of a run has as many red circles as the first fault has places."""
-    came = told_by(program, ('--svg',), row.given.decode())
-    text = came.output.decode()
-    fault = re.search(rb'(?m)^fault .*$', row.answer.output)
-    rings = fault[0].count(b'@') if fault else 0
-    is_right = came.status == row.status and text.startswith('<svg ') and text.endswith('</svg>\n') and \
-        text.count("stroke='#d55e00'") == rings
-    return None if is_right else 'came: %s\n  wanted: %d red rings' % (came, rings)
+    """The picture of each fault has as many red circles as the fault has places, and a dashed ring if something is missing; there is none of
+    a further fault."""
+    faults = re.findall(rb'(?m)^fault .*$', row.answer.output)
+    for number, fault in enumerate(faults or [b''], 1):
+        words = ('--svg', '--fault', str(number)) if faults else ('--svg',)
+        came = told_by(program, words, row.given.decode())
+        text = came.output.decode()
+        is_missing = bool(re.match(rb'fault (2\.1|3|4|5|6\.3|7\.[12]) ', fault))
+        is_right = came.status == row.status and text.startswith('<svg ') and text.endswith('</svg>\n') and \
+            text.count("stroke='#d55e00'") == fault.count(b'@') and ("stroke='#b34700'" in text) == is_missing
+        if not is_right:
+            return 'came: %s\n  wanted: the picture of %r' % (came, fault)
+    came = told_by(program, ('--svg', '--fault', str(len(faults) + 1)), row.given.decode())
+    wanted = 'totem: there is no fault %d: faults in the report: %d\n' % (len(faults) + 1, len(faults))
+    is_right = (came.status, came.output, came.errors.decode()) == (6, b'', wanted)
+    return None if is_right else 'came: %s\n  wanted: %s' % (came, wanted)
+
+
+def try_hint(text, status, hint, program):
+    """What is refused only because of how it was saved is told so; and it is told of nothing else."""
+    came, _ = process.run([program, 'explain'], text)
+    told = came.errors.decode()
+    is_right = came.status == status and (hint in told if hint else not any(other in told for _, _, other in HINTS.values() if other))
+    return None if is_right else 'came: %s\n  wanted: status %d and %r' % (came, status, hint)
+
+
+RUN = b'totem-run 1\nlog 1\nconf r4.1 1\nopen\nend\n'
+# Texts that are taken for runs: the text, the status, and what is said of it.
+HINTS = {
+    'gzip': (gzip.compress(RUN), 2, 'gzip -dc'),
+    'xz': (lzma.compress(RUN), 2, 'xz -dc'),
+    'a byte order mark': (b'\xef\xbb\xbf' + RUN, 2, 'byte order mark'),
+    'a carriage return in each line': (RUN.replace(b'\n', b'\r\n'), 2, 'carriage return'),
+    'a carriage return in one line': (RUN.replace(b'r4.1 1\n', b'r4.1 1\r\n'), 2, 'carriage return'),
+    'a carriage return at the end': (RUN[:-1] + b'\r\n', 2, 'carriage return'),
+    'a log that begins with a send': (b'send r4.1 a 4.1#1\n', 2, 'tools/logs join'),
+    'a log that begins with a delivery': (b'dlv r4.1 4.1#1\n', 2, 'tools/logs join'),
+    'a log that begins with a failure': (b'fail r4.1\n', 2, 'tools/logs join'),
+    'a certificate': (b'totem-cert 1\nend\n', 2, 'totem check'),
+    'a carriage return within a line': (RUN.replace(b'conf r', b'conf\rr'), 2, ''),
+    'another first line': (b'totem-run 9\n', 2, ''),
+    'a run': (RUN, 0, ''),
+}
 
 
 def explained():
@@ -89,3 +127,5 @@ def explained():
     for row in map(row_files.read, row_files.names()):
         if row.words == ('explain',) and row.answer and row.answer.output:
             yield row.name + ', drawn', partial(try_drawn, row)
+    for name, case in HINTS.items():
+        yield name, partial(try_hint, *case)

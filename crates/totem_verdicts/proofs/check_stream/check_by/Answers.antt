@@ -4,7 +4,7 @@ use Rattle.totem_names.specs.Writing.{Wrote, held}
 use Rattle.totem_evs.specs.RunRecord.{RunRecord}
 use Rattle.totem_verdicts.specs.Report.{accepted_text}
 use Rattle.totem_verdicts.proofs.Reported.{whole_pair, certificate_failed, report_failed}
-use Rattle.totem_verdicts.proofs.check_stream.check_io.Goals as goal
+use Rattle.totem_verdicts.proofs.check_stream.check_by.Goals as goal
 
 pub returns-in_err-certificate : goal.returns-in_err-certificate
 returns-in_err-certificate g c =

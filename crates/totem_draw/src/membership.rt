@@ -1,0 +1,234 @@
+//! The membership of a run as a picture: bands of configurations, without messages (docs/PROGRAM.md, "The membership").
+use crate::bands::{Band, Bands, Row};
+use crate::frame::{Frame, LINE, step_for};
+use crate::picture::{opening, push_text, push_wrapped};
+use crate::shapes::{Point, push_label, push_words};
+use std::alloc::{AllocError, Global};
+use totem_evs::{Log, Run};
+use totem_explain::{Visit, Visits};
+use totem_names::{ConfId, Proc};
+
+/// How many configurations are drawn at most: the last ones.
+const MOST: usize = 200;
+
+/// The text below the picture that says how to read it.
+const LEGEND: &str =
+    "From left to right in an order that fits all logs. A band is a stay in a regular configuration, in one colour in all lanes. Below it is how many messages the process sent (s) and delivered (d) there and on the way to the next one.";
+
+/// Returns the title of a picture of so many configurations.
+fn title_of(alloc: Global, count: usize) -> Result<String, AllocError> {
+    if count <= MOST {
+        return format!(in alloc; "The membership of the run: {count} regular configurations.");
+    }
+    format!(in alloc;
+        "The membership of the run: the last {MOST} of {count} regular configurations."
+    )
+}
+
+/// Returns what is written below the band of a visit.
+fn count_of(alloc: Global, visit: &Visit) -> Result<String, AllocError> {
+    let sends = visit.sends;
+    let deliveries = visit.deliveries;
+    format!(in alloc; "{sends} s, {deliveries} d")
+}
+
+/// Returns how many letters the longest name or count has.
+fn most_letters(alloc: Global, list: &[Visit]) -> Result<usize, AllocError> {
+    let mut most = 0usize;
+    for visit in list {
+        let conf = visit.conf;
+        most = most.max(format!(in alloc; "{conf}")?.len());
+        most = most.max(count_of(alloc, visit)?.len());
+    }
+    Ok(most)
+}
+
+/// A configuration and its column.
+#[derive(Clone, Copy)]
+struct Column {
+    conf: ConfId,
+    slot: u32,
+}
+
+/// Returns the configurations in ascending order, each with its column.
+fn columns_of(alloc: Global, order: &[ConfId]) -> Result<Vec<Column>, AllocError> {
+    let mut columns = Vec::new(alloc);
+    let mut slot = 0u32;
+    for conf in order {
+        columns.push(Column { conf: *conf, slot })?;
+        slot = slot.saturating_add(1);
+    }
+    columns.sort_by_key(|column| column.conf)?;
+    Ok(columns)
+}
+
+/// Returns the column of a configuration, if it is drawn.
+fn slot_of(columns: &[Column], conf: &ConfId) -> Option<u32> {
+    let index = columns.partition_point(|column| column.conf.is_below(conf));
+    let column = columns.get(index)?;
+    if column.conf.is(conf) {
+        Some(column.slot)
+    } else {
+        None
+    }
+}
+
+/// Returns the visits of configurations that are drawn.
+fn drawn_of(alloc: Global, list: &[Visit], columns: &[Column]) -> Result<Vec<Visit>, AllocError> {
+    let mut drawn = Vec::new(alloc);
+    for visit in list {
+        if slot_of(columns, &visit.conf).is_some() {
+            drawn.push(*visit)?;
+        }
+    }
+    Ok(drawn)
+}
+
+/// Returns the row of a log, each of whose bands extends to the next one.
+fn row_of(
+    alloc: Global,
+    log: &Log,
+    visits: &[Visit],
+    columns: &[Column],
+    slots: u32,
+) -> Result<Row, AllocError> {
+    let mut bands: Vec<Band> = Vec::new(alloc);
+    for (index, visit) in visits.iter().enumerate() {
+        let from = slot_of(columns, &visit.conf).unwrap_or(0);
+        let end = match visits.get(index.saturating_add(1)) {
+            Some(next) => slot_of(columns, &next.conf).unwrap_or(slots),
+            None if visit.has_failed() => from.saturating_add(1),
+            None => slots,
+        };
+        bands.push(Band {
+            conf: visit.conf,
+            from,
+            to: end.saturating_sub(1).max(from),
+        })?;
+    }
+    Ok(Row {
+        proc: log.proc,
+        ending: log.ending,
+        bands,
+    })
+}
+
+/// Returns the visits of a process, of those of all logs, which stand log by log.
+fn visits_of<'v>(list: &'v [Visit], proc: Proc) -> &'v [Visit] {
+    let from = list.iter().position(|visit| visit.proc == proc);
+    let rest = list.get(from.unwrap_or(list.len())..).unwrap_or(&[]);
+    let count = rest.iter().position(|visit| visit.proc != proc);
+    rest.get(..count.unwrap_or(rest.len())).unwrap_or(rest)
+}
+
+/// Adds the counts below the bands of a process.
+fn push_counts(
+    alloc: Global,
+    text: &mut String,
+    frame: &Frame,
+    y: u32,
+    visits: &[Visit],
+    columns: &[Column],
+) -> Result<(), AllocError> {
+    for visit in visits {
+        let slot = slot_of(columns, &visit.conf).unwrap_or(0);
+        let below = Point {
+            x: frame.middle(slot),
+            y: y.saturating_add(26),
+        };
+        push_label(text, below, count_of(alloc, visit)?.as_str())?;
+    }
+    Ok(())
+}
+
+/// Returns the bands of all logs.
+fn bands_of(
+    alloc: Global,
+    run: &Run,
+    list: &[Visit],
+    columns: &[Column],
+    slots: u32,
+) -> Result<Bands, AllocError> {
+    let mut rows = Vec::new(alloc);
+    for log in run.logs.as_slice() {
+        let visits = visits_of(list, log.proc);
+        rows.push(row_of(alloc, log, visits, columns, slots)?)?;
+    }
+    Bands::of(alloc, rows)
+}
+
+/// Adds the counts of all logs.
+fn push_all_counts(
+    alloc: Global,
+    text: &mut String,
+    run: &Run,
+    frame: &Frame,
+    list: &[Visit],
+    columns: &[Column],
+) -> Result<(), AllocError> {
+    let mut number = 0u32;
+    for log in run.logs.as_slice() {
+        let visits = visits_of(list, log.proc);
+        push_counts(alloc, text, frame, frame.y(number), visits, columns)?;
+        number = number.saturating_add(1);
+    }
+    Ok(())
+}
+
+/// Draws the lanes of these visits in a frame.
+fn push_lanes(
+    alloc: Global,
+    text: &mut String,
+    run: &Run,
+    frame: &Frame,
+    list: &[Visit],
+    columns: &[Column],
+) -> Result<(), AllocError> {
+    let bands = bands_of(alloc, run, list, columns, frame.slots)?;
+    bands.push(alloc, text, run.version, frame)?;
+    bands.push_names(alloc, text, frame)?;
+    push_all_counts(alloc, text, run, frame, list, columns)
+}
+
+/// Draws the membership of a run as a picture in SVG: its last 200 regular configurations.
+pub fn draw_views(alloc: Global, run: &Run) -> Result<String, AllocError> {
+    let mut visits = Visits::of(alloc, run)?;
+    let order = visits.order(alloc)?;
+    let title = title_of(alloc, order.len())?;
+    let last = order.as_slice().get(order.len().saturating_sub(MOST)..);
+    let columns = columns_of(alloc, last.unwrap_or(&[]))?;
+    let list = drawn_of(alloc, visits.list.as_slice(), columns.as_slice())?;
+    let mut below = Vec::new(alloc);
+    push_wrapped(alloc, &mut below, LEGEND)?;
+    let frame = Frame {
+        top: LINE.saturating_mul(2),
+        lanes: u32::try_from(run.logs.as_slice().len()).unwrap_or(u32::MAX),
+        slots: u32::try_from(columns.len()).unwrap_or(u32::MAX),
+        step: step_for(most_letters(alloc, list.as_slice())?),
+    };
+    let lines = u32::try_from(below.len()).unwrap_or(u32::MAX);
+    let height = frame.line_below(lines);
+    let mut text = opening(
+        alloc,
+        frame.width(),
+        height,
+        title.as_str(),
+        below.as_slice(),
+    )?;
+    let at = Point {
+        x: 16,
+        y: LINE.saturating_add(4),
+    };
+    push_words(&mut text, at, title.as_str())?;
+    push_lanes(
+        alloc,
+        &mut text,
+        run,
+        &frame,
+        list.as_slice(),
+        columns.as_slice(),
+    )?;
+    push_text(&mut text, frame.line_below(0), below.as_slice())?;
+    text.push_str("</svg>\n")?;
+    Ok(text)
+}

@@ -1,0 +1,169 @@
+//! What became of one message in a run (docs/PROGRAM.md, "One message").
+use crate::event::{event_of, place_name};
+use crate::fate::course_of;
+use crate::fitted::fitted;
+use crate::lookup::{change_in, entry_at, log_of, place_of, send_in};
+use crate::members::{Member, named, told_together};
+use std::alloc::{AllocError, Global};
+use totem_evs::{Entry, Log, Run};
+use totem_names::{ConfId, MsgId, Place, Proc};
+
+/// What became of a message, in whole lines.
+#[derive(Debug, Drop)]
+pub struct Traced {
+    pub text: String,
+    /// Whether a log sends or delivers it.
+    pub is_found: bool,
+}
+
+/// The lines about what happened to a message.
+#[derive(Drop)]
+struct Trace {
+    sends: String,
+    deliveries: String,
+    /// The processes that don't deliver it.
+    without: Vec<Proc>,
+}
+
+impl Trace {
+    /// Adds what a log does with the message.
+    fn add_log(
+        &mut self,
+        alloc: Global,
+        run: &Run,
+        log: &Log,
+        message: MsgId,
+    ) -> Result<(), AllocError> {
+        let mut is_without = true;
+        for (index, entry) in log.entries.as_slice().iter().enumerate() {
+            let lines = match entry {
+                Entry::Send(sent, _, _) if *sent == message => &mut self.sends,
+                Entry::Deliver(delivered, _) if *delivered == message => {
+                    is_without = false;
+                    &mut self.deliveries
+                }
+                _ => continue,
+            };
+            let event = event_of(alloc, run.version, log.proc, entry)?;
+            let place = place_name(alloc, run.version, place_of(log, index))?;
+            write!(lines, "  {place}  {event}\n")?;
+        }
+        if is_without {
+            self.without.push(log.proc)?;
+        }
+        Ok(())
+    }
+}
+
+/// Returns the configuration in which a message was sent; if no log sends it, the regular one of the ring after which it is named.
+fn origin_of(run: &Run, message: MsgId) -> ConfId {
+    for log in run.logs.as_slice() {
+        if let Some((_, conf)) = send_in(log, message) {
+            return conf;
+        }
+    }
+    ConfId::Regular(message.ring)
+}
+
+/// Returns the members of a configuration as the first log has them that changes to it, or `None` if none does.
+fn members_of<'r>(run: &'r Run, conf: &ConfId) -> Option<&'r [Proc]> {
+    for log in run.logs.as_slice() {
+        if let Some(place) = change_in(log, conf) {
+            if let Some(Entry::Conf(_, members)) = entry_at(run, place) {
+                return Some(members.as_slice());
+            }
+        }
+    }
+    None
+}
+
+/// Returns where the processes were that did not deliver a message of this configuration.
+fn elsewhere(
+    alloc: Global,
+    run: &Run,
+    conf: &ConfId,
+    without: &[Proc],
+) -> Result<String, AllocError> {
+    if without.is_empty() {
+        return Ok(String::new(alloc));
+    }
+    let Some(all) = members_of(run, conf) else {
+        let procs = named(alloc, run.version, without)?;
+        return format!(in alloc; "  {procs}: no log changes to {conf}.\n");
+    };
+    let mut members = Vec::new(alloc);
+    let mut others = Vec::new(alloc);
+    for proc in without {
+        if all.contains(proc) {
+            members.push(Member {
+                proc: *proc,
+                course: course_of(run, *proc, conf),
+            })?;
+        } else {
+            others.push(*proc)?;
+        }
+    }
+    let mut text = told_together(alloc, run.version, "", members.as_slice())?;
+    if !others.is_empty() {
+        let procs = named(alloc, run.version, others.as_slice())?;
+        let was = if others.len() == 1 {
+            "was no member"
+        } else {
+            "were no members"
+        };
+        write!(text, "  {procs} {was} of {conf}.\n")?;
+    }
+    Ok(text)
+}
+
+/// Adds lines under a heading, or a sentence if there are none.
+fn push_part(text: &mut String, heading: &str, lines: &str, none: &str) -> Result<(), AllocError> {
+    if lines.is_empty() {
+        return write!(text, "{none}\n");
+    }
+    write!(text, "{heading}\n{lines}")
+}
+
+/// Says of a message where it was sent, who delivered it where, and where those were who did not. A line has at most this many columns,
+/// unless a word is longer.
+pub fn explain_message(
+    alloc: Global,
+    run: &Run,
+    message: MsgId,
+    columns: usize,
+) -> Result<Traced, AllocError> {
+    let mut trace = Trace {
+        sends: String::new(alloc),
+        deliveries: String::new(alloc),
+        without: Vec::new(alloc),
+    };
+    for log in run.logs.as_slice() {
+        trace.add_log(alloc, run, log, message)?;
+    }
+    if trace.sends.is_empty() && trace.deliveries.is_empty() {
+        return Ok(Traced {
+            text: format!(in alloc; "No log sends or delivers {message}.\n")?,
+            is_found: false,
+        });
+    }
+    let mut text = format!(in alloc; "Message {message}\n")?;
+    push_part(&mut text, "Sent:", trace.sends.as_str(), "No log sends it.")?;
+    push_part(
+        &mut text,
+        "Delivered:",
+        trace.deliveries.as_str(),
+        "No log delivers it.",
+    )?;
+    let conf = origin_of(run, message);
+    let elsewhere = elsewhere(alloc, run, &conf, trace.without.as_slice())?;
+    push_part(
+        &mut text,
+        "Not delivered:",
+        elsewhere.as_str(),
+        "Each log delivers it.",
+    )?;
+    Ok(Traced {
+        text: fitted(alloc, text.as_str(), columns)?,
+        is_found: true,
+    })
+}

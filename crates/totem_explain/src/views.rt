@@ -1,0 +1,186 @@
+//! The membership of a run: its regular configurations, who came to each from where, and what happened there (docs/PROGRAM.md,
+//! "The membership").
+use crate::event::spaced;
+use crate::fitted::fitted;
+use crate::lookup::{entry_of, log_of};
+use crate::size::Size;
+use crate::visits::{Visit, Visits};
+use std::alloc::{AllocError, Global};
+use totem_evs::{Ending, Entry, Run};
+use totem_names::{ConfId, Proc};
+
+/// Returns the members of the configuration of a visit.
+fn members_of<'r>(run: &'r Run, visit: &Visit) -> &'r [Proc] {
+    let Some(log) = log_of(run, visit.proc) else {
+        return &[];
+    };
+    match log.entries.as_slice().get(visit.at) {
+        Some(Entry::Conf(_, members)) => members.as_slice(),
+        _ => &[],
+    }
+}
+
+/// Returns whether two processes came to a configuration by the same way.
+fn came_together(one: &Visit, other: &Visit) -> bool {
+    one.from == other.from && one.through == other.through
+}
+
+/// Returns whether two processes' logs end in the same way and place.
+fn ended_together(one: &Visit, other: &Visit) -> bool {
+    one.ending == other.ending && one.ends_in == other.ends_in
+}
+
+/// Returns by which way a process came to a configuration.
+fn way_of(alloc: Global, visit: &Visit) -> Result<String, AllocError> {
+    match (visit.from, visit.through) {
+        (Some(from), Some(through)) => format!(in alloc; "from {from} by {through}"),
+        (Some(from), None) => format!(in alloc; "from {from}"),
+        (None, Some(through)) => format!(in alloc; "by {through}"),
+        (None, None) => format!(in alloc; "began here"),
+    }
+}
+
+/// Returns how and where a log ends, or `None` if it goes on to another configuration.
+fn end_of(alloc: Global, visit: &Visit) -> Result<Option<String>, AllocError> {
+    let word = match visit.ending {
+        None => return Ok(None),
+        Some(Ending::Standing) => "open",
+        Some(Ending::Failed) => "failed",
+        Some(Ending::Quiet) => "quiet",
+    };
+    Ok(Some(match visit.ends_in {
+        Some(conf) => format!(in alloc; "{word} in {conf}")?,
+        None => format!(in alloc; "{word} here")?,
+    }))
+}
+
+/// Returns a line about these processes, or nothing if there are none.
+fn line_of(alloc: Global, run: &Run, what: &str, procs: &[Proc]) -> Result<String, AllocError> {
+    if procs.is_empty() {
+        return Ok(String::new(alloc));
+    }
+    let procs = spaced(alloc, run.version, procs)?;
+    format!(in alloc; "  {what}:{procs}\n")
+}
+
+/// Adds a line for each way by which processes came to a configuration.
+fn push_ways(
+    alloc: Global,
+    text: &mut String,
+    run: &Run,
+    visits: &[Visit],
+) -> Result<(), AllocError> {
+    for (index, visit) in visits.iter().enumerate() {
+        let mut before = visits.iter().take(index);
+        if before.any(|other| came_together(other, visit)) {
+            continue;
+        }
+        let mut procs = Vec::new(alloc);
+        for other in visits {
+            if came_together(other, visit) {
+                procs.push(other.proc)?;
+            }
+        }
+        let way = way_of(alloc, visit)?;
+        text.push_str(line_of(alloc, run, way.as_str(), procs.as_slice())?.as_str())?;
+    }
+    Ok(())
+}
+
+/// Adds a line for each way in which logs end in a configuration.
+fn push_ends(
+    alloc: Global,
+    text: &mut String,
+    run: &Run,
+    visits: &[Visit],
+) -> Result<(), AllocError> {
+    for (index, visit) in visits.iter().enumerate() {
+        let mut before = visits.iter().take(index);
+        if before.any(|other| ended_together(other, visit)) {
+            continue;
+        }
+        let Some(end) = end_of(alloc, visit)? else {
+            continue;
+        };
+        let mut procs = Vec::new(alloc);
+        for other in visits {
+            if ended_together(other, visit) {
+                procs.push(other.proc)?;
+            }
+        }
+        text.push_str(line_of(alloc, run, end.as_str(), procs.as_slice())?.as_str())?;
+    }
+    Ok(())
+}
+
+/// Returns the members that never came.
+fn absent(alloc: Global, members: &[Proc], visits: &[Visit]) -> Result<Vec<Proc>, AllocError> {
+    let mut procs = Vec::new(alloc);
+    for member in members {
+        if !visits.iter().any(|visit| visit.proc == *member) {
+            procs.push(*member)?;
+        }
+    }
+    Ok(procs)
+}
+
+/// Returns how much was sent and delivered in a configuration.
+fn traffic_of(alloc: Global, visits: &[Visit]) -> Result<String, AllocError> {
+    let mut sends = 0u32;
+    let mut deliveries = 0u32;
+    let mut later = 0u32;
+    for visit in visits {
+        sends = sends.saturating_add(visit.sends);
+        deliveries = deliveries.saturating_add(visit.deliveries);
+        later = later.saturating_add(visit.later);
+    }
+    if later == 0 {
+        return format!(in alloc; "  sends {sends}, deliveries {deliveries}\n");
+    }
+    format!(in alloc;
+        "  sends {sends}, deliveries {deliveries}, of these on the way to the next one {later}\n"
+    )
+}
+
+/// Adds a configuration with all visits of it.
+fn push_view(
+    alloc: Global,
+    text: &mut String,
+    run: &Run,
+    visits: &[Visit],
+) -> Result<(), AllocError> {
+    let Some(first) = visits.first() else {
+        return Ok(());
+    };
+    let conf = first.conf;
+    let members = members_of(run, first);
+    let names = spaced(alloc, run.version, members)?;
+    write!(text, "\n{conf}, members{names}\n")?;
+    push_ways(alloc, text, run, visits)?;
+    let absent = absent(alloc, members, visits)?;
+    text.push_str(line_of(alloc, run, "never came", absent.as_slice())?.as_str())?;
+    text.push_str(traffic_of(alloc, visits)?.as_str())?;
+    push_ends(alloc, text, run, visits)
+}
+
+/// Returns the visits of a configuration, from a list in ascending order of configurations.
+fn visits_of<'v>(list: &'v [Visit], conf: &ConfId) -> &'v [Visit] {
+    let from = list.partition_point(|visit| visit.conf.is_below(conf));
+    let rest = list.get(from..).unwrap_or(&[]);
+    let count = rest.partition_point(|visit| visit.conf.is(conf));
+    rest.get(..count).unwrap_or(&[])
+}
+
+/// Describes the membership of a run: its regular configurations, in an order that fits all logs. A line has at most this many columns,
+/// unless a word is longer.
+pub fn explain_views(alloc: Global, run: &Run, columns: usize) -> Result<String, AllocError> {
+    let mut text = Size::of(run).summary(alloc, run)?;
+    let mut visits = Visits::of(alloc, run)?;
+    let order = visits.order(alloc)?;
+    let mut list = visits.list;
+    list.sort_by_key(|visit| visit.conf)?;
+    for conf in &order {
+        push_view(alloc, &mut text, run, visits_of(list.as_slice(), conf))?;
+    }
+    fitted(alloc, text.as_str(), columns)
+}
