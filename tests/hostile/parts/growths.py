@@ -30,7 +30,8 @@ def own_answer(tally, row, ended):
 
 
 def growths(asked, tally):
-    """Out of memory at each refusal, the row's own answer if nothing was refused."""
+    """Out of memory at each refusal, the row's own answer if nothing was refused. With several workers a refusal
+    may also have the own answer: what a worker has no memory for, the others do."""
     sweeper = Sweeper(tally, asked.jobs)
     for row in (row for name in ROWS for row in rows.read_asked(name)):
         def make(**told):
@@ -39,7 +40,8 @@ def growths(asked, tally):
         plain = make()
         own = own_answer(tally, row, plain)
         if own:
-            sweeper.sweep_alone_and_on('row ' + row.name, make, 'REFUSE_GROWTH', plain.growths, always(own))
+            judge = one_of(MEMORY, own) if '--workers' in row.words else always(own)
+            sweeper.sweep_alone_and_on('row ' + row.name, make, 'REFUSE_GROWTH', plain.growths, judge)
 
 
 def words(asked, tally):
