@@ -1,5 +1,5 @@
 -- Whether receipts are those of a list of calls (docs/PROTOCOL.md, "Books").
-use Rattle.std.specs.Prelude.{◌≡◌, ◌<◌, ◌≤◌, ◌+◌, ◌-◌, ◌==◌, ℕ, Bool, false, cond, List, [], ◌∷◌, length, Some, slice_get, slice_index_or, count_by, sum_by, All}
+use Rattle.std.specs.Prelude.{◌≡◌, ◌<◌, ◌≤◌, ◌+◌, ◌-◌, ◌==◌, ℕ, List, [], ◌∷◌, length, Some, slice_get, count_by, sum_by, All}
 use Rattle.totem_books.specs.Calls.{Called, Receipt}
 use Rattle.totem_books.specs.Seats.{SeatRecord}
 
@@ -40,26 +40,3 @@ pub record Agree (calls : List Called) (seats : List SeatRecord) : Type 0 where
 -- each place belongs to one receipt of one seat
 pub record Covers (calls : List Called) (seats : List SeatRecord) : Type 0 where
   pub one : (k : ℕ) → k < length calls → count_in (k + 1) seats ≡ 1
-
--- marks of places: how many are set at one place, and in all
-abbrev pub mark_at : List Bool → ℕ → ℕ
-mark_at marks k = cond (slice_index_or marks k false) 1 0
-
-abbrev pub marked : List Bool → ℕ
-marked marks = count_by (λ b. b) marks
-
--- the place is among the first n marks
-abbrev pub IsInReach : ℕ → Receipt → Type 0
-IsInReach n stub = (0 < stub.at) × (stub.at ≤ n)
-
--- each place has one mark more for each receipt with it, and none has two
-pub record Marks (before after : List Bool) (count : ℕ → ℕ) (stubs : ℕ) : Type 0 where
-  pub same_length : length after ≡ length before
-  pub at : (k : ℕ) → k < length before → mark_at after k ≡ mark_at before k + count (k + 1)
-  pub all : marked after ≡ marked before + stubs
-
--- a place that has a mark or a receipt too many
-pub record MarksTwice (before : List Bool) (count : ℕ → ℕ) : Type 0 where
-  pub place : ℕ
-  pub within : place < length before
-  pub more : 2 ≤ mark_at before place + count (place + 1)

@@ -9,8 +9,10 @@ use thiserror::Error;
 pub enum CloseFault {
     #[error("a seat is missing")]
     SeatMissing,
+    /// `close` never says so: no receipt can differ.
     #[error("a receipt differs from the book")]
     ReceiptMismatch,
+    /// `close` never says so: it takes no memory.
     #[error("out of memory")]
     Memory,
 }

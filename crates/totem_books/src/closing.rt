@@ -9,10 +9,8 @@ use crate::close_fault::CloseFault;
 use crate::closed::ClosedBook;
 use crate::name::BookName;
 use crate::seat::Seat;
-use crate::settle::{Unsettled, settle};
+use crate::settle::settle;
 use crate::shared::SharedBook;
-use std::alloc::Global;
-use std::sync::Mutex;
 
 /// Why a book was not closed. The book and the seats are given back, so that closing can be tried again.
 #[derive(Drop)]
@@ -22,9 +20,9 @@ pub struct CloseRefused<L: BookName> {
     pub seats: Vec<Seat<L>>,
 }
 
-/// Closes the book if all its seats are back and each has the receipts of its calls. Doesn't block.
+/// Closes the book if all its seats are back. Each has the receipts of its calls: this is an invariant of the types, together with the
+/// journal. So nothing is compared, and no memory is taken. Doesn't block.
 pub fn close<L: BookName>(
-    alloc: Global,
     book: SharedBook<L>,
     seats: Vec<Seat<L>>,
 ) -> Result<ClosedBook, CloseRefused<L>>
@@ -37,10 +35,7 @@ pub fn close<L: BookName>(
     ensures start { IfOk result (λ b. b.start ≡ start_with L.me L.ring L.members) }
     ensures log { IfOk result (λ b. IsRecorded (start_with L.me L.ring L.members) b.calls b.log) }
     ensures back { IfErr result (λ e. e.seats.items ≡ seats.items) }
-    ensures first { IfErr result (λ e. vec_len seats < L.parts → e.fault ≡ CloseFault.SeatMissing) }
-    ensures missing { IfErr result (λ e. e.fault ≡ CloseFault.SeatMissing → vec_len seats < L.parts) }
-    // The seats' receipts are those of the book's calls: this is an invariant of their types, together with the journal.
-    ensures mismatch { IfErr result (λ e. e.fault ≡ CloseFault.ReceiptMismatch → ⊥) }
+    ensures missing { IfErr result (λ e. (e.fault ≡ CloseFault.SeatMissing) × (vec_len seats < L.parts)) }
 {
     if (seats.len() as u64) < book.count.seats {
         return Err(CloseRefused {
@@ -49,14 +44,5 @@ pub fn close<L: BookName>(
             seats,
         });
     }
-    let SharedBook { lock, count } = book;
-    match settle(alloc, lock.into_inner(), seats) {
-        Ok(closed) => Ok(closed),
-        Err(back) => {
-            let Unsettled { fault, kept, seats } = back;
-            let lock = Mutex::new(kept);
-            let book = SharedBook { lock, count };
-            Err(CloseRefused { fault, book, seats })
-        }
-    }
+    Ok(settle(book.lock.into_inner(), seats))
 }

@@ -6,7 +6,7 @@
 //! - `SharedBook::call` answers as the node does after a list of calls that begins with all that this seat had seen (`IsAnswered`,
 //!   specs/Journals). While nobody has the lock, node and log are the replay of the calls.
 //! - `close` returns the book with exactly the calls whose receipts the seats have (`Agree`, `Covers`, specs/Receipts),
-//!   each after those that its seat had seen.
+//!   each after those that its seat had seen. It is refused only if a seat is missing.
 //! - The log of a `ClosedBook` is the replay of its calls (`IsRecorded`, specs/Replay).
 //!
 //! Nothing is claimed about waiting or fairness.
@@ -23,10 +23,8 @@ mod comparing;
 mod giving;
 mod kept;
 mod level;
-mod marks;
 mod meeting;
 mod name;
-mod receipts;
 mod reply;
 mod seat;
 mod settle;

@@ -50,11 +50,10 @@ pub fn call<L: BookName, R: Wait>(
 }
 
 pub fn closed<L: BookName>(
-    alloc: Global,
     book: SharedBook<L>,
     seats: Vec<Seat<L>>,
 ) -> Result<ClosedBook, CloseRefused<L>> {
-    close(alloc, book, seats)
+    close(book, seats)
 }
 
 pub fn back<L: BookName>(refused: CloseRefused<L>) -> (CloseFault, SharedBook<L>, Vec<Seat<L>>) {

@@ -88,12 +88,8 @@ fn call_all<L: BookName, R: Wait>(
     Ok(())
 }
 
-fn closed<L: BookName>(
-    alloc: Global,
-    book: SharedBook<L>,
-    seats: Vec<Seat<L>>,
-) -> Result<ClosedBook, Fail> {
-    match close(alloc, book, seats) {
+fn closed<L: BookName>(book: SharedBook<L>, seats: Vec<Seat<L>>) -> Result<ClosedBook, Fail> {
+    match close(book, seats) {
         Ok(closed) => Ok(closed),
         Err(_) => Err("the book was not closed".into()),
     }
@@ -114,7 +110,7 @@ fn live<L: BookName, R: Wait>(
 {
     let (book, mut seats) = SharedBook::<L>::new(alloc, blank, me, ring(), members.as_slice(), 1)?;
     call_all(rt, alloc, &book, &mut seats, inputs)?;
-    closed(alloc, book, seats)
+    closed(book, seats)
 }
 
 fn book_of<R: Wait>(

@@ -150,13 +150,12 @@ fn tell_closed(life: &mut Life, closed: &ClosedBook, seats: usize) -> Result<(),
 }
 
 fn close_and_tell<L: BookName>(
-    alloc: Global,
     life: &mut Life,
     book: SharedBook<L>,
     seats: Vec<Seat<L>>,
 ) -> Result<(), AllocError> {
     let count = seats.len();
-    match close(alloc, book, seats) {
+    match close(book, seats) {
         Ok(closed) => tell_closed(life, &closed, count),
         Err(refused) => life.tell(refused.fault.name()),
     }
@@ -178,7 +177,6 @@ fn tell_refusal(life: &mut Life, fault: CloseFault, count: usize) -> Result<(), 
 }
 
 fn close_again<L: BookName>(
-    alloc: Global,
     life: &mut Life,
     refused: CloseRefused<L>,
     seat: Option<Seat<L>>,
@@ -187,21 +185,20 @@ fn close_again<L: BookName>(
     let told = tell_refusal(life, fault, seats.len());
     let mut seats = seats;
     let put = put_back(&mut seats, seat);
-    told.and(put).and(close_and_tell(alloc, life, book, seats))
+    told.and(put).and(close_and_tell(life, book, seats))
 }
 
 /// Closes the book without its last seat, and then with it.
 fn close_twice<L: BookName>(
-    alloc: Global,
     life: &mut Life,
     book: SharedBook<L>,
     seats: Vec<Seat<L>>,
 ) -> Result<(), AllocError> {
     let mut seats = seats;
     let last = seats.pop();
-    match close(alloc, book, seats) {
+    match close(book, seats) {
         Ok(_) => life.tell("closed without a seat"),
-        Err(refused) => close_again(alloc, life, refused, last),
+        Err(refused) => close_again(life, refused, last),
     }
 }
 
@@ -231,7 +228,7 @@ fn live<L: BookName + Send + Sync, R: Threads + Wait + Sync>(
         count,
     )?;
     let done = all_steps(rt, alloc, life, &book, &mut seats, words);
-    done.and(close_twice(alloc, life, book, seats))
+    done.and(close_twice(life, book, seats))
 }
 
 fn life_of<R: Threads + Wait + Sync>(

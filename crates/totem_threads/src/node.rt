@@ -136,7 +136,7 @@ fn keep_book<L: BookName + Send + Sync, S: Start, R: Threads + Wait + Sync>(
         3,
     )?;
     let back = serve_all(rt, alloc, &book, seats, ends, outlet, start)?;
-    match close(alloc, book, back) {
+    match close(book, back) {
         Ok(closed) => Ok(closed),
         Err(refused) => Err(ThreadsFault::from(refused.fault)),
     }
