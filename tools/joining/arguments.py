@@ -48,6 +48,12 @@ WHERE = """Finds the line of a log from which an entry of a run came, with the t
     tools/logs where my.map 2:1@1543 2:1@1577
 
 For a send that --own-sends moved this is the line in which it was recorded. An entry that --failed or --transitional added has no line."""
+NAME = """Puts the names of nodes beside the numbers of processes in an explanation on standard input:
+
+    ./totem explain < my.run | tools/logs name nodes.txt
+
+Each line of the file is a number and a name, such as `2 db-west`. Lines may become longer than 79 columns. (In a script take the status of
+totem, as by `set -o pipefail`.) The status is 0, 4 if a stream fails, or 64 for a usage error."""
 WHERE_STATUS = """The status is 0, or 1 if the map is broken, has no such place or does not fit the run (then nothing is written), 4 if the
 output or standard error fails, 64 for a usage error."""
 
@@ -175,17 +181,20 @@ def read_words(words):
     """What the arguments ask for."""
     form = argparse.RawDescriptionHelpFormatter
     parser = Words(prog='logs', allow_abbrev=False, formatter_class=form,
-                   description='Works on folders of logs. `logs join --help` and `logs where --help` explain how.')
-    commands = parser.add_subparsers(dest='command', metavar='join | where', required=True)
+                   description='Works on folders of logs. `logs join --help`, `logs where --help` and `logs name --help` explain how.')
+    commands = parser.add_subparsers(dest='command', metavar='join | where | name', required=True)
     join = commands.add_parser('join', allow_abbrev=False, help='make one run from the logs of several processes',
                                description=DESCRIPTION, epilog=EXAMPLES, formatter_class=form)
     _add_words_of_join(join)
     finding = commands.add_parser('where', allow_abbrev=False, help='find the line of a log from which an entry of a run came',
                                   description=WHERE, epilog=WHERE_STATUS, formatter_class=form)
     _add_words_of_where(finding)
+    naming = commands.add_parser('name', allow_abbrev=False, help='put the names of nodes beside the numbers of processes in an explanation',
+                                 description=NAME, formatter_class=form)
+    naming.add_argument('names', metavar='FILE', type=names.read, help='the names: a line is a number and a name, such as `2 db-west`')
     asked = parser.parse_args(words)
     if asked.command == 'join':
         _check_join(join, asked)
-    elif asked.part is not None and asked.part < 1:
+    elif asked.command == 'where' and asked.part is not None and asked.part < 1:
         finding.error('--part is 1 or more')
     return asked

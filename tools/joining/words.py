@@ -160,11 +160,21 @@ def _write_failed():
 
 def _find(asked):
     """Prints where entries came from."""
-    lines = where.find(asked)
+    _write(b''.join(os.fsencode(line) + b'\n' for line in where.find(asked)))
+
+
+def _name(asked):
+    """Copies an explanation, with names beside the numbers of processes."""
+    text = sys.stdin.buffer.read() if sys.stdin else b''
+    _write(os.fsencode(asked.names.in_explanation(os.fsdecode(text))))
+
+
+def _write(content):
+    """Writes bytes to standard output."""
     try:
         if sys.stdout is None:
             raise OSError
-        sys.stdout.buffer.write(b''.join(os.fsencode(line) + b'\n' for line in lines))
+        sys.stdout.buffer.write(content)
         sys.stdout.buffer.flush()
     except OSError as error:
         raise WriteFailed from error
@@ -175,6 +185,9 @@ def _do(asked):
     try:
         if asked.command == 'where':
             _find(asked)
+            return 0
+        if asked.command == 'name':
+            _name(asked)
             return 0
         with tempfile.TemporaryDirectory() as working:
             Joining(asked, working).write()

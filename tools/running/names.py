@@ -3,7 +3,13 @@ import argparse
 import re
 
 LINE = re.compile(r'([1-9][0-9]{0,19})[ \t]+(\S.*)')
-PROCESS = re.compile(r'\b[Pp]rocess ([1-9][0-9]*)(:[0-9]+)?(?![0-9.:#@])')
+NUMBER = r'[1-9][0-9]*(?::[0-9]+)?(?![0-9.:#@])'
+# One process, or a list of several ("processes 4, failures 2" are counts). In a long explanation a list may go on in the next line.
+PROCESSES = re.compile(r'\b[Pp]rocess(?: {n}|es\s+{n}(?:,\s+{n})*\s+and\s+{n})'.format(n=NUMBER))
+# A list in the membership: "r4.1, members 1 2", "  began here: 1 2".
+LIST = re.compile(r'^(?:r\S+, members|  .*:)(?: {n})+$'.format(n=NUMBER), re.MULTILINE)
+# The heading of a column of entries.
+HEADING = re.compile(r'(?<=  )log (%s)( *)$|(?<=  )log (%s)(  +)' % (NUMBER, NUMBER), re.MULTILINE)
 HELP = 'put the names of nodes beside the numbers of processes: a line of the file is a number and a name, such as `2 db-west`'
 
 
@@ -25,7 +31,20 @@ class Names:
 
     def in_words(self, text):
         """A text with names beside the numbers of processes."""
-        return PROCESS.sub(lambda found: found[0] + self.beside(found[1]), text)
+        return PROCESSES.sub(self._listed, text)
+
+    def _listed(self, found):
+        """What was found, with names beside the numbers in it that stand alone."""
+        return re.sub('(?<= )' + NUMBER, lambda number: number[0] + self.beside(number[0].split(':')[0]), found[0])
+
+    def in_explanation(self, text):
+        """What `totem explain` writes, with names beside the numbers of processes, also in lists and where a column of entries begins; columns
+        stay where they were if there is room."""
+        def headed(found):
+            who, room = found[1] or found[3], found[2] or found[4] or ''
+            name = self.beside(who.split(':')[0])
+            return 'log %s%s%s' % (who, name, ' ' * max(len(room) - len(name), min(len(room), 2)))
+        return HEADING.sub(headed, LIST.sub(self._listed, self.in_words(text)))
 
 
 def read(path):

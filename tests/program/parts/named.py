@@ -1,6 +1,9 @@
-"""Names of nodes, which the tools put beside the numbers of processes (`--names`)."""
+"""Names of nodes, which the tools put beside the numbers of processes (`--names`, and `tools/logs name` in an explanation)."""
+import os
 import tempfile
 from functools import partial
+
+from harness import process
 
 from parts.joined import write_files
 from parts.shrunk import call
@@ -22,6 +25,16 @@ NAMED = {
     'new names': ('shrink --program PROGRAM --names names run', 0, '', '\n  process 1  process 2:1 (db east)\n'),
     'names that are kept': ('shrink --program PROGRAM --keep-names --names names run', 0, '', '  process 2:1 (db east) delivered 4.2#1 in r4.2\n'),
 }
+# What of an explanation becomes what.
+EXPLAINED = {
+    'one process': ('  1:1@3  process 1:1 delivered 4.1#1\n', '  1:1@3  process 1:1 (db-west) delivered 4.1#1\n'),
+    'several, in two lines': ('Processes 2, 3\n      and 1 went\n', 'Processes 2 (db east), 3\n      and 1 (db-west) went\n'),
+    'counts': ('processes 2, transitional deliveries 1\n', 'processes 2, transitional deliveries 1\n'),
+    'the membership': ('r1.2, members 1 2 3\n  began here: 1 3\n', 'r1.2, members 1 (db-west) 2 (db east) 3\n  began here: 1 (db-west) 3\n'),
+    'columns': ('  log 1                 log 3\n      1  conf r4.1 1 2\n', '  log 1 (db-west)       log 3\n      1  conf r4.1 1 2\n'),
+    'columns without room': ('  log 1:1  log 2:1\n', '  log 1:1 (db-west)  log 2:1 (db east)\n'),
+    'bytes that are no text': ('process 2 \udcff\n', 'process 2 (db east) \udcff\n'),
+}
 SAYS = ': argument --names: '
 LINE = ': a line is a number of a process and a name, such as `2 db-west`\n'
 WRONG = {
@@ -33,12 +46,12 @@ WRONG = {
 }
 
 
-def ask(words, program):
-    """The answer of a tool, called in a folder with the files."""
+def ask(words, program, given=b''):
+    """The answer of a tool to an input, called in a folder with the files."""
     with tempfile.TemporaryDirectory() as folder:
         write_files(folder, FILES)
         tool, *rest = words.split()
-        return call(tool, [program if word == 'PROGRAM' else word for word in rest], folder=folder)
+        return call(tool, [program if word == 'PROGRAM' else word for word in rest], given, folder=folder)
 
 
 def show(words, status, output, errors, program):
@@ -48,8 +61,25 @@ def show(words, status, output, errors, program):
     return None if is_right else 'came: %s' % came
 
 
+def explained(given, wanted, program):
+    """An explanation gets names, and nothing else in it changes."""
+    came = ask('logs name names', program, os.fsencode(given))
+    return None if came == process.Answer(0, os.fsencode(wanted), b'') else 'came: %s' % came
+
+
+def explained_to(place, program):
+    """Names can't be written there: a line says so, and the status is 4."""
+    with tempfile.TemporaryDirectory() as folder, open(place, 'wb') as full:
+        write_files(folder, FILES)
+        came = call('logs', ['name', 'names'], b'process 1\n', full, folder)
+    return None if (came.status, came.errors) == (4, b'logs: write failed\n') else 'came: %s, by %s' % (came, program)
+
+
 def refuse(name, said, program):
     """A file that has no names is a usage error, and its line is named."""
+    came = ask('logs name %s' % name, program)
+    if (came.status, came.output) != (64, b'') or not came.errors.endswith(said.replace('--names', 'FILE').encode()):
+        return 'came: %s' % came
     for words in ('play --names %s script', 'logs where --names %s map 2:1@1', 'shrink --program PROGRAM --names %s run'):
         came = ask(words % name, program)
         if (came.status, came.output) != (64, b'') or not came.errors.endswith(said.encode()):
@@ -61,5 +91,8 @@ def named():
     """Names that are shown, and files that have none."""
     for what, given in NAMED.items():
         yield what, partial(show, *given)
+    for what, given in EXPLAINED.items():
+        yield 'an explanation: ' + what, partial(explained, *given)
+    yield 'an explanation that can not be written', partial(explained_to, '/dev/full')
     for what, given in WRONG.items():
         yield what, partial(refuse, *given)
