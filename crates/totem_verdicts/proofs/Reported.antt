@@ -18,9 +18,11 @@ use Rattle.totem_certificate.specs.declared.cert_fault.CertFault.TheVariants as 
 use Rattle.totem_certificate.specs.CertRecord.{CertRecord}
 use Rattle.totem_certificate.specs.CertText.{cert_text}
 use Rattle.totem_verdicts.specs.VerdictFaults.{cert_verdict_fault, write_verdict_fault}
-use Rattle.totem_verdicts.specs.AuditIo.{IsWhole, Audits}
+use Rattle.totem_verdicts.specs.declared.report.Form.{Form}
+use Rattle.totem_verdicts.specs.declared.explain_stream.Explanation.TheVariants.{Words}
+use Rattle.totem_verdicts.specs.AuditIo.{IsWhole, Reports}
 use Rattle.totem_explain.specs.declared.no.ExplainedNo.{ExplainedNo}
-use Rattle.totem_verdicts.specs.ExplainIo.{WritesTold, explained_no_text}
+use Rattle.totem_verdicts.specs.ExplainIo.{WritesExplanation, explained_no_text}
 use Rattle.totem_verdicts.specs.CheckIo.{IsLast, IsWholePair, IsUnreadable, ChecksText}
 
 both_texts : (a b : Option (List ℕ)) (x y : List ℕ) → Consumes a b x → IfSome b (λ bytes. bytes ≡ y) → IfSome a (λ bytes. bytes ≡ x ++ y)
@@ -64,14 +66,14 @@ pub report_failed : (a c : Seen) (was is : Held) (run : RunRecord) (cert : CertR
 report_failed a c was is run cert text write_faults.Memory whole h = (h, whole.failures)
 report_failed a c was is run cert text write_faults.Write whole h = (h, (run, cert, whole))
 
-pub audit_failed : (a c : Seen) (was is : Held) (run : RunRecord) (text : List ℕ) (e : WriteFault)
-    → IsWhole a c run → WritesText {A = Unit {0}} was is (Err e) text → Audits a c was is (Err (write_verdict_fault e))
-audit_failed a c was is run text write_faults.Memory whole h = (h, whole.failures)
-audit_failed a c was is run text write_faults.Write whole h = (h, (run, whole))
+pub audit_failed : (form : Form) (a c : Seen) (was is : Held) (run : RunRecord) (text : List ℕ) (e : WriteFault)
+    → IsWhole a c run → WritesText {A = Unit {0}} was is (Err e) text → Reports form a c was is (Err (write_verdict_fault e))
+audit_failed form a c was is run text write_faults.Memory whole h = (h, whole.failures)
+audit_failed form a c was is run text write_faults.Write whole h = (h, (run, whole))
 
 -- the explanation of a no was written, or was not
-pub no_told : {A : Type 0} (version : Version) (was is : Held) (r : Result A WriteFault) (words : ExplainedNo) (faults : List Fault)
-    → map (λ one. one.fault) words.faults.items ≡ faults → WritesText was is r (explained_no_text version words) → WritesTold version was is r (No faults)
-no_told version was is (Ok a) words faults same wrote = (explained_no_text version words, (words, same, refl), wrote)
-no_told version was is (Err write_faults.Memory) words faults same wrote = wrote
-no_told version was is (Err write_faults.Write) words faults same wrote = wrote
+pub no_explained : {A : Type 0} (columns : ℕ) (version : Version) (was is : Held) (r : Result A WriteFault) (words : ExplainedNo) (faults : List Fault)
+    → map (λ one. one.fault) words.faults.items ≡ faults → WritesText was is r (explained_no_text version words) → WritesExplanation (Words columns) version was is r (No faults)
+no_explained columns version was is (Ok a) words faults same wrote = (explained_no_text version words, (words, same, refl), wrote)
+no_explained columns version was is (Err write_faults.Memory) words faults same wrote = wrote
+no_explained columns version was is (Err write_faults.Write) words faults same wrote = wrote

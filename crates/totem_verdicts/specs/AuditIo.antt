@@ -13,7 +13,9 @@ use Rattle.totem_evs.specs.Missing.{EachHasLog, all_members}
 use Rattle.totem_evs.specs.Reading.{ReadsRun, ReadsEnd, FitsRun}
 use Rattle.totem_evs.specs.Answers.{Answer, Yes, No, IsAnswered}
 use Rattle.totem_evs.specs.Meanings.{IsSound}
-use Rattle.totem_verdicts.specs.Report.{report_text, brief_text}
+use Rattle.totem_verdicts.specs.Report.{report_text}
+use Rattle.totem_verdicts.specs.declared.report.Form.{Form}
+use Rattle.totem_verdicts.specs.declared.report.Form.TheVariants as forms
 use Rattle.totem_verdicts.specs.declared.outcome.Outcome.{Outcome}
 use Rattle.totem_verdicts.specs.declared.outcome.Outcome.TheVariants as outcomes
 use Rattle.totem_verdicts.specs.declared.verdict_fault.VerdictFault.{VerdictFault}
@@ -36,14 +38,14 @@ pub record IsWhole (old new : Seen) (run : RunRecord) : Type 0 where
   pub taken : Consumes old.remaining new.remaining (run_text run)
   pub failures : new.failures ≡ old.failures
 
--- a whole run was read, and the report of its answer and nothing else was written; the outcome is the answer's
-pub record IsAudited (old new : Seen) (was is : Held) (outcome : Outcome) : Type 0 where
+-- a whole run was read, and the report of its answer in this form and nothing else was written; the outcome is the answer's
+pub record IsReported (form : Form) (old new : Seen) (was is : Held) (outcome : Outcome) : Type 0 where
   pub run : RunRecord
   pub whole : IsWhole old new run
   pub answer : Answer
   pub written : IsAnswered run.logs answer
   pub sound : IsSound run.logs answer
-  pub report : Wrote was is (report_text run.version answer)
+  pub report : Wrote was is (report_text form run.version answer)
   pub says : Says answer outcome
 
 -- reading the run gives this fault, or the run was read and the input doesn't end after it
@@ -57,25 +59,14 @@ ReadsWhole old new (Err fault) = IsRefused old new fault
 
 -- the report was written; or nothing was, because the input was refused or failed, or memory was refused; or the sink failed
 -- in this call, after a whole run
+abbrev pub Reports : Form → Seen → Seen → Held → Held → Result Outcome VerdictFault → Type 0
+Reports form old new was is (Ok outcome) = IsReported form old new was is outcome
+Reports form old new was is (Err (faults.Run fault)) = (is ≡ was) × (fault ≢ run_faults.Memory) × IsRefused old new fault
+Reports form old new was is (Err (faults.Cert fault)) = ⊥
+Reports form old new was is (Err (faults.Refused fault)) = ⊥
+Reports form old new was is (Err faults.Memory) = (is ≡ was) × (new.failures ≡ old.failures)
+Reports form old new was is (Err faults.Write) = (is.failures ≡ (was.failures + 1) % 2 ^ 64) × ((run : RunRecord) × IsWhole old new run)
+
+-- the whole report was written, or not
 abbrev pub Audits : Seen → Seen → Held → Held → Result Outcome VerdictFault → Type 0
-Audits old new was is (Ok outcome) = IsAudited old new was is outcome
-Audits old new was is (Err (faults.Run fault)) = (is ≡ was) × (fault ≢ run_faults.Memory) × IsRefused old new fault
-Audits old new was is (Err (faults.Cert fault)) = ⊥
-Audits old new was is (Err (faults.Refused fault)) = ⊥
-Audits old new was is (Err faults.Memory) = (is ≡ was) × (new.failures ≡ old.failures)
-Audits old new was is (Err faults.Write) = (is.failures ≡ (was.failures + 1) % 2 ^ 64) × ((run : RunRecord) × IsWhole old new run)
-
--- a whole run was read, and the brief report of its answer and nothing else was written; the outcome is the answer's
-pub record IsAuditedBriefly (old new : Seen) (was is : Held) (outcome : Outcome) : Type 0 where
-  pub run : RunRecord
-  pub whole : IsWhole old new run
-  pub answer : Answer
-  pub written : IsAnswered run.logs answer
-  pub sound : IsSound run.logs answer
-  pub report : Wrote was is (brief_text run.version answer)
-  pub says : Says answer outcome
-
--- the brief report was written; on failure the same holds as for the whole one
-abbrev pub AuditsBriefly : Seen → Seen → Held → Held → Result Outcome VerdictFault → Type 0
-AuditsBriefly old new was is (Ok outcome) = IsAuditedBriefly old new was is outcome
-AuditsBriefly old new was is (Err fault) = Audits old new was is (Err fault)
+Audits = Reports forms.Whole

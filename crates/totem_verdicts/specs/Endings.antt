@@ -19,10 +19,12 @@ use Rattle.totem_verdicts.specs.declared.outcome.Outcome.{Outcome}
 use Rattle.totem_verdicts.specs.declared.outcome.Outcome.TheVariants as outcomes
 use Rattle.totem_verdicts.specs.declared.verdict_fault.VerdictFault.{VerdictFault}
 use Rattle.totem_verdicts.specs.declared.verdict_fault.VerdictFault.TheVariants as faults
-use Rattle.totem_verdicts.specs.AuditIo.{Audits, AuditsBriefly}
+use Rattle.totem_verdicts.specs.declared.report.Form.{Form}
+use Rattle.totem_verdicts.specs.declared.explain_stream.Explanation.{Explanation}
+use Rattle.totem_verdicts.specs.AuditIo.{Reports, Audits}
 use Rattle.totem_verdicts.specs.CheckIo.{ChecksText}
 use Rattle.totem_verdicts.specs.ExplainIo.{ExplainsRun}
-use Rattle.totem_verdicts.specs.RenderIo.{RendersRun, TracesRun}
+use Rattle.totem_verdicts.specs.TraceIo.{TracesRun}
 
 -- a sink's contents and failures, with no pieces gathered for it
 abbrev pub bare : {S : Type 0} → (S → Option (List ℕ)) → (S → ℕ) → S → Held
@@ -135,24 +137,16 @@ pub data Concludes (outcome : Outcome) (quiet said : Held) : ℕ → Type 0 wher
 
 -- the arguments ask for a verdict: what was read, what was written to the output and the errors, and the status
 pub data Judges (old new : Seen) (was is quiet said : Held) : ℕ → Type 0 where
-  -- a run was judged
-  judged : (outcome : Outcome) → Audits old new was is (Ok outcome) → said ≡ quiet → Judges old new was is quiet said (outcome_status outcome)
-  -- a run was judged, and the report is brief
-  briefed : (outcome : Outcome) → AuditsBriefly old new was is (Ok outcome) → said ≡ quiet → Judges old new was is quiet said (outcome_status outcome)
+  -- a run was judged, and its report written in some form
+  judged : (form : Form) (outcome : Outcome) → Reports form old new was is (Ok outcome) → said ≡ quiet → Judges old new was is quiet said (outcome_status outcome)
   -- it was not, and the fault is reported
-  failed : (fault : VerdictFault) → Audits old new was is (Err fault) → Tells quiet said (fault_line fault) → Judges old new was is quiet said (fault_status fault)
+  failed : (form : Form) (fault : VerdictFault) → Reports form old new was is (Err fault) → Tells quiet said (fault_line fault) → Judges old new was is quiet said (fault_status fault)
   -- a run was judged and explained
-  told : (outcome : Outcome) (status : ℕ) → ExplainsRun old new was is (Ok outcome) → Concludes outcome quiet said status → Judges old new was is quiet said status
-  -- it was not, and the fault is reported with an explanation
-  untold : (fault : VerdictFault) (status : ℕ) → ExplainsRun old new was is (Err fault) → Points fault quiet said status → Judges old new was is quiet said status
-  -- a run was judged and rendered
-  rendered : (outcome : Outcome) (status : ℕ) → RendersRun old new was is (Ok outcome) → Concludes outcome quiet said status → Judges old new was is quiet said status
-  -- it was not, and the fault is reported with an explanation
-  unrendered : (fault : VerdictFault) (status : ℕ) → RendersRun old new was is (Err fault) → Points fault quiet said status → Judges old new was is quiet said status
+  explained : (explanation : Explanation) (outcome : Outcome) (status : ℕ) → ExplainsRun explanation old new was is (Ok outcome) → Concludes outcome quiet said status → Judges old new was is quiet said status
   -- a run was read, and a message looked for in it
   traced : (found : Bool) → TracesRun old new was is (Ok found) → said ≡ quiet → Judges old new was is quiet said (found_status found)
-  -- it was not, and the fault is reported with an explanation
-  untraced : (fault : VerdictFault) (status : ℕ) → TracesRun old new was is (Err fault) → Points fault quiet said status → Judges old new was is quiet said status
+  -- neither was done, and the fault is reported with an explanation
+  unexplained : (fault : VerdictFault) (status : ℕ) → Audits old new was is (Err fault) → Points fault quiet said status → Judges old new was is quiet said status
   -- nothing was read: the arguments ask for a message by what is no name of one
   misnamed : (text : List ℕ) → new ≡ old → is ≡ was → Tells quiet said text → Judges old new was is quiet said 64
   -- a run was checked with its certificate

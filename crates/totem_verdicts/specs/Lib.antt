@@ -2,6 +2,6 @@ pub mod Report
 pub mod VerdictFaults
 pub mod AuditIo
 pub mod ExplainIo
-pub mod RenderIo
+pub mod TraceIo
 pub mod CheckIo
 pub mod Endings

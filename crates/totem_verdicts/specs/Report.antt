@@ -11,6 +11,8 @@ use Rattle.totem_evs.specs.RunText.{line}
 use Rattle.totem_evs.specs.Answers.{Answer, Yes, No}
 use Rattle.totem_certificate.specs.Keeping.{certificate_version}
 use Rattle.totem_certificate.specs.CertText.{cert_text}
+use Rattle.totem_verdicts.specs.declared.report.Form.{Form}
+use Rattle.totem_verdicts.specs.declared.report.Form.TheVariants as forms
 
 -- a no: a line for each fault
 abbrev pub no_text : Version → List Fault → List ℕ
@@ -28,16 +30,12 @@ waiting_line version w = line (waiting_text (process_text version) w)
 abbrev pub yes_text : Version → List Pending → List Waiting → List ℕ
 yes_text version pending waiting = line (codes "verdict yes") ++ flat_map (pending_line version) pending ++ flat_map (waiting_line version) waiting
 
--- the report of an audit: a yes is followed by the certificate
-abbrev pub report_text : Version → Answer → List ℕ
-report_text version (Yes lines pending waiting) = yes_text version pending waiting ++ cert_text (record { version = certificate_version version; lines = lines })
-report_text version (No faults) = no_text version faults
-
 -- the checker's yes
 abbrev pub accepted_text : Version → List Pending → List Waiting → List ℕ
 accepted_text version pending waiting = yes_text version pending waiting ++ line (codes "end")
 
--- the brief report of an audit: a yes without the certificate, as the checker's
-abbrev pub brief_text : Version → Answer → List ℕ
-brief_text version (Yes lines pending waiting) = accepted_text version pending waiting
-brief_text version (No faults) = no_text version faults
+-- the report of an audit: a yes is followed by the certificate, or in brief by the line `end`, as the checker's
+abbrev pub report_text : Form → Version → Answer → List ℕ
+report_text forms.Whole version (Yes lines pending waiting) = yes_text version pending waiting ++ cert_text (record { version = certificate_version version; lines = lines })
+report_text forms.Brief version (Yes lines pending waiting) = accepted_text version pending waiting
+report_text form version (No faults) = no_text version faults

@@ -6,10 +6,10 @@ ghost use Rattle.totem_evs.specs.Answers.{IsAnswered};
 ghost use Rattle.totem_evs.specs.Meanings.{IsSound};
 ghost use Rattle.totem_certificate.specs.Keeping.{certificate_version};
 ghost use Rattle.totem_audit.specs.Verdicts.{answer_of, HasVersion};
-ghost use Rattle.totem_verdicts.specs.AuditIo.{Audits, AuditsBriefly, ReadsWhole, Says};
+ghost use Rattle.totem_verdicts.specs.AuditIo.{Audits, ReadsWhole, Reports, Says};
 
 use crate::outcome::Outcome;
-use crate::report::{write_brief, write_report};
+use crate::report::{Form, write_report};
 use crate::verdict_fault::VerdictFault;
 use std::alloc::{AllocError, Global};
 use std::sync::Wait;
@@ -54,8 +54,28 @@ pub(crate) fn judge<T: Threads + Wait + Sync>(
     audit_with(rt, alloc, run, workers, &OpenGate)
 }
 
-/// Reads the text of a run to the end of the input, judges the run, and writes the report. The report is the same for
-/// every number of workers.
+/// Reads the text of a run to the end of the input, judges the run, and writes the report in this form. The report is the same for every
+/// number of workers.
+pub fn report_io<T: Threads + Wait + Sync, R: Source, W: Sink>(
+    rt: &T,
+    alloc: Global,
+    input: &mut R,
+    output: &mut W,
+    workers: Workers,
+    form: Form,
+) -> Result<Outcome, VerdictFault>
+    ensures { Reports form (seen R.remaining R.failures input.old) (seen R.remaining R.failures input.new)
+        (held W.contents W.failures [] output.old) (held W.contents W.failures [] output.new) result }
+{
+    let run = read_whole(alloc, input)?;
+    let Ok(verdict) = judge(rt, alloc, &run, workers) else {
+        return Err(VerdictFault::Memory);
+    };
+    write_report(alloc, run.version, form, &verdict, output)?;
+    Ok(outcome(&verdict))
+}
+
+/// Does what `report_io` does, and writes the whole report.
 pub fn audit_io<T: Threads + Wait + Sync, R: Source, W: Sink>(
     rt: &T,
     alloc: Global,
@@ -66,29 +86,5 @@ pub fn audit_io<T: Threads + Wait + Sync, R: Source, W: Sink>(
     ensures { Audits (seen R.remaining R.failures input.old) (seen R.remaining R.failures input.new)
         (held W.contents W.failures [] output.old) (held W.contents W.failures [] output.new) result }
 {
-    let run = read_whole(alloc, input)?;
-    let Ok(verdict) = judge(rt, alloc, &run, workers) else {
-        return Err(VerdictFault::Memory);
-    };
-    write_report(alloc, run.version, &verdict, output)?;
-    Ok(outcome(&verdict))
-}
-
-/// Does the same as `audit_io`, but the report of a yes has the line `end` in place of the certificate, as the checker's.
-pub fn brief_io<T: Threads + Wait + Sync, R: Source, W: Sink>(
-    rt: &T,
-    alloc: Global,
-    input: &mut R,
-    output: &mut W,
-    workers: Workers,
-) -> Result<Outcome, VerdictFault>
-    ensures { AuditsBriefly (seen R.remaining R.failures input.old) (seen R.remaining R.failures input.new)
-        (held W.contents W.failures [] output.old) (held W.contents W.failures [] output.new) result }
-{
-    let run = read_whole(alloc, input)?;
-    let Ok(verdict) = judge(rt, alloc, &run, workers) else {
-        return Err(VerdictFault::Memory);
-    };
-    write_brief(alloc, run.version, &verdict, output)?;
-    Ok(outcome(&verdict))
+    report_io(rt, alloc, input, output, workers, Form::Whole)
 }

@@ -5,19 +5,31 @@ ghost use Rattle.totem_names.specs.Sources.{seen};
 ghost use Rattle.totem_names.specs.Writing.{Writes, held};
 ghost use Rattle.totem_evs.specs.WriteRun.{WritesText};
 ghost use Rattle.totem_audit.specs.Verdicts.{answer_of};
-ghost use Rattle.totem_verdicts.specs.ExplainIo.{ExplainsRun, WritesTold, explained_text, explained_no_text};
+ghost use Rattle.totem_verdicts.specs.declared.explain_stream.Explanation.TheVariants.{Words, Rendered};
+ghost use Rattle.totem_verdicts.specs.ExplainIo.{ExplainsRun, WritesExplanation, explained_text, explained_no_text};
 
 use crate::audit_stream::{judge, outcome, read_whole};
 use crate::outcome::Outcome;
+use crate::rendering::{Rendering, counted, rendered};
 use crate::report::{put_fault, write_text};
 use crate::verdict_fault::VerdictFault;
-use std::alloc::{AllocError, Global};
+use std::alloc::Global;
 use std::sync::Wait;
 use std::thread::Threads;
 use totem_audit::{Verdict, Workers};
 use totem_evs::{Run, WriteFault};
 use totem_explain::{Counts, Explained, ExplainedNo, Lacking, explain_no, explain_yes};
 use totem_names::{Failed, Pieces, Sink, Source, Version};
+
+/// What is written of a run that was judged.
+#[derive(Clone, Copy)]
+pub enum Explanation {
+    /// The verdict in words, and what the run put to the test (docs/PROGRAM.md, "Explanations"), in lines of this many columns. Only a longer
+    /// word and the lines of the faults, which are those of the report, are longer.
+    Words(usize),
+    /// Something else than the verdict in words.
+    Rendered(Rendering),
+}
 
 #[tactic(auto, using(totem_names::proofs::Writers::wrote_then, totem_names::proofs::Writers::wrote_failed))]
 fn put_explained<S: Sink>(
@@ -84,8 +96,8 @@ fn write_no<S: Sink>(
     Ok(())
 }
 
-/// Writes the explanation of a verdict on the run, which has these counts, in lines of this many columns.
-fn write_told<S: Sink>(
+/// Writes a verdict on the run, which has these counts, in words.
+fn write_words<S: Sink>(
     alloc: Global,
     run: &Run,
     verdict: &Verdict,
@@ -93,7 +105,7 @@ fn write_told<S: Sink>(
     columns: usize,
     sink: &mut S,
 ) -> Result<(), WriteFault>
-    ensures { WritesTold run.now.version (held S.contents S.failures [] sink.old)
+    ensures { WritesExplanation (Words columns) run.now.version (held S.contents S.failures [] sink.old)
         (held S.contents S.failures [] sink.new) result (answer_of verdict.now) }
 {
     match verdict {
@@ -116,40 +128,67 @@ fn write_told<S: Sink>(
     }
 }
 
-/// Counts what a run put to the test, and which required counts it lacks.
-pub(crate) fn counted(
+/// Writes what is made of a verdict on the run.
+fn write_rendered<S: Sink>(
     alloc: Global,
     run: &Run,
+    verdict: &Verdict,
+    rendering: Rendering,
     lacking: &mut Lacking,
-) -> Result<Counts, AllocError> {
-    let counts = Counts::of(alloc, run)?;
-    lacking.learn(alloc, &counts)?;
-    Ok(counts)
+    sink: &mut S,
+) -> Result<(), WriteFault>
+    ensures { WritesExplanation (Rendered rendering) run.now.version (held S.contents S.failures [] sink.old)
+        (held S.contents S.failures [] sink.new) result (answer_of verdict.now) }
+{
+    let Ok(text) = rendered(alloc, run, verdict, rendering, lacking) else {
+        return Err(WriteFault::Memory);
+    };
+    write_text(alloc, text.as_bytes(), sink)
 }
 
-/// Reads the text of a run to the end of the input, judges the run, and writes the explanation of the verdict
-/// (docs/PROGRAM.md, "Explanations"). The outcome is that of `audit_io`, and the text is the same for every number
-/// of workers. A line has at most this many columns, but for a longer word and the lines of the faults as in the report. `lacking` learns the
-/// counts.
+fn write_explanation<S: Sink>(
+    alloc: Global,
+    run: &Run,
+    verdict: &Verdict,
+    explanation: Explanation,
+    lacking: &mut Lacking,
+    sink: &mut S,
+) -> Result<(), WriteFault>
+    ensures { WritesExplanation explanation run.now.version (held S.contents S.failures [] sink.old)
+        (held S.contents S.failures [] sink.new) result (answer_of verdict.now) }
+{
+    match explanation {
+        Explanation::Words(columns) => {
+            let Ok(counts) = counted(alloc, run, lacking) else {
+                return Err(WriteFault::Memory);
+            };
+            write_words(alloc, run, verdict, &counts, columns, sink)
+        }
+        Explanation::Rendered(rendering) => {
+            write_rendered(alloc, run, verdict, rendering, lacking, sink)
+        }
+    }
+}
+
+/// Reads the text of a run to the end of the input, judges the run, and writes an explanation of the verdict. The outcome is that of
+/// `audit_io`, and the text is the same for every number of workers. `lacking` learns the counts, if they are written, and that a fault is
+/// not there; then nothing is written.
 pub fn explain_io<T: Threads + Wait + Sync, R: Source, W: Sink>(
     rt: &T,
     alloc: Global,
     input: &mut R,
     output: &mut W,
     workers: Workers,
-    columns: usize,
+    explanation: Explanation,
     lacking: &mut Lacking,
 ) -> Result<Outcome, VerdictFault>
-    ensures { ExplainsRun (seen R.remaining R.failures input.old) (seen R.remaining R.failures input.new)
+    ensures { ExplainsRun explanation (seen R.remaining R.failures input.old) (seen R.remaining R.failures input.new)
         (held W.contents W.failures [] output.old) (held W.contents W.failures [] output.new) result }
 {
     let run = read_whole(alloc, input)?;
     let Ok(verdict) = judge(rt, alloc, &run, workers) else {
         return Err(VerdictFault::Memory);
     };
-    let Ok(counts) = counted(alloc, &run, lacking) else {
-        return Err(VerdictFault::Memory);
-    };
-    write_told(alloc, &run, &verdict, &counts, columns, output)?;
+    write_explanation(alloc, &run, &verdict, explanation, lacking, output)?;
     Ok(outcome(&verdict))
 }

@@ -4,11 +4,10 @@ ghost use Rattle.totem_names.specs.Sources.{seen};
 ghost use Rattle.totem_names.specs.Writing.{held};
 ghost use Rattle.totem_verdicts.specs.Endings.{Concludes, Judges, Points, bare};
 
-use crate::audit_stream::{audit_io, brief_io};
+use crate::audit_stream::report_io;
 use crate::check_stream::check_by;
-use crate::explain_stream::explain_io;
+use crate::explain_stream::{Explanation, explain_io};
 use crate::outcome::Outcome;
-use crate::render_stream::{Rendering, render_io};
 use crate::telling::{tell, tell_fault, tell_with_words};
 use crate::trace_stream::trace_io;
 use crate::verdict_fault::VerdictFault;
@@ -71,12 +70,12 @@ fn end<E: Sink>(outcome: Outcome, no_fault: &str, lacking: &str, errors: &mut E)
     }
 }
 
-/// Explains the run, and returns the status.
+/// Writes an explanation of the run, and returns the status.
 fn explained<T: Threads + Wait + Sync, R: Source, W: Sink, E: Sink>(
     rt: &T,
     alloc: Global,
     workers: Workers,
-    columns: usize,
+    explanation: Explanation,
     lacking: &mut Lacking,
     input: &mut R,
     output: &mut W,
@@ -86,7 +85,7 @@ fn explained<T: Threads + Wait + Sync, R: Source, W: Sink, E: Sink>(
         (held W.contents W.failures [] output.old) (held W.contents W.failures [] output.new)
         (bare E.contents E.failures errors.old) (bare E.contents E.failures errors.new) result }
 {
-    match explain_io(rt, alloc, input, output, workers, columns, lacking) {
+    match explain_io(rt, alloc, input, output, workers, explanation, lacking) {
         Ok(outcome) => end(outcome, lacking.no_fault(), lacking.line(), errors),
         Err(fault) => point(alloc, &fault, input, errors),
     }
@@ -96,7 +95,7 @@ fn explain<T: Threads + Wait + Sync, R: Source, W: Sink, E: Sink>(
     rt: &T,
     alloc: Global,
     workers: Workers,
-    columns: usize,
+    explanation: Explanation,
     required: Required,
     input: &mut R,
     output: &mut W,
@@ -111,55 +110,7 @@ fn explain<T: Threads + Wait + Sync, R: Source, W: Sink, E: Sink>(
         rt,
         alloc,
         workers,
-        columns,
-        &mut lacking,
-        input,
-        output,
-        errors,
-    )
-}
-
-/// Renders the run, and returns the status.
-fn rendered<T: Threads + Wait + Sync, R: Source, W: Sink, E: Sink>(
-    rt: &T,
-    alloc: Global,
-    workers: Workers,
-    rendering: Rendering,
-    lacking: &mut Lacking,
-    input: &mut R,
-    output: &mut W,
-    errors: &mut E,
-) -> u8
-    ensures { Judges (seen R.remaining R.failures input.old) (seen R.remaining R.failures input.new)
-        (held W.contents W.failures [] output.old) (held W.contents W.failures [] output.new)
-        (bare E.contents E.failures errors.old) (bare E.contents E.failures errors.new) result }
-{
-    match render_io(rt, alloc, input, output, workers, rendering, lacking) {
-        Ok(outcome) => end(outcome, lacking.no_fault(), lacking.line(), errors),
-        Err(fault) => point(alloc, &fault, input, errors),
-    }
-}
-
-fn render<T: Threads + Wait + Sync, R: Source, W: Sink, E: Sink>(
-    rt: &T,
-    alloc: Global,
-    workers: Workers,
-    rendering: Rendering,
-    required: Required,
-    input: &mut R,
-    output: &mut W,
-    errors: &mut E,
-) -> u8
-    ensures { Judges (seen R.remaining R.failures input.old) (seen R.remaining R.failures input.new)
-        (held W.contents W.failures [] output.old) (held W.contents W.failures [] output.new)
-        (bare E.contents E.failures errors.old) (bare E.contents E.failures errors.new) result }
-{
-    let mut lacking = Lacking::of(alloc, required);
-    rendered(
-        rt,
-        alloc,
-        workers,
-        rendering,
+        explanation,
         &mut lacking,
         input,
         output,
@@ -211,42 +162,26 @@ pub fn judge_io<T: Threads + Wait + Sync, R: Source, W: Sink, E: Sink>(
         },
         Asked::Explain {
             workers,
-            columns,
+            explanation,
             required,
         } => explain(
             rt,
             alloc,
             as_many(workers),
-            columns as usize,
-            required,
-            input,
-            output,
-            errors,
-        ),
-        Asked::Render {
-            workers,
-            rendering,
-            required,
-        } => render(
-            rt,
-            alloc,
-            as_many(workers),
-            rendering,
+            explanation,
             required,
             input,
             output,
             errors,
         ),
         Asked::Message { message, columns } => {
-            traced(alloc, message, columns as usize, input, output, errors)
+            traced(alloc, message, columns, input, output, errors)
         }
-        Asked::Brief { workers } => match brief_io(rt, alloc, input, output, as_many(workers)) {
-            Ok(outcome) => outcome.status(),
-            Err(fault) => tell_fault(errors, &fault),
-        },
-        Asked::Audit { workers } => match audit_io(rt, alloc, input, output, as_many(workers)) {
-            Ok(outcome) => outcome.status(),
-            Err(fault) => tell_fault(errors, &fault),
-        },
+        Asked::Audit { workers, form } => {
+            match report_io(rt, alloc, input, output, as_many(workers), form) {
+                Ok(outcome) => outcome.status(),
+                Err(fault) => tell_fault(errors, &fault),
+            }
+        }
     }
 }

@@ -2,12 +2,12 @@
 //! the auditor, which answers a command line (docs/SPECIFICATIONS.md, "Report text", and docs/PROGRAM.md).
 //!
 //! What may be relied on:
-//! - `audit_io`: with an outcome, the whole input is the text of one run, and what was written is the report of that run's answer
-//!   and nothing else (`Audits`, specs/AuditIo). With a yes the run meets specifications 1 to 7.
-//! - `brief_io`: the same without the certificate (`AuditsBriefly`).
+//! - `report_io`: with an outcome, the whole input is the text of one run, and what was written is the report of that run's answer in
+//!   the form that is asked for, and nothing else (`Reports`, specs/AuditIo). With a yes the run meets specifications 1 to 7. `audit_io`
+//!   writes the whole report (`Audits`).
 //! - `check_by` and `check_io`: the same for a run and its certificate, with the checker's report (`ChecksText`, specs/CheckIo).
-//! - `explain_io` and `render_io`: the outcome is that of the run's answer; of what is written the contracts say less (`ExplainsRun`,
-//!   `RendersRun`). `trace_io` judges nothing: what it writes, and whether it finds the message, no contract says (`TracesRun`).
+//! - `explain_io`: the outcome is that of the run's answer; of what is written the contract says less (`ExplainsRun`, specs/ExplainIo).
+//!   `trace_io` judges nothing: what it writes, and whether it finds the message, no contract says (`TracesRun`).
 //! - At each fault except a failed write nothing was written, and the fault is that of the reader, the checker or a stream.
 //! - `judge_io`, `answer` and `auditor`: each status comes only with these streams (`Judges`, `Answers`, `Ends`, specs/Endings).
 //!
@@ -24,7 +24,7 @@ mod judging;
 mod left_open;
 mod message_name;
 mod outcome;
-mod render_stream;
+mod rendering;
 mod report;
 mod run_words;
 mod telling;
@@ -34,13 +34,14 @@ mod words;
 
 pub use alone::auditor;
 pub use answering::answer;
-pub use audit_stream::{audit_io, brief_io};
+pub use audit_stream::{audit_io, report_io};
 pub use check_stream::{Checker, check_by, check_io};
 pub use command_line::{listed, no_words};
-pub use explain_stream::explain_io;
+pub use explain_stream::{Explanation, explain_io};
 pub use judging::judge_io;
 pub use outcome::Outcome;
-pub use render_stream::{Rendering, render_io};
+pub use rendering::Rendering;
+pub use report::Form;
 pub use run_words::RunWords;
 pub use telling::{
     put_cert_fault, put_check_fault, put_refusal, put_run_fault, put_text, tell, tell_fault,

@@ -1,22 +1,9 @@
-//! From the text of a run to a picture of its verdict, or to its counts.
-ghost use Rattle.std.specs.Prelude.{◌≡◌, []};
-ghost use Rattle.totem_names.specs.Sources.{seen};
-ghost use Rattle.totem_names.specs.Writing.{held};
-ghost use Rattle.totem_verdicts.specs.RenderIo.{RendersRun, WritesRendered};
-
-use crate::audit_stream::{judge, outcome, read_whole};
-use crate::explain_stream::counted;
-use crate::outcome::Outcome;
-use crate::report::write_text;
-use crate::verdict_fault::VerdictFault;
+//! What is made of a judged run other than the verdict in words: pictures, counts and the membership.
 use std::alloc::{AllocError, Global};
-use std::sync::Wait;
-use std::thread::Threads;
-use totem_audit::{Verdict, Workers};
+use totem_audit::Verdict;
 use totem_draw::{draw_no, draw_views, draw_yes};
-use totem_evs::{Run, WriteFault};
-use totem_explain::{Lacking, explain_views, stopped_by};
-use totem_names::{Sink, Source};
+use totem_evs::Run;
+use totem_explain::{Counts, Lacking, explain_views, stopped_by};
 
 /// What is made of a run.
 #[derive(Clone, Copy)]
@@ -70,7 +57,15 @@ fn count_lines(
     counted(alloc, run, lacking)?.lines(alloc, stopped)
 }
 
-fn rendered(
+/// Counts what a run put to the test, and which required counts it lacks.
+pub fn counted(alloc: Global, run: &Run, lacking: &mut Lacking) -> Result<Counts, AllocError> {
+    let counts = Counts::of(alloc, run)?;
+    lacking.learn(alloc, &counts)?;
+    Ok(counts)
+}
+
+/// Returns the text that is made of a verdict on the run.
+pub fn rendered(
     alloc: Global,
     run: &Run,
     verdict: &Verdict,
@@ -83,44 +78,4 @@ fn rendered(
         Rendering::Views(columns) => explain_views(alloc, run, columns),
         Rendering::DrawnViews => draw_views(alloc, run),
     }
-}
-
-/// Writes what is made of the run.
-fn write_rendered<S: Sink>(
-    alloc: Global,
-    run: &Run,
-    verdict: &Verdict,
-    rendering: Rendering,
-    lacking: &mut Lacking,
-    sink: &mut S,
-) -> Result<(), WriteFault>
-    ensures { WritesRendered (held S.contents S.failures [] sink.old) (held S.contents S.failures [] sink.new) result }
-{
-    let Ok(text) = rendered(alloc, run, verdict, rendering, lacking) else {
-        return Err(WriteFault::Memory);
-    };
-    write_text(alloc, text.as_bytes(), sink)
-}
-
-/// Reads the text of a run to the end of the input, judges the run, and writes what is made of it. The outcome is that of `audit_io`,
-/// and the text is the same for every number of workers. `lacking` learns the counts, if they are what is written, and that a fault is not
-/// there; then nothing is written.
-pub fn render_io<T: Threads + Wait + Sync, R: Source, W: Sink>(
-    rt: &T,
-    alloc: Global,
-    input: &mut R,
-    output: &mut W,
-    workers: Workers,
-    rendering: Rendering,
-    lacking: &mut Lacking,
-) -> Result<Outcome, VerdictFault>
-    ensures { RendersRun (seen R.remaining R.failures input.old) (seen R.remaining R.failures input.new)
-        (held W.contents W.failures [] output.old) (held W.contents W.failures [] output.new) result }
-{
-    let run = read_whole(alloc, input)?;
-    let Ok(verdict) = judge(rt, alloc, &run, workers) else {
-        return Err(VerdictFault::Memory);
-    };
-    write_rendered(alloc, &run, &verdict, rendering, lacking, output)?;
-    Ok(outcome(&verdict))
 }

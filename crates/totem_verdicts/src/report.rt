@@ -9,7 +9,7 @@ ghost use Rattle.totem_evs.specs.RunText.{line};
 ghost use Rattle.totem_evs.specs.WriteRun.{WritesText};
 ghost use Rattle.totem_certificate.specs.Keeping.{certificate_version};
 ghost use Rattle.totem_audit.specs.Verdicts.{answer_of, HasVersion};
-ghost use Rattle.totem_verdicts.specs.Report.{no_text, report_text, accepted_text, brief_text};
+ghost use Rattle.totem_verdicts.specs.Report.{no_text, report_text, accepted_text};
 
 use crate::left_open::put_yes;
 use std::alloc::Global;
@@ -18,6 +18,15 @@ use totem_certificate::put_cert;
 use totem_check::Accepted;
 use totem_evs::{Fault, SpecNo, WriteFault};
 use totem_names::{Failed, Pieces, Place, Sink, Version};
+
+/// What a report of a yes ends with. A no is reported in the same way in both forms.
+#[derive(Clone, Copy, PartialEq, Debug)]
+pub enum Form {
+    /// The certificate.
+    Whole,
+    /// The line `end`, as the checker's yes.
+    Brief,
+}
 
 fn put_spec<S: Sink>(pieces: &mut Pieces, sink: &mut S, spec: SpecNo) -> Result<(), Failed>
     ensures { Writes (held S.contents S.failures pieces.old sink.old)
@@ -95,11 +104,12 @@ fn put_report<S: Sink>(
     pieces: &mut Pieces,
     sink: &mut S,
     version: Version,
+    form: Form,
     verdict: &Verdict,
 ) -> Result<(), Failed>
     requires { HasVersion (certificate_version version) verdict.now }
     ensures { Writes (held S.contents S.failures pieces.old sink.old)
-        (held S.contents S.failures pieces.new sink.new) result (report_text version (answer_of verdict.now)) }
+        (held S.contents S.failures pieces.new sink.new) result (report_text form version (answer_of verdict.now)) }
 {
     match verdict {
         Verdict::Yes {
@@ -108,31 +118,10 @@ fn put_report<S: Sink>(
             waiting,
         } => {
             put_yes(pieces, sink, version, pending, waiting)?;
-            put_cert(pieces, sink, certificate)
-        }
-        Verdict::No { faults } => put_no(pieces, sink, version, faults),
-    }
-}
-
-/// Puts the report without the certificate.
-#[tactic(auto, using(totem_names::proofs::Writers::wrote_then, totem_names::proofs::Writers::wrote_failed))]
-fn put_brief<S: Sink>(
-    pieces: &mut Pieces,
-    sink: &mut S,
-    version: Version,
-    verdict: &Verdict,
-) -> Result<(), Failed>
-    ensures { Writes (held S.contents S.failures pieces.old sink.old)
-        (held S.contents S.failures pieces.new sink.new) result (brief_text version (answer_of verdict.now)) }
-{
-    match verdict {
-        Verdict::Yes {
-            pending,
-            waiting,
-            ..
-        } => {
-            put_yes(pieces, sink, version, pending, waiting)?;
-            pieces.put(sink, b"end\n")
+            match form {
+                Form::Whole => put_cert(pieces, sink, certificate),
+                Form::Brief => pieces.put(sink, b"end\n"),
+            }
         }
         Verdict::No { faults } => put_no(pieces, sink, version, faults),
     }
@@ -157,36 +146,20 @@ fn put_accepted<S: Sink>(
 pub fn write_report<S: Sink>(
     alloc: Global,
     version: Version,
+    form: Form,
     verdict: &Verdict,
     sink: &mut S,
 ) -> Result<(), WriteFault>
     requires { HasVersion (certificate_version version) verdict.now }
     ensures { WritesText (held S.contents S.failures [] sink.old)
-        (held S.contents S.failures [] sink.new) result (report_text version (answer_of verdict.now)) }
+        (held S.contents S.failures [] sink.new) result (report_text form version (answer_of verdict.now)) }
 {
     let Ok(mut pieces) = Pieces::new(alloc) else {
         return Err(WriteFault::Memory);
     };
-    if put_report(&mut pieces, sink, version, verdict).is_err() || pieces.flush(sink).is_err() {
-        return Err(WriteFault::Write);
-    }
-    Ok(())
-}
-
-/// Writes the report of a verdict on a run of this version without the certificate.
-pub fn write_brief<S: Sink>(
-    alloc: Global,
-    version: Version,
-    verdict: &Verdict,
-    sink: &mut S,
-) -> Result<(), WriteFault>
-    ensures { WritesText (held S.contents S.failures [] sink.old)
-        (held S.contents S.failures [] sink.new) result (brief_text version (answer_of verdict.now)) }
-{
-    let Ok(mut pieces) = Pieces::new(alloc) else {
-        return Err(WriteFault::Memory);
-    };
-    if put_brief(&mut pieces, sink, version, verdict).is_err() || pieces.flush(sink).is_err() {
+    if put_report(&mut pieces, sink, version, form, verdict).is_err()
+        || pieces.flush(sink).is_err()
+    {
         return Err(WriteFault::Write);
     }
     Ok(())

@@ -2,7 +2,7 @@
 ghost use Rattle.std.specs.Prelude.{◌≡◌, []};
 ghost use Rattle.totem_names.specs.Sources.{seen};
 ghost use Rattle.totem_names.specs.Writing.{held};
-ghost use Rattle.totem_verdicts.specs.RenderIo.{TracesRun};
+ghost use Rattle.totem_verdicts.specs.TraceIo.{TracesRun};
 
 use crate::audit_stream::read_whole;
 use crate::report::write_text;

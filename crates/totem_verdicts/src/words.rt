@@ -1,7 +1,9 @@
 //! The arguments of a command line.
 use crate::check_stream::Checker;
+use crate::explain_stream::Explanation;
 use crate::message_name::message_named;
-use crate::render_stream::Rendering;
+use crate::rendering::Rendering;
+use crate::report::Form;
 use crate::run_words::{RunWords, run_command, run_words};
 use clap::builder::ValueParser;
 use clap::{Arg, ArgAction, ArgMatches, Command, Error};
@@ -12,29 +14,20 @@ use totem_names::MsgId;
 /// What the arguments ask of the run on standard input.
 #[derive(Clone, Copy)]
 pub enum Asked {
-    /// Its audit, by 1 to 64 workers.
+    /// Its audit, by 1 to 64 workers, with a report in this form.
     Audit {
         workers: u32,
-    },
-    /// The same audit, with a report without the certificate.
-    Brief {
-        workers: u32,
+        form: Form,
     },
     /// What became of a message, in lines of 40 to 400 columns. `None`: what the arguments have is no name of a message.
     Message {
         message: Option<MsgId>,
-        columns: u32,
+        columns: usize,
     },
-    /// The same audit with an explanation in lines of 40 to 400 columns, by 1 to 64 workers.
+    /// The same audit with an explanation in place of the report.
     Explain {
         workers: u32,
-        columns: u32,
-        required: Required,
-    },
-    /// The same audit, by 1 to 64 workers, with a picture or counts of the run.
-    Render {
-        workers: u32,
-        rendering: Rendering,
+        explanation: Explanation,
         required: Required,
     },
     /// The check of the run and the certificate after it, by one of the checkers.
@@ -231,52 +224,55 @@ fn explain_command<'a>(alloc: Global) -> Result<Command<'a>, AllocError> {
 }
 
 /// Returns the length of lines that the arguments of `explain` ask for.
-fn columns_of(matches: &ArgMatches<'_>) -> u32 {
-    matches.get_one::<u32>("columns").unwrap_or(79)
+fn columns_of(matches: &ArgMatches<'_>) -> usize {
+    matches.get_one::<u32>("columns").unwrap_or(79) as usize
 }
 
 /// Returns what the arguments of `explain` ask for.
 fn explain_words(alloc: Global, matches: &ArgMatches<'_>) -> Result<Words, AllocError> {
-    let columns = columns_of(matches);
-    if let Some(name) = matches.get_str("message") {
-        let message = message_named(alloc, name)?;
-        return Ok(Words::Verdict(Asked::Message { message, columns }));
+    if matches.get_flag("script") {
+        return Ok(Words::ExplainScript);
     }
-    Ok(verdict_words(matches, columns))
+    let asked = match matches.get_str("message") {
+        Some(name) => Asked::Message {
+            message: message_named(alloc, name)?,
+            columns: columns_of(matches),
+        },
+        None => Asked::Explain {
+            workers: workers_of(matches),
+            explanation: explanation_of(matches),
+            required: Required::of(matches.get_strs("require").unwrap_or(&[])),
+        },
+    };
+    Ok(Words::Verdict(asked))
 }
 
-/// Returns which verdict the arguments of `explain` ask for, if they ask for no message.
-fn verdict_words(matches: &ArgMatches<'_>, columns: u32) -> Words {
-    let workers = workers_of(matches);
-    let required = Required::of(matches.get_strs("require").unwrap_or(&[]));
-    let rendering = match (matches.get_flag("svg"), matches.get_flag("counts")) {
-        (true, _) if matches.get_flag("views") => Rendering::DrawnViews,
-        (true, _) => Rendering::Picture(matches.get_one::<u32>("fault")),
-        (_, true) => Rendering::Counts,
-        _ if matches.get_flag("views") => Rendering::Views(columns as usize),
-        _ if matches.get_flag("script") => return Words::ExplainScript,
-        _ => {
-            return Words::Verdict(Asked::Explain {
-                workers,
-                columns,
-                required,
-            });
-        }
-    };
-    Words::Verdict(Asked::Render {
-        workers,
-        rendering,
-        required,
-    })
+/// Returns which explanation of the run the arguments of `explain` ask for.
+fn explanation_of(matches: &ArgMatches<'_>) -> Explanation {
+    let of_views = matches.get_flag("views");
+    if matches.get_flag("svg") && of_views {
+        Explanation::Rendered(Rendering::DrawnViews)
+    } else if matches.get_flag("svg") {
+        Explanation::Rendered(Rendering::Picture(matches.get_one::<u32>("fault")))
+    } else if matches.get_flag("counts") {
+        Explanation::Rendered(Rendering::Counts)
+    } else if of_views {
+        Explanation::Rendered(Rendering::Views(columns_of(matches)))
+    } else {
+        Explanation::Words(columns_of(matches))
+    }
 }
 
 /// Returns what the arguments of `audit` ask for.
 fn audit_words(matches: &ArgMatches<'_>) -> Asked {
-    let workers = workers_of(matches);
-    if matches.get_flag("brief") {
-        Asked::Brief { workers }
+    let form = if matches.get_flag("brief") {
+        Form::Brief
     } else {
-        Asked::Audit { workers }
+        Form::Whole
+    };
+    Asked::Audit {
+        workers: workers_of(matches),
+        form,
     }
 }
 
@@ -344,6 +340,9 @@ pub fn read_words(alloc: Global, words: &[String]) -> Result<Words, Error> {
         Some(("run", run)) => Words::Run(run_words(run)),
         Some(("explain", explain)) => explain_words(alloc, explain)?,
         Some((_, audit)) => Words::Verdict(audit_words(audit)),
-        None => Words::Verdict(Asked::Audit { workers: 1 }),
+        None => Words::Verdict(Asked::Audit {
+            workers: 1,
+            form: Form::Whole,
+        }),
     })
 }

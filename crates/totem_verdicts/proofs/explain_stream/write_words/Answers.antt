@@ -1,8 +1,8 @@
 use Rattle.std.proofs.Common.{ap}
 use Rattle.totem_evs.specs.RunRecord.{RunRecord}
-use Rattle.totem_verdicts.proofs.Reported.{no_told}
-use Rattle.totem_verdicts.proofs.explain_stream.write_told.Goals as goal
+use Rattle.totem_verdicts.proofs.Reported.{no_explained}
+use Rattle.totem_verdicts.proofs.explain_stream.write_words.Goals as goal
 
 pub returns-in-Ok-explain_no : goal.returns-in-Ok-explain_no
 returns-in-Ok-explain_no g c =
-    rw (← ap (λ (r : RunRecord). r.version) c.run.view_is, c.in-No.is, ← c.deref-in-No.ensures.value) (no_told _ _ _ _ c.in-Ok-explain_no.words _ c.in-Ok-explain_no.ensures c.write_no.ensures)
+    rw (← ap (λ (r : RunRecord). r.version) c.run.view_is, c.in-No.is, ← c.deref-in-No.ensures.value) (no_explained c.args.columns _ _ _ _ c.in-Ok-explain_no.words _ c.in-Ok-explain_no.ensures c.write_no.ensures)

@@ -1,5 +1,5 @@
 use Rattle.std.proofs.Common.{true, false, refl}
-use Rattle.totem_verdicts.specs.Endings.{traced, untraced, misnamed}
+use Rattle.totem_verdicts.specs.Endings.{traced, unexplained, misnamed}
 use Rattle.totem_verdicts.proofs.judging.traced.Goals as goal
 
 pub returns-in_default : goal.returns-in_default
@@ -12,4 +12,4 @@ pub returns-in-Ok-false : goal.returns-in-Ok-false
 returns-in-Ok-false g c = traced false c.in-Ok-false.ensures refl
 
 pub returns-in-Err : goal.returns-in-Err
-returns-in-Err g c = untraced _ _ c.in-Err.ensures c.point.ensures
+returns-in-Err g c = unexplained _ _ c.in-Err.ensures c.point.ensures
