@@ -15,9 +15,9 @@ use Rattle.totem_table.specs.declared.keys.Change.{Change}
 use Rattle.totem_pass_ab.specs.Met.{IsMet}
 use Rattle.totem_table.specs.Registers.{Keeps, KnowsRun}
 use Rattle.totem_pass_ab.specs.Noted.{KnowsChange}
-use Rattle.totem_table.specs.Search.{place, HoldsOfNone}
-use Rattle.totem_pass_ab.specs.Pairs.{IsOne}
-use Rattle.totem_pass_ab.specs.Bad.{AreTwoForms}
+use Rattle.totem_search.specs.Search.{place, HoldsOfNone, IsOneEvent}
+use Rattle.totem_search.specs.Pairs.{Has}
+use Rattle.totem_search.specs.Bad.{AreTwoForms}
 use Rattle.totem_pass_ab.proofs.Knowing.{meets_keeps}
 use Rattle.totem_table.proofs.Exact.{change_by}
 
@@ -37,10 +37,10 @@ module _ (by_change : Change → Change → Ordering) (by_conf : ConfId → Conf
 
   -- a configuration to which a process changed once, and which has one form, does not have two forms
   pub only_form : (run : List Log) (v : BTreeMap Change (Option Place)) (f : BTreeMap ConfId (Option (List ℕ))) (p i : ℕ) (x : ConfId) (ms : List ℕ) → KnowsRun (KnowsChange by_change by_conf v f) run
-      → tree.get by_change v (change_by p x) ≡ Some (Some (place p i)) → tree.get by_conf f x ≡ Some (Some ms) → HoldsOfNone (IsOne run (AreTwoForms p i (Conf x ms)))
+      → tree.get by_change v (change_by p x) ≡ Some (Some (place p i)) → tree.get by_conf f x ≡ Some (Some ms) → HoldsOfNone (IsOneEvent (Has run (AreTwoForms p i (Conf x ms))))
   only_form run v f p i x ms known once one = record { none = λ places h. go places h }
     where
-      go : (places : List Place) → IsOne run (AreTwoForms p i (Conf x ms)) places → ⊥
+      go : (places : List Place) → IsOneEvent (Has run (AreTwoForms p i (Conf x ms))) places → ⊥
       go (g ∷ []) (j, js, (Conf y ns, at, (same, inl (procs, other)))) =
           let key : change_by p x ≡ change_by g.proc y = rw (procs, same) refl in
           let met = ((known.each g.proc j (slice_get_within (log_of run g.proc) j (Conf y ns) at)).placed y ns at).only (place p i)

@@ -1,9 +1,7 @@
 pub mod Placed
-pub mod Starting
-pub mod Bad
-pub mod Turning
+pub mod Quick
+pub mod Origins
 pub mod Sent
-pub mod Passes
 pub mod Knowing
 pub mod Repeating
 pub mod Forming

@@ -10,9 +10,8 @@ use Rattle.totem_evs.specs.ChangeFaults.{IsMisplaced, BreaksPlace}
 use Rattle.totem_evs.specs.Answers.{IsLeastBreak}
 use Rattle.totem_evs.proofs.LogOf.{Rising, log_of_at}
 use Rattle.totem_judge_run.proofs.Placed.{EachBefore}
-use Rattle.totem_table.specs.Search.{place, IsLeastInLog}
-use Rattle.totem_table.proofs.Searching.{NoneBeforeLog, least_here}
-use Rattle.totem_pass_ab.proofs.Starting.{Begins, EachBegins, begins_at, least_of_all}
+use Rattle.totem_search.specs.Search.{place, Begins, EachBegins, IsLeastInLog}
+use Rattle.totem_search.proofs.Searching.{NoneBeforeLog, least_here, begins_at}
 
 -- a log that stays in place has no entry out of place
 pub placed_contradicts : (log : List Entry) (i : ℕ) → StaysInPlace log → IsMisplaced log i → ⊥
@@ -35,7 +34,7 @@ misplaced_begins run = record { each = λ places h. go places h }
 -- the first entry out of place, in a log after those that stay in place, is the first of the run
 pub least_at : (run : List Log) (k i : ℕ) (log : Log) → Rising run → slice_get run k ≡ Some log → IsMisplaced log.entries i → EachBefore StaysInPlace run k
     → ((j : ℕ) → j < i → IsMisplaced log.entries j → ⊥) → IsLeastBreak run spec.Misplaced (place log.proc i ∷ [])
-least_at run k i log rising at misplaced placed least = least_of_all run (BreaksPlace run) (place log.proc i ∷ []) (misplaced_begins run) (least_here run (BreaksPlace run) k log (place log.proc i ∷ []) rising at here before)
+least_at run k i log rising at misplaced placed least = least_here run (BreaksPlace run) k log (place log.proc i ∷ []) (misplaced_begins run) rising at here before
   where
     own : log_of run log.proc ≡ log.entries
     own = log_of_at run k log rising at

@@ -22,9 +22,9 @@ use Rattle.totem_pass_ab.specs.Met.{IsMet, Knows}
 use Rattle.totem_judge_run.specs.Orderly.{DeliveriesAreOnce, SendsAreOnce}
 use Rattle.totem_table.specs.Registers.{Keeps, KnowsRun}
 use Rattle.totem_pass_ab.specs.Noted.{DeliverOnceBut, DeliversEachOnce, KnowsAct}
-use Rattle.totem_table.specs.Search.{place, HoldsOfNone}
-use Rattle.totem_pass_ab.specs.Pairs.{IsOne}
-use Rattle.totem_pass_ab.specs.Bad.{AreTwice}
+use Rattle.totem_search.specs.Search.{place, HoldsOfNone, IsOneEvent}
+use Rattle.totem_search.specs.Pairs.{Has}
+use Rattle.totem_search.specs.Bad.{AreTwice}
 use Rattle.totem_evs.proofs.LogOf.{log_of_cases}
 use Rattle.totem_pass_ab.proofs.Knowing.{meets_knows, meets_keeps}
 
@@ -40,10 +40,10 @@ pub once_each : (run : List Log) (doubtful : List ℕ) → length doubtful ≡ 0
 once_each run doubtful none sends deliveries = record { one_send = sends.one; regular = sends.regular; one_delivery = λ p. deliveries.each p (λ (k, lt, is). omega arith) }
 
 -- a process that is not doubtful delivers no message twice
-pub once_delivery : (run : List Log) (doubtful : List ℕ) (p i : ℕ) (m : MsgId) (x : ConfId) → slice_get (log_of run p) i ≡ Some (Deliver m x) → (Contains doubtful p → ⊥) → DeliverOnceBut doubtful run → HoldsOfNone (IsOne run (AreTwice p i (Deliver m x)))
+pub once_delivery : (run : List Log) (doubtful : List ℕ) (p i : ℕ) (m : MsgId) (x : ConfId) → slice_get (log_of run p) i ≡ Some (Deliver m x) → (Contains doubtful p → ⊥) → DeliverOnceBut doubtful run → HoldsOfNone (IsOneEvent (Has run (AreTwice p i (Deliver m x))))
 once_delivery run doubtful p i m x here sure once = record { none = λ places h. go places h }
   where
-    go : (places : List Place) → IsOne run (AreTwice p i (Deliver m x)) places → ⊥
+    go : (places : List Place) → IsOneEvent (Has run (AreTwice p i (Deliver m x))) places → ⊥
     go (f ∷ []) (j, js, (Deliver n y, at, (same, procs, other))) = other (once.each p sure i j m x y here (rw (procs, same) at))
     go (f ∷ []) (j, js, (act, at, h)) = h
     go places h = h
@@ -124,14 +124,14 @@ module _ (by_message : MsgId → MsgId → Ordering) (by_delivery : Delivery →
 
   -- a message that was sent at one place only was not sent twice
   pub only_send : (run : List Log) (s : BTreeMap MsgId (Option Place)) (d : BTreeMap Delivery (Option Place)) (p i : ℕ) (m : MsgId) (x : ConfId) (v : Service) → KnowsRun (KnowsAct by_message by_delivery s d doubtful) run
-      → tree.get by_message s m ≡ Some (Some (place p i)) → HoldsOfNone (IsOne run (AreTwice p i (Send m x v)))
+      → tree.get by_message s m ≡ Some (Some (place p i)) → HoldsOfNone (IsOneEvent (Has run (AreTwice p i (Send m x v))))
   only_send run s d p i m x v known once = record { none = λ places h. go places h }
     where
       apart : (q j : ℕ) → place q j ≡ place p i → (p ≢ q) ⊎ (i ≢ j) → ⊥
       apart q j same (inl other) = other (sym (ap (λ (e : Place). e.proc) same))
       apart q j same (inr other) = other (let ats : j + 1 ≡ i + 1 = ap (λ (e : Place). e.at) same in omega arith)
 
-      go : (places : List Place) → IsOne run (AreTwice p i (Send m x v)) places → ⊥
+      go : (places : List Place) → IsOneEvent (Has run (AreTwice p i (Send m x v))) places → ⊥
       go (f ∷ []) (j, js, (Send n y t, at, (same, other))) =
           let met = ((known.each f.proc j (slice_get_within (log_of run f.proc) j (Send n y t) at)).sent n y (t, at)).only (place p i) (rw same at once) in
           apart f.proc j (sym met) other
@@ -140,10 +140,10 @@ module _ (by_message : MsgId → MsgId → Ordering) (by_delivery : Delivery →
 
   -- a message that a process delivered at one place only was not delivered twice
   pub only_delivery : (run : List Log) (s : BTreeMap MsgId (Option Place)) (d : BTreeMap Delivery (Option Place)) (p i : ℕ) (m : MsgId) (x : ConfId) → Contains doubtful p → KnowsRun (KnowsAct by_message by_delivery s d doubtful) run
-      → tree.get by_delivery d (record { proc = p; message = m }) ≡ Some (Some (place p i)) → HoldsOfNone (IsOne run (AreTwice p i (Deliver m x)))
+      → tree.get by_delivery d (record { proc = p; message = m }) ≡ Some (Some (place p i)) → HoldsOfNone (IsOneEvent (Has run (AreTwice p i (Deliver m x))))
   only_delivery run s d p i m x entered known once = record { none = λ places h. go places h }
     where
-      go : (places : List Place) → IsOne run (AreTwice p i (Deliver m x)) places → ⊥
+      go : (places : List Place) → IsOneEvent (Has run (AreTwice p i (Deliver m x))) places → ⊥
       go (f ∷ []) (j, js, (Deliver n y, at, (same, procs, other))) =
           let key : delivery p m ≡ delivery f.proc n = rw (procs, same) refl in
           let met = ((known.each f.proc j (slice_get_within (log_of run f.proc) j (Deliver n y) at)).delivered (rw procs at entered) n y at).only (place p i)

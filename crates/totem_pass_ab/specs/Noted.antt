@@ -12,7 +12,7 @@ use Rattle.totem_evs.specs.Events.{Sends, Delivers, log_of, ChangesWith, WasSent
 use Rattle.totem_pass_ab.specs.declared.succession_2_4.Latest.{Latest}
 use Rattle.totem_pass_ab.specs.declared.twice_1_4.Delivery.{Delivery}
 use Rattle.totem_pass_ab.specs.Met.{Knows}
-use Rattle.totem_table.specs.Search.{place}
+use Rattle.totem_search.specs.Search.{place}
 use Rattle.totem_table.specs.declared.keys.Change.{Change}
 use Rattle.totem_names.specs.declared.ring.RingId.{RingId}
 use Rattle.totem_names.specs.declared.conf.ConfId.TheVariants.{Regular}

@@ -3,15 +3,17 @@
 ghost use Rattle.std.specs.Prelude.{◌≡◌, ◌↔◌, ℕ, ◌<◌, List, IsTrue, IfOk, MatchOption};
 ghost use Rattle.totem_evs.specs.Answers.{Finds};
 ghost use Rattle.totem_table.specs.Changes.{AreChanges};
-ghost use Rattle.totem_pass_ab.specs.Bad.{IsForeignChange, AreTwoForms};
+ghost use Rattle.totem_search.specs.Bad.{IsForeignChange, AreTwoForms};
 ghost use Rattle.totem_table.specs.Registers.{KnowsRun};
 ghost use Rattle.totem_pass_ab.specs.Noted.{KnowsChange};
 
 use crate::met::{Met, Same};
-use crate::pairs::{Standing, Test, least_bad};
 use std::alloc::{AllocError, Global};
-use totem_evs::{Entry, Members, Places, Run, SpecNo};
+use totem_evs::{Entry, Members, Run, SpecNo};
 use totem_names::{ConfId, Place, Proc};
+use totem_search::{
+    FoundPlaces, OneOrTwoTest, Standing, are_two_forms, is_foreign_change, least_pair,
+};
 use totem_table::{Change, ChangeRegister, Changes, enter_changes};
 
 impl Same for Members {
@@ -67,7 +69,7 @@ struct TwoForms<'r> {
     ghost known: { ∥ KnowsRun (KnowsChange ⟦<Change as Ord>⟧.cmp ⟦<ConfId as Ord>⟧.cmp forms.changes.values forms.members.values) run.now.logs ∥₁ },
 }
 
-impl Test for TwoForms<'_> {
+impl OneOrTwoTest for TwoForms<'_> {
     ghost of = { λ t. t.run.now.logs };
 
     ghost alone = { λ t. IsForeignChange };
@@ -79,20 +81,11 @@ impl Test for TwoForms<'_> {
     }
 
     fn is_alone(&self, first: &Standing) -> bool {
-        match first.entry {
-            Entry::Conf(_, members) => !members.contains(first.proc),
-            _ => false,
-        }
+        is_foreign_change(first)
     }
 
     fn is_pair(&self, first: &Standing, second: &Standing) -> bool {
-        match (first.entry, second.entry) {
-            (Entry::Conf(conf, members), Entry::Conf(other, others)) => {
-                let again = first.proc == second.proc && first.at != second.at;
-                conf.is(other) && (again || !members.is(others))
-            }
-            _ => false,
-        }
+        are_two_forms(first, second)
     }
 
     fn may_pair(&self, first: &Standing) -> bool {
@@ -110,7 +103,7 @@ impl Test for TwoForms<'_> {
 }
 
 /// Finds the least events that break 2.3.
-pub fn find(alloc: Global, run: &Run, changes: &Changes) -> Result<Option<Places>, AllocError>
+pub fn find(alloc: Global, run: &Run, changes: &Changes) -> FoundPlaces
     requires { AreChanges run.now.logs changes.now.rows.items }
     ensures { IfOk result (Finds run.now.logs SpecNo.Configuration) }
 {
@@ -119,6 +112,5 @@ pub fn find(alloc: Global, run: &Run, changes: &Changes) -> Result<Option<Places
         members: Met::new(alloc),
     };
     enter_changes(&mut forms, alloc, run, changes)?;
-    let two_forms = TwoForms { run, forms };
-    least_bad(&two_forms, alloc)
+    least_pair(&TwoForms { run, forms }, alloc)
 }

@@ -3,12 +3,13 @@
 ghost use Rattle.std.specs.Prelude.{IfOk};
 ghost use Rattle.totem_evs.specs.Answers.{Finds};
 
-use std::alloc::{AllocError, Global};
+use std::alloc::Global;
 use totem_evs::{Places, Run, SpecNo};
 use totem_judge_run::first_end_alone;
+use totem_search::FoundPlaces;
 
 /// Finds the least event that breaks 2.1.
-pub fn find(alloc: Global, run: &Run) -> Result<Option<Places>, AllocError>
+pub fn find(alloc: Global, run: &Run) -> FoundPlaces
     ensures { IfOk result (Finds run.now.logs SpecNo.End) }
 {
     match first_end_alone(alloc, run)? {

@@ -11,8 +11,6 @@ mod configuration_2_3;
 mod ends_2_1;
 mod met;
 mod misplaced_2_2;
-mod neighbours;
-mod pairs;
 mod pass;
 mod succession_2_4;
 mod twice_1_4;

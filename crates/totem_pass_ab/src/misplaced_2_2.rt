@@ -3,13 +3,13 @@
 ghost use Rattle.std.specs.Prelude.{IfOk};
 ghost use Rattle.totem_evs.specs.Answers.{Finds};
 
-use std::alloc::{AllocError, Global};
+use std::alloc::Global;
 use totem_evs::{Places, Run, SpecNo};
 use totem_judge_run::first_misplaced;
-use totem_table::begin_at;
+use totem_search::{FoundPlaces, begin_at};
 
 /// Finds the least event that breaks 2.2.
-pub fn find(alloc: Global, run: &Run) -> Result<Option<Places>, AllocError>
+pub fn find(alloc: Global, run: &Run) -> FoundPlaces
     ensures { IfOk result (Finds run.now.logs SpecNo.Misplaced) }
 {
     for log in run.logs.as_slice() {

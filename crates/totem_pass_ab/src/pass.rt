@@ -7,7 +7,8 @@ ghost use Rattle.totem_pass_ab.specs.Listed.{ListsFirst};
 use crate::{configuration_2_3, ends_2_1, misplaced_2_2, succession_2_4, twice_1_4, unsent_1_3};
 use std::alloc::{AllocError, Global};
 use totem_evs::{Fault, Run, SpecNo};
-use totem_table::{Changes, with_found};
+use totem_search::with_found;
+use totem_table::Changes;
 
 /// Pass A: for each of 1.4, 2.1, 2.2, 2.3 and 2.4 that the run breaks, in this order, its least events.
 fn pass_a_of(alloc: Global, run: &Run, changes: &Changes) -> Result<Vec<Fault>, AllocError>

@@ -1,20 +1,18 @@
 //! 1.4: each message is sent and delivered once (docs/SPECIFICATIONS.md, "1 Basic delivery"). This is the search, which names what breaks
 //! it. The rule, which is tried first, is totem_judge_run `once_1_4`.
 ghost use Rattle.std.specs.Prelude.{◌≡◌, ◌↔◌, ℕ, ◌<◌, List, Contains, IsTrue, IfOk};
-ghost use Rattle.totem_evs.specs.Events.{IsTransitional};
 ghost use Rattle.std.specs.Bool.{OnTrue};
 ghost use Rattle.totem_evs.specs.Answers.{Finds};
-ghost use Rattle.totem_pass_ab.specs.Bad.{IsSendBetween, AreTwice};
+ghost use Rattle.totem_search.specs.Bad.{IsSendBetween, AreTwice};
 ghost use Rattle.totem_table.specs.Registers.{KnowsRun};
 ghost use Rattle.totem_pass_ab.specs.Noted.{DeliverOnceBut, KnowsAct};
 
 use crate::met::{Met, Same};
-use crate::neighbours::is_transitional;
-use crate::pairs::{Standing, Test, least_bad};
 use std::alloc::{AllocError, Global};
-use totem_evs::{Entry, Places, Run, SpecNo};
+use totem_evs::{Entry, Run, SpecNo};
 use totem_judge_run::{deliveries_are_once, sends_are_once};
 use totem_names::{MsgId, Place, Proc};
+use totem_search::{FoundPlaces, OneOrTwoTest, Standing, are_twice, is_send_between, least_pair};
 use totem_table::{Register, enter_run};
 
 /// A message, and a process that delivers it.
@@ -87,7 +85,7 @@ struct Twice<'r> {
     ghost once: { ∥ DeliverOnceBut repeats.doubtful.items run.now.logs ∥₁ },
 }
 
-impl Test for Twice<'_> {
+impl OneOrTwoTest for Twice<'_> {
     ghost of = { λ t. t.run.now.logs };
 
     ghost alone = { λ t. IsSendBetween };
@@ -99,22 +97,11 @@ impl Test for Twice<'_> {
     }
 
     fn is_alone(&self, first: &Standing) -> bool {
-        match first.entry {
-            Entry::Send(_, conf, _) => is_transitional(conf),
-            _ => false,
-        }
+        is_send_between(first)
     }
 
     fn is_pair(&self, first: &Standing, second: &Standing) -> bool {
-        match (first.entry, second.entry) {
-            (Entry::Send(message, _, _), Entry::Send(other, _, _)) => {
-                *message == *other && (first.proc != second.proc || first.at != second.at)
-            }
-            (Entry::Deliver(message, _), Entry::Deliver(other, _)) => {
-                *message == *other && first.proc == second.proc && first.at != second.at
-            }
-            _ => false,
-        }
+        are_twice(first, second)
     }
 
     fn may_pair(&self, first: &Standing) -> bool {
@@ -152,7 +139,7 @@ fn doubtful(alloc: Global, run: &Run) -> Result<Vec<Proc>, AllocError>
 }
 
 /// Finds the least events that break 1.4.
-pub fn find(alloc: Global, run: &Run) -> Result<Option<Places>, AllocError>
+pub fn find(alloc: Global, run: &Run) -> FoundPlaces
     ensures { IfOk result (Finds run.now.logs SpecNo.Twice) }
 {
     let doubtful = doubtful(alloc, run)?;
@@ -165,6 +152,5 @@ pub fn find(alloc: Global, run: &Run) -> Result<Option<Places>, AllocError>
         doubtful,
     };
     enter_run(&mut repeats, alloc, run)?;
-    let twice = Twice { run, repeats };
-    least_bad(&twice, alloc)
+    least_pair(&Twice { run, repeats }, alloc)
 }

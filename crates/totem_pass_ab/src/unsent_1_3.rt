@@ -1,26 +1,20 @@
 //! 1.3: a message that is delivered was sent for its configuration (docs/SPECIFICATIONS.md, "1 Basic delivery"). This is the search, which
 //! names what breaks it. The rule, which is tried first, is totem_judge `replay` and `sends`.
-ghost use Rattle.std.specs.Prelude.{◌≡◌, ◌↔◌, ◌<◌, IsTrue, IfSome, IfNone, IfOk, MatchOption, length};
+ghost use Rattle.std.specs.Prelude.{IfOk};
 ghost use Rattle.std.specs.Bool.{OnTrue};
-ghost use Rattle.totem_evs.specs.Events.{IsTransitional, log_of};
-ghost use Rattle.totem_evs.specs.Following.{IsFirstChange, Follows, Com};
+ghost use Rattle.totem_evs.specs.Events.{log_of};
 ghost use Rattle.totem_evs.specs.Answers.{Finds};
-ghost use Rattle.totem_evs.specs.DeliveryFaults.{BreaksUnsent};
 ghost use Rattle.totem_table.specs.Changes.{AreChanges};
-ghost use Rattle.totem_pass_ab.specs.Pairs.{IsOne};
-ghost use Rattle.totem_judge_run.specs.Ends.{IsChangeTo, NeverChangesTo};
-ghost use Rattle.totem_judge_run.specs.Sent.{IsSendTo, WasSentTo};
+ghost use Rattle.totem_judge_run.specs.Sent.{WasSentTo};
+ghost use Rattle.totem_search.specs.Unsent.{IsUnsentDelivery};
 ghost use Rattle.totem_pass_ab.specs.Noted.{KnowsSend, WereSent, KnowsRegularChange, AreFollowed};
 
-use crate::neighbours::{is_transitional, succession_at};
-use crate::pairs::Rest;
 use std::alloc::{AllocError, Global};
 use std::collections::{BTreeMap, BTreeSet};
-use totem_evs::{Entry, Places, Run, SpecNo};
+use totem_evs::{Entry, Run, SpecNo};
 use totem_names::{ConfId, MsgId, Proc, RingId};
-use totem_table::{
-    Change, ChangeRegister, Changes, Register, Relation, enter_changes, enter_run, least, places_of,
-};
+use totem_search::{FoundPlaces, Sendings, find_unsent, is_transitional, succession_at};
+use totem_table::{Change, ChangeRegister, Changes, Register, enter_changes, enter_run};
 
 /// A message, and the ring in whose regular configuration it is sent.
 #[derive(Clone, Copy, PartialEq, Eq, PartialOrd, Ord)]
@@ -31,11 +25,11 @@ pub struct Sending {
 
 /// The sends in regular configurations: each message, with the ring of the configuration.
 #[derive(Drop)]
-pub struct Sendings {
+pub struct Sent {
     pub sends: BTreeSet<Sending>,
 }
 
-impl Register for Sendings {
+impl Register for Sent {
     ghost sound = { λ s. WereSent ⟦<Sending as Ord>⟧.cmp s.sends };
 
     ghost knows = { λ s p. KnowsSend ⟦<Sending as Ord>⟧.cmp s.sends };
@@ -104,97 +98,18 @@ impl ChangeRegister for Followed {
     }
 }
 
-fn is_change_to(entry: &Entry, ring: &RingId) -> bool
-    ensures { IsTrue result ↔ IsChangeTo entry.now (ConfId.Regular ring.now) }
-{
-    match entry {
-        Entry::Conf(ConfId::Regular(other), _) => *other == *ring,
-        _ => false,
-    }
-}
-
-/// Returns the index of a log's first change to the regular configuration of this ring.
-fn first_change(log: &[Entry], ring: &RingId) -> Option<usize>
-    ensures found { IfSome result (IsFirstChange log.now (ConfId.Regular ring.now)) }
-    ensures within { IfSome result (λ i. i < length log.now) }
-    ensures none { IfNone result (NeverChangesTo log.now (ConfId.Regular ring.now)) }
-{
-    for (i, entry) in log.iter().enumerate() {
-        if is_change_to(entry, ring) {
-            return Some(i);
-        }
-    }
-    None
-}
-
-/// Returns whether `conf` follows the regular configuration of the ring in this log, if it is transitional.
-fn follows(log: &[Entry], ring: &RingId, conf: &ConfId) -> bool
-    requires { IsTransitional conf.now }
-    ensures { IsTrue result ↔ Follows log.now ring.now conf.now }
-{
-    let Some(first) = first_change(log, ring) else {
-        return false;
-    };
-    match succession_at(log, first) {
-        Some(succession) => succession.next.is(conf),
-        None => false,
-    }
-}
-
-/// Returns whether `conf` is the regular configuration of the ring, or follows that one in this log.
-pub fn is_in(log: &[Entry], ring: &RingId, conf: &ConfId) -> bool
-    ensures { IsTrue result ↔ Com log.now ring.now conf.now }
-{
-    match conf {
-        ConfId::Regular(other) => *other == *ring,
-        ConfId::Transitional { .. } => follows(log, ring, conf),
-    }
-}
-
-/// Looks for the sends that one delivery may be of.
-#[derive(Clone, Copy)]
-struct Sends<'r, 'l, 'm, 'c> {
-    run: &'r Run,
-    log: &'l [Entry],
-    message: &'m MsgId,
-    conf: &'c ConfId,
-}
-
-impl Sends<'_, '_, '_, '_> {
-    fn is_one(&self, entry: &Entry) -> bool
-        ensures { IsTrue result ↔ IsSendTo self.now.log.now self.now.message.now self.now.conf.now 0 0 entry.now }
-    {
-        match entry {
-            Entry::Send(message, ConfId::Regular(ring), _) => {
-                *message == *self.message && is_in(self.log, ring, self.conf)
-            }
-            _ => false,
-        }
-    }
-}
-
-impl Relation for Sends<'_, '_, '_, '_> {
-    ghost of = { λ s. s.run.now.logs };
-
-    ghost holds = { λ s. IsOne s.run.now.logs (IsSendTo s.log.now s.message.now s.conf.now) };
-
-    fn rest(&self, alloc: Global, _proc: Proc, log: &[Entry], at: usize) -> Rest {
-        Ok(self.is_one(&log[at]).then_some(Vec::new(alloc)))
-    }
-}
-
-/// Looks for deliveries of messages that were not sent for them.
+/// What is noted of the sends of a run, and of what follows regular configurations.
 #[derive(Drop)]
-struct Unsent<'r> {
+struct NotedSends<'r> {
     run: &'r Run,
-    sendings: Sendings,
+    sendings: Sent,
     followed: Followed,
     ghost sent: { ∥ WereSent ⟦<Sending as Ord>⟧.cmp sendings.sends run.now.logs ∥₁ },
     ghost follow: { ∥ AreFollowed ⟦<Change as Ord>⟧.cmp followed.rings run.now.logs ∥₁ },
 }
 
-impl Unsent<'_> {
-    /// Returns `true` only if what this process delivers in `conf` was sent for it: a quick test that can make a search unnecessary.
+impl NotedSends<'_> {
+    /// Returns `true` only if what this process delivers in `conf` was sent for it.
     fn is_sent(&self, proc: Proc, message: MsgId, conf: &ConfId) -> bool
         ensures { OnTrue result (WasSentTo self.now.run.now.logs (log_of self.now.run.now.logs proc) message conf.now) }
     {
@@ -219,37 +134,27 @@ impl Unsent<'_> {
     }
 }
 
-impl Relation for Unsent<'_> {
+impl Sendings for NotedSends<'_> {
     ghost of = { λ s. s.run.now.logs };
 
-    ghost holds = { λ s. BreaksUnsent s.run.now.logs };
+    fn run(&self) -> &Run {
+        self.run
+    }
 
-    fn rest(&self, alloc: Global, proc: Proc, log: &[Entry], at: usize) -> Rest {
-        let Entry::Deliver(message, conf) = &log[at] else {
-            return Ok(None);
-        };
-        if self.is_sent(proc, *message, conf) {
-            return Ok(None);
+    fn is_fine(&self, proc: Proc, entry: &Entry) -> bool {
+        match entry {
+            Entry::Deliver(message, conf) => self.is_sent(proc, *message, conf),
+            _ => true,
         }
-        let sends = Sends {
-            run: self.run,
-            log,
-            message,
-            conf,
-        };
-        if least(&sends, alloc, self.run)?.is_some() {
-            return Ok(None);
-        }
-        Ok(Some(Vec::new(alloc)))
     }
 }
 
 /// Finds the least events that break 1.3.
-pub fn find(alloc: Global, run: &Run, changes: &Changes) -> Result<Option<Places>, AllocError>
+pub fn find(alloc: Global, run: &Run, changes: &Changes) -> FoundPlaces
     requires { AreChanges run.now.logs changes.now.rows.items }
     ensures { IfOk result (Finds run.now.logs SpecNo.Unsent) }
 {
-    let mut sendings = Sendings {
+    let mut sendings = Sent {
         sends: BTreeSet::new(alloc),
     };
     enter_run(&mut sendings, alloc, run)?;
@@ -258,10 +163,12 @@ pub fn find(alloc: Global, run: &Run, changes: &Changes) -> Result<Option<Places
         rings: BTreeMap::new(alloc),
     };
     enter_changes(&mut followed, alloc, run, changes)?;
-    let unsent = Unsent {
-        run,
-        sendings,
-        followed,
-    };
-    Ok(places_of(least(&unsent, alloc, run)?))
+    find_unsent(
+        &NotedSends {
+            run,
+            sendings,
+            followed,
+        },
+        alloc,
+    )
 }

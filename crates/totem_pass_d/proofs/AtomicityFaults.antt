@@ -17,13 +17,13 @@ use Rattle.totem_evs.specs.RingFaults.{BreaksAtomicityIn}
 use Rattle.totem_evs.specs.AgreementFaults.{GoesAt}
 use Rattle.totem_evs.specs.Answers.{ComesFirst, IsLeast}
 use Rattle.totem_evs.proofs.LogOf.{less_or_not}
-use Rattle.totem_table.specs.Search.{place, NoneFrom, IsLeastFrom, HoldsOfNone}
+use Rattle.totem_search.specs.Search.{place, NoneFrom, IsLeastFrom, HoldsOfNone, IsOneEvent}
 use Rattle.totem_judge_run.proofs.Staying.{same_change, change_within}
 use Rattle.totem_evs.proofs.NextChanges.{one_next}
 use Rattle.totem_pass_d.specs.declared.stays.Stay.{Stay}
 use Rattle.totem_judge_run.specs.Stays.{IsStay}
 use Rattle.totem_pass_d.specs.Acts.{IsAmong, DeliversNot}
-use Rattle.totem_pass_d.specs.Search.{IsInside, EachBeginsWithin, BeginsWithin, NoneWithin, IsLeastWithin, IsOneEvent}
+use Rattle.totem_pass_d.specs.Search.{IsInside, EachBeginsWithin, BeginsWithin, NoneWithin, IsLeastWithin}
 use Rattle.totem_pass_d.specs.Searched.{IsAnywhere, IsSpan, IsNoChange, NeverDelivers, IsPartner}
 use Rattle.totem_judge_traffic.proofs.Together.{follows_too}
 use Rattle.totem_judge_run.proofs.SentOrNot.{same_conf_or_not}

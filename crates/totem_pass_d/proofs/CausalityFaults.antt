@@ -16,16 +16,17 @@ use Rattle.totem_evs.specs.Following.{Com, DeliversIn}
 use Rattle.totem_evs.specs.AgreementFaults.{IsNotDeliveredFirst}
 use Rattle.totem_evs.specs.RingAgreement.{IsHop, CausalityIn}
 use Rattle.totem_evs.specs.RingFaults.{BreaksCausalityIn}
-use Rattle.totem_table.specs.Search.{place, HoldsOfNone, NoneFrom}
+use Rattle.totem_search.specs.Search.{place, HoldsOfNone, NoneFrom, IsOneEvent}
+use Rattle.totem_search.proofs.Searching.{Starts}
 use Rattle.totem_pass_d.specs.declared.stays.Stay.{Stay}
 use Rattle.totem_pass_d.specs.Acts.{IsAmong, DeliversNot}
-use Rattle.totem_pass_d.specs.Search.{IsInside, EachBeginsWithin, NoneWithin, IsLeastWithin, BeginsWithin, IsOneEvent}
+use Rattle.totem_pass_d.specs.Search.{IsInside, EachBeginsWithin, NoneWithin, IsLeastWithin, BeginsWithin}
 use Rattle.totem_pass_d.specs.Searched.{IsEffect}
 use Rattle.totem_pass_d.proofs.Deciding.{delivery_or_not}
 use Rattle.totem_judge_run.proofs.Decisions.{both_or_not, below_or_not}
 use Rattle.totem_judge_run.proofs.SentOrNot.{in_or_not}
 use Rattle.totem_pass_d.proofs.Facts.{Facts, delivery_inside}
-use Rattle.totem_pass_d.proofs.Searching.{no_event, only_event, begins_inside, Starts, sends_there, there_sends, index_of, begins_at}
+use Rattle.totem_pass_d.proofs.Searching.{no_event, only_event, begins_inside, sends_there, there_sends, index_of, begins_at}
 use Rattle.std.specs.Bool.{OnTrue, OnFalse}
 use Rattle.std.specs.declared.cmp.Ordering.{Ordering}
 use Rattle.std.specs.BTreeSet.{BTreeSet}

@@ -21,19 +21,20 @@ use Rattle.totem_evs.specs.Answers.{ComesFirst, MeetsPasses}
 use Rattle.totem_evs.proofs.LogOf.{less_or_not}
 use Rattle.totem_evs.proofs.Pushing.{Along}
 use Rattle.totem_judge_traffic.proofs.Rowing.{before_or_at}
-use Rattle.totem_table.specs.Search.{place, NoneFrom, IsLeastFrom, HoldsOfNone}
+use Rattle.totem_search.specs.Search.{place, NoneFrom, IsLeastFrom, HoldsOfNone, IsOneEvent}
+use Rattle.totem_search.proofs.Searching.{Starts}
 use Rattle.totem_pass_d.specs.declared.stays.Stay.{Stay}
 use Rattle.totem_pass_d.specs.declared.stays.Sending.{Sending}
 use Rattle.totem_pass_d.specs.declared.gap_6_3.Last.{Last}
 use Rattle.totem_pass_d.specs.Acts.{IsAmong, DeliversNot, IsSendingOf, NobodySent}
-use Rattle.totem_pass_d.specs.Search.{IsInside, EachBeginsWithin, NoneWithin, IsLeastWithin, BeginsWithin, IsOneEvent}
+use Rattle.totem_pass_d.specs.Search.{IsInside, EachBeginsWithin, NoneWithin, IsLeastWithin, BeginsWithin}
 use Rattle.totem_pass_d.specs.Reached.{AreMembersAt, AreMembersAfter}
 use Rattle.totem_pass_d.specs.Suspects.{ComesNotBefore}
 use Rattle.totem_pass_d.specs.Searched.{IsLack, IsLater, TellsMember, IsApart, IsBeyond, IsPassed, HasPassed, IsLast, AreLasts, IsAhead, KeepsUp, AllKeepUp}
 use Rattle.totem_pass_d.proofs.Deciding.{has_delivered_or_not}
 use Rattle.totem_pass_d.proofs.Reaching.{is_among_members, is_member, one_origin}
 use Rattle.totem_pass_d.proofs.Facts.{Facts, delivery_inside}
-use Rattle.totem_pass_d.proofs.Searching.{no_event, only_event, begins_inside, Starts, begins_at}
+use Rattle.totem_pass_d.proofs.Searching.{no_event, only_event, begins_inside, begins_at}
 use Rattle.totem_pass_d.proofs.CausalityFaults.{one_delivery_in}
 
 -- members

@@ -1,15 +1,13 @@
 -- From what is shown of a configuration to the findings of its job, and from these to the faults of the pass.
-use Rattle.std.proofs.Common.{◌≡◌, ◌<◌, ◌≤◌, ◌+◌, ℕ, inl, inr, List, [], ◌∷◌, ◌++◌, length, take, Option, Some, None, Result, Ok, Err, IfOk, refl, sym, append-nil, arith}
+use Rattle.std.proofs.Common.{◌≡◌, ◌<◌, ◌≤◌, ◌+◌, ℕ, inl, inr, List, [], ◌∷◌, ◌++◌, length, take, Result, Ok, Err, IfOk, refl, sym, append-nil, arith}
 use Rattle.std.proofs.lemmas.List.{take_more, take_all}
 use Rattle.std.proofs.lemmas.Option.{slice_get_cases}
 use Rattle.totem_names.specs.declared.ring.RingId.{RingId}
-use Rattle.totem_names.specs.declared.place.Place.{Place}
 use Rattle.totem_evs.specs.declared.log.Log.{Log}
 use Rattle.totem_evs.specs.declared.fault.Fault.{Fault}
-use Rattle.totem_evs.specs.declared.spec.SpecNo.{SpecNo}
 use Rattle.totem_evs.specs.declared.spec.SpecNo.TheVariants as spec
-use Rattle.totem_evs.specs.Answers.{FindsIn, ListsRings, ListsEach, ListsConfigurations, AreRings, specs_d}
-use Rattle.totem_table.specs.Search.{listed}
+use Rattle.totem_evs.specs.Answers.{ListsEach, ListsConfigurations, AreRings, specs_d}
+use Rattle.totem_search.proofs.Listing.{rings_then}
 use Rattle.totem_judge_traffic.specs.declared.agreed.Shown.{Shown}
 use Rattle.totem_judge_traffic.specs.Clean.{IsAllShown, IsNoneShown}
 use Rattle.totem_pass_d.specs.declared.findings.Findings.{Findings}
@@ -39,20 +37,14 @@ none_found run c shown findings met all none = record {
   installed = rw none.installed (met.installed all.installed);
 }
 
-one_more : (run : List Log) (k : SpecNo) (cs : List RingId) (c : RingId) (fs : List Fault) (found : Option (List Place)) → ListsRings run k cs fs → FindsIn run c k found → ListsRings run k (cs ++ c ∷ []) (fs ++ listed k found)
-one_more run k [] c fs None is meets = rw is (inl (meets, refl))
-one_more run k [] c fs (Some places) is least = rw is (inr (places, [], refl, least, refl))
-one_more run k (b ∷ cs) c fs found (inl (meets, more)) h = inl (meets, one_more run k cs c fs found more h)
-one_more run k (b ∷ cs) c fs found (inr (places, rest, is, least, more)) h = inr (places, rest ++ listed k found, rw is refl, least, one_more run k cs c rest found more h)
-
 pub found_more : (run : List Log) (cs : List RingId) (c : RingId) (old new : Found) (findings : Findings) → AreFindings run c findings → GrowsBy old findings new → AreFound run cs old → AreFound run (cs ++ c ∷ []) new
 found_more run cs c old new findings h grows before = record {
-  own = rw grows.own (one_more run spec.OwnDelivery cs c old.own.items findings.own before.own h.own);
-  atomicity = rw grows.atomicity (one_more run spec.Atomicity cs c old.atomicity.items findings.atomicity before.atomicity h.atomicity);
-  causality = rw grows.causality (one_more run spec.Causality cs c old.causality.items findings.causality before.causality h.causality);
-  gap = rw grows.gap (one_more run spec.Gap cs c old.gap.items findings.gap before.gap h.gap);
-  safety = rw grows.safety (one_more run spec.Safety cs c old.safety.items findings.safety before.safety h.safety);
-  installed = rw grows.installed (one_more run spec.Installed cs c old.installed.items findings.installed before.installed h.installed);
+  own = rw grows.own (rings_then run spec.OwnDelivery cs c old.own.items findings.own before.own h.own);
+  atomicity = rw grows.atomicity (rings_then run spec.Atomicity cs c old.atomicity.items findings.atomicity before.atomicity h.atomicity);
+  causality = rw grows.causality (rings_then run spec.Causality cs c old.causality.items findings.causality before.causality h.causality);
+  gap = rw grows.gap (rings_then run spec.Gap cs c old.gap.items findings.gap before.gap h.gap);
+  safety = rw grows.safety (rings_then run spec.Safety cs c old.safety.items findings.safety before.safety h.safety);
+  installed = rw grows.installed (rings_then run spec.Installed cs c old.installed.items findings.installed before.installed h.installed);
 }
 
 each_found : (run : List Log) (rings : List RingId) (found : Found) → AreFound run rings found → ListsEach run rings specs_d (all_found found)

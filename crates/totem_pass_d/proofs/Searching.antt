@@ -6,12 +6,13 @@ use Rattle.totem_names.specs.declared.ring.RingId.{RingId}
 use Rattle.totem_names.specs.declared.place.Place.{Place}
 use Rattle.totem_evs.specs.declared.log.Log.{Log}
 use Rattle.totem_evs.specs.Answers.{ComesFirst, IsLeast, FindsIn}
-use Rattle.totem_table.specs.Search.{place, NoneFrom, HoldsOfNone, IsLeastFrom}
+use Rattle.totem_search.specs.Search.{place, NoneFrom, HoldsOfNone, IsOneEvent}
+use Rattle.totem_search.proofs.Searching.{event_at}
 use Rattle.totem_evs.proofs.LogOf.{less_or_not}
 use Rattle.totem_pass_d.specs.declared.stays.Stay.{Stay}
 use Rattle.totem_pass_d.specs.Stays.{AreStays}
 use Rattle.totem_pass_d.specs.Acts.{IsAmong, NeverComes}
-use Rattle.totem_pass_d.specs.Search.{IsInside, EachBeginsWithin, NoneBelow, NoneWithin, IsLeastWithin, IsOneEvent, IsOfOne, IsBrokenAlone, EachStandsInside, BeginsWithin}
+use Rattle.totem_pass_d.specs.Search.{IsInside, EachBeginsWithin, NoneBelow, NoneWithin, IsLeastWithin, IsOfOne, IsBrokenAlone, EachStandsInside, BeginsWithin}
 use Rattle.totem_evs.specs.declared.spec.SpecNo.{SpecNo}
 use Rattle.totem_evs.specs.RingFaults.{BreaksIn, MeetsIn}
 use Rattle.std.specs.declared.alloc.AllocError.{AllocError}
@@ -89,10 +90,6 @@ never_comes run c stays p n are end before = record {
 
 -- ---- lists of one event
 
-pub event_at : (Fact : ℕ → ℕ → Type 0) (p i : ℕ) (rest : List Place) → IsOneEvent Fact (place p i ∷ rest) → Fact p i
-event_at Fact p i [] at = let same : at.0 ≡ i = omega (arith, at.1) in rw same at at.2
-event_at Fact p i (f ∷ more) h = absurd h
-
 -- no event of the stay has the property
 pub no_event : (Reaches : Stay → ℕ → Type 0) (Fact : ℕ → ℕ → Type 0) (stay : Stay) → ((i : ℕ) → Fact stay.proc i → ⊥) → NoneWithin Reaches (IsOneEvent Fact) stay
 no_event Reaches Fact stay never = record { none = λ i rest reached h. never i (event_at Fact stay.proc i rest h) }
@@ -137,17 +134,6 @@ finds_event run c stays k (Ok None) Fact alone h = alone.met (λ p i fact. h.non
 finds_event run c stays k (Ok (Some ps)) Fact alone h = least_of_one (BreaksIn run c k) Fact ps alone.of h
 
 -- ---- how lists continue
-
--- a list that starts at the entry is in the one relation exactly if its rest is in the other
-pub record Starts (A B : List Place → Type 0) (p i : ℕ) : Type 0 where
-  pub to : (rest : List Place) → A rest → B (place p i ∷ rest)
-  pub from : (rest : List Place) → B (place p i ∷ rest) → A rest
-
-pub started : {V F : Type 0} (items : V → List Place) (r : Result (Option V) F) (A B : List Place → Type 0) (p i : ℕ) → Starts A B p i → IfOk r (λ found. MatchOption found (HoldsOfNone A) (λ v. IsLeast A (items v)))
-    → IfOk r (λ found. MatchOption found (NoneFrom B p i) (λ v. IsLeastFrom B p i (items v)))
-started items (Err e) A B p i starts h = tt
-started items (Ok None) A B p i starts h = record { none = λ rest b. h.none rest (starts.from rest b) }
-started items (Ok (Some v)) A B p i starts h = record { least = record { holds = starts.to (items v) h.holds; first = λ others b. h.first others (starts.from others b) } }
 
 -- what the result of a search says about a specification
 pub answered : (r : Result (Option (List Place)) AllocError) (run : List Log) (c : RingId) (k : SpecNo) → (HoldsOfNone (BreaksIn run c k) → MeetsIn run c k)

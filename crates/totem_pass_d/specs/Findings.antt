@@ -8,7 +8,7 @@ use Rattle.totem_evs.specs.declared.fault.Fault.{Fault}
 use Rattle.totem_evs.specs.RingFaults.{MeetsIn}
 use Rattle.totem_evs.specs.Answers.{FindsIn, ListsRings}
 use Rattle.totem_judge_traffic.specs.declared.agreed.Shown.{Shown}
-use Rattle.totem_table.specs.Search.{listed}
+use Rattle.totem_search.specs.Search.{listed}
 use Rattle.totem_pass_d.specs.declared.findings.Findings.{Findings}
 use Rattle.totem_pass_d.specs.declared.pass.Found.{Found}
 

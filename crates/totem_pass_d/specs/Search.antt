@@ -6,7 +6,7 @@ use Rattle.totem_evs.specs.declared.log.Log.{Log}
 use Rattle.totem_evs.specs.declared.spec.SpecNo.{SpecNo}
 use Rattle.totem_evs.specs.RingFaults.{BreaksIn, MeetsIn}
 use Rattle.totem_evs.specs.Places.{At}
-use Rattle.totem_table.specs.Search.{place, IsLeastFrom}
+use Rattle.totem_search.specs.Search.{place, IsLeastFrom}
 use Rattle.totem_pass_d.specs.declared.stays.Stay.{Stay}
 use Rattle.totem_pass_d.specs.Acts.{IsAmong}
 
@@ -25,11 +25,6 @@ pub record StandsInside (stays : List Stay) (p i : ℕ) : Type 0 where
 -- each event with the property is in a stay
 pub record EachStandsInside (stays : List Stay) (Fact : ℕ → ℕ → Type 0) : Type 0 where
   pub each : (p i : ℕ) → Fact p i → StandsInside stays p i
-
--- one event, which has the property
-abbrev pub IsOneEvent : (ℕ → ℕ → Type 0) → List Place → Type 0
-IsOneEvent Fact (e ∷ []) = At e Fact
-IsOneEvent Fact _ = ⊥
 
 -- the relation holds exactly for lists of one event with the property
 pub record IsOfOne (Holds : List Place → Type 0) (Fact : ℕ → ℕ → Type 0) : Type 0 where

@@ -10,12 +10,12 @@ use Rattle.totem_evs.specs.declared.log.Log.{Log}
 use Rattle.totem_evs.specs.Events.{IsChange, Sends, Delivers, log_of, IsMember}
 use Rattle.totem_evs.specs.Following.{Com, DeliversIn, HasDelivered}
 use Rattle.totem_evs.specs.AgreementFaults.{GoesAt, IsNotDeliveredFirst}
+use Rattle.totem_search.specs.Search.{IsOneEvent}
 use Rattle.totem_pass_d.specs.declared.stays.Stay.{Stay}
 use Rattle.totem_pass_d.specs.declared.gap_6_3.Last.{Last}
 use Rattle.totem_names.specs.declared.place.Place.{Place}
 use Rattle.totem_evs.specs.Steps.{SendsAt}
 use Rattle.totem_evs.specs.RingAgreement.{IsHop}
-use Rattle.totem_pass_d.specs.Search.{IsOneEvent}
 use Rattle.totem_evs.specs.Changes.{Names}
 use Rattle.totem_evs.specs.Places.{At}
 use Rattle.totem_pass_d.specs.Acts.{IsAmong}

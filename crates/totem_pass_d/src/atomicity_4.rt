@@ -5,17 +5,17 @@ ghost use Rattle.std.specs.Bool.{OnTrue, OnFalse};
 ghost use Rattle.totem_evs.specs.Events.{log_of, ChangesTo, Delivers};
 ghost use Rattle.totem_evs.specs.RingFaults.{BreaksAtomicityIn, MeetsIn};
 ghost use Rattle.totem_evs.specs.Answers.{FindsIn};
-ghost use Rattle.totem_pass_d.specs.Search.{IsOneEvent};
+ghost use Rattle.totem_search.specs.Search.{IsOneEvent};
 ghost use Rattle.totem_pass_d.specs.KnownStays.{AreKnown};
 ghost use Rattle.totem_pass_d.specs.Acts.{IsAmong};
 ghost use Rattle.totem_pass_d.specs.Searched.{IsAnywhere, IsSpan, IsNoChange, NeverDelivers, IsPartner};
 
-use crate::search::{EachIndex, Finder, FoundList, Relation, first_found, least_found, only};
+use crate::search::{EachIndex, Finder, Relation, first_found, least_found, only};
 use crate::stays::{Stay, Stays};
-use std::alloc::{AllocError, Global};
-use totem_evs::{Entry, Places, SpecNo};
+use std::alloc::Global;
+use totem_evs::{Entry, SpecNo};
 use totem_names::{ConfId, MsgId};
-use totem_table::begin_at;
+use totem_search::{FoundList, FoundPlaces, begin_at};
 
 /// Returns the index at which a stay changes to this one of its two configurations, and that of the next change or of the end of the stay.
 fn span_of(stay: &Stay, conf: &ConfId) -> (usize, usize)
@@ -129,7 +129,7 @@ impl Relation for Deliveries<'_, '_> {
 }
 
 /// Returns the least events that break 4 in this configuration. None is searched for where it is known to be met.
-pub fn find(alloc: Global, stays: &Stays, is_met: bool) -> Result<Option<Places>, AllocError>
+pub fn find(alloc: Global, stays: &Stays, is_met: bool) -> FoundPlaces
     requires known { AreKnown stays.now }
     requires met { OnTrue is_met (MeetsIn stays.now.run.now.logs stays.now.ring SpecNo.Atomicity) }
     ensures { IfOk result (FindsIn stays.now.run.now.logs stays.now.ring SpecNo.Atomicity) }

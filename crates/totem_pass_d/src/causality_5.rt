@@ -2,7 +2,7 @@
 //! (docs/SPECIFICATIONS.md, "5 Causal delivery", "Passes"). This is the search, which names what breaks it. The rule, which is tried first, is
 //! totem_judge_traffic `causality_5`.
 ghost use Rattle.std.specs.Prelude.{◌≡◌, ◌↔◌, ◌<◌, IsTrue, IfOk, length};
-ghost use Rattle.totem_table.specs.Search.{place};
+ghost use Rattle.totem_search.specs.Search.{place, IsOneEvent};
 ghost use Rattle.totem_evs.specs.AgreementFaults.{IsNotDeliveredFirst};
 ghost use Rattle.totem_evs.specs.RingFaults.{BreaksCausalityIn, MeetsIn};
 ghost use Rattle.totem_evs.specs.RingAgreement.{IsHop};
@@ -10,17 +10,18 @@ ghost use Rattle.std.specs.Bool.{OnTrue};
 ghost use Rattle.totem_evs.specs.Answers.{FindsIn};
 ghost use Rattle.totem_pass_d.specs.KnownStays.{AreKnown};
 ghost use Rattle.totem_pass_d.specs.Acts.{IsAmong};
-ghost use Rattle.totem_pass_d.specs.Search.{IsInside, IsOneEvent};
+ghost use Rattle.totem_pass_d.specs.Search.{IsInside};
 ghost use Rattle.totem_pass_d.specs.Searched.{IsEffect};
 ghost use Rattle.totem_pass_d.specs.Suspects.{AreSuspects};
 
-use crate::search::{EachIndex, Finder, FoundList, Relation, first_found, least_found, only};
+use crate::search::{EachIndex, Finder, Relation, first_found, least_found, only};
 use crate::stays::{Stay, Stays};
 use crate::suspects::{comes_before, suspects_of};
-use std::alloc::{AllocError, Global};
+use std::alloc::Global;
 use std::collections::BTreeSet;
-use totem_evs::{Entry, Places, SpecNo};
+use totem_evs::{Entry, SpecNo};
 use totem_names::{MsgId, Proc};
+use totem_search::{FoundList, FoundPlaces};
 
 /// The deliveries of a message without its cause before it.
 #[derive(Clone, Copy)]
@@ -125,7 +126,7 @@ impl Relation for Causes<'_, '_> {
 }
 
 /// Returns the least events that break 5 in this configuration. None is searched for where it is known to be met.
-pub fn find(alloc: Global, stays: &Stays, is_met: bool) -> Result<Option<Places>, AllocError>
+pub fn find(alloc: Global, stays: &Stays, is_met: bool) -> FoundPlaces
     requires known { AreKnown stays.now }
     requires met { OnTrue is_met (MeetsIn stays.now.run.now.logs stays.now.ring SpecNo.Causality) }
     ensures { IfOk result (FindsIn stays.now.run.now.logs stays.now.ring SpecNo.Causality) }

@@ -2,22 +2,22 @@
 //! Total order", "Passes"). This is the search, which names what breaks it. The rule, which is tried first, is totem_judge_traffic `gap_6_3`.
 ghost use Rattle.std.specs.Prelude.{◌≡◌, ◌↔◌, ◌<◌, ◌≤◌, IsTrue, IfOk, MatchOption, Contains};
 ghost use Rattle.std.specs.Bool.{OnTrue, OnFalse};
-ghost use Rattle.totem_table.specs.Search.{NoneFrom, IsLeastFrom};
+ghost use Rattle.totem_search.specs.Search.{NoneFrom, IsLeastFrom, IsOneEvent};
 ghost use Rattle.totem_evs.specs.AgreementFaults.{BreaksGapIn};
 ghost use Rattle.totem_evs.specs.RingFaults.{MeetsIn};
 ghost use Rattle.totem_evs.specs.Answers.{FindsIn};
 ghost use Rattle.totem_pass_d.specs.KnownStays.{AreKnown};
 ghost use Rattle.totem_pass_d.specs.Acts.{IsAmong};
-ghost use Rattle.totem_pass_d.specs.Search.{IsInside, IsOneEvent, NoneWithin};
+ghost use Rattle.totem_pass_d.specs.Search.{IsInside, NoneWithin};
 ghost use Rattle.totem_pass_d.specs.Searched.{IsLater, IsApart, IsBeyond, HasPassed, IsLast, AreLasts, KeepsUp, AllKeepUp, IsLack};
 
-use crate::search::{EachIndex, Finder, FoundList, Relation, first_found, least_found, only};
+use crate::search::{EachIndex, Finder, Relation, first_found, least_found, only};
 use crate::stays::{Stay, Stays};
 use crate::suspects::comes_before;
 use std::alloc::{AllocError, Global};
-use totem_evs::{Entry, Places, SpecNo};
+use totem_evs::{Entry, SpecNo};
 use totem_names::{MsgId, Proc};
-use totem_table::begin_at;
+use totem_search::{FoundList, FoundPlaces, begin_at};
 
 fn is_among(members: &[Proc], proc: Proc) -> bool
     ensures { IsTrue result ↔ Contains members.now proc }
@@ -301,7 +301,7 @@ impl Finder for Gaps<'_, '_> {
 }
 
 /// Returns the least events that break 6.3 in this configuration. None is searched for where it is known to be met.
-pub fn find(alloc: Global, stays: &Stays, is_met: bool) -> Result<Option<Places>, AllocError>
+pub fn find(alloc: Global, stays: &Stays, is_met: bool) -> FoundPlaces
     requires known { AreKnown stays.now }
     requires met { OnTrue is_met (MeetsIn stays.now.run.now.logs stays.now.ring SpecNo.Gap) }
     ensures { IfOk result (FindsIn stays.now.run.now.logs stays.now.ring SpecNo.Gap) }

@@ -7,7 +7,7 @@ use crate::findings::Findings;
 use crate::jobs::Jobs;
 use std::alloc::{AllocError, Global};
 use totem_evs::{Fault, SpecNo};
-use totem_table::with_found;
+use totem_search::with_found;
 
 /// The faults of each specification: one for each configuration in which it is broken, in the order of the configurations.
 #[derive(Drop)]

@@ -2,7 +2,7 @@
 ghost use Rattle.std.specs.Prelude.{◌≡◌, ◌<◌, ℕ, IfOk, MatchOption, List, [], ◌∷◌};
 ghost use Rattle.std.specs.Bool.{OnTrue, OnFalse};
 ghost use Rattle.totem_names.specs.declared.place.Place.{Place};
-ghost use Rattle.totem_table.specs.Search.{place, NoneFrom, IsLeastFrom, HoldsOfNone};
+ghost use Rattle.totem_search.specs.Search.{place, NoneFrom, IsLeastFrom, HoldsOfNone, IsOneEvent};
 ghost use Rattle.totem_evs.specs.Answers.{FindsIn, IsLeast};
 ghost use Rattle.totem_evs.specs.RingFaults.{MeetsIn};
 ghost use Rattle.totem_evs.specs.declared.spec.SpecNo.{SpecNo};
@@ -10,16 +10,12 @@ ghost use Rattle.totem_pass_d.specs.declared.stays.Stay.{Stay};
 ghost use Rattle.totem_pass_d.specs.declared.stays.Stays.{Stays};
 ghost use Rattle.totem_pass_d.specs.KnownStays.{AreKnown};
 ghost use Rattle.totem_pass_d.specs.Acts.{IsAmong};
-ghost use Rattle.totem_pass_d.specs.Search.{IsInside, IsOneEvent, IsBrokenAlone, EachBeginsWithin, NoneWithin, IsLeastWithin};
+ghost use Rattle.totem_pass_d.specs.Search.{IsInside, IsBrokenAlone, EachBeginsWithin, NoneWithin, IsLeastWithin};
 
 use crate::stays::{Stay, Stays};
 use std::alloc::{AllocError, Global};
-use totem_evs::Places;
 use totem_names::{Place, Proc};
-use totem_table::{begin_at, places_of};
-
-/// What a search for the least list returns: that list or the rest of it, if there is one.
-pub type FoundList = Result<Option<Vec<Place>>, AllocError>;
+use totem_search::{FoundList, FoundPlaces, begin_at, places_of};
 
 /// A relation on lists of events that start in one of the stays.
 pub trait Relation {
@@ -102,11 +98,7 @@ pub fn first_found<F: Finder>(finder: &F, alloc: Global, stays: &Stays) -> Found
 }
 
 /// Returns the least list that a finder finds, as places.
-pub fn least_found<F: Finder>(
-    finder: &F,
-    alloc: Global,
-    stays: &Stays,
-) -> Result<Option<Places>, AllocError>
+pub fn least_found<F: Finder>(finder: &F, alloc: Global, stays: &Stays) -> FoundPlaces
     requires known { AreKnown stays.now }
     requires among { F.among finder.now ≡ stays.now }
     requires begins { EachBeginsWithin stays.now.list.items (F.reaches finder.now) (F.holds finder.now) }
@@ -158,7 +150,7 @@ pub fn least_event<T: EventTest>(
     alloc: Global,
     stays: &Stays,
     is_met: bool,
-) -> Result<Option<Places>, AllocError>
+) -> FoundPlaces
     requires known { AreKnown stays.now }
     requires among { T.among test.now ≡ stays.now }
     requires alone { IsBrokenAlone stays.now.run.now.logs stays.now.ring stays.now.list.items T.spec (T.breaks test.now) }

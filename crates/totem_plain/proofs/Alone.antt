@@ -1,5 +1,5 @@
 -- The specifications that one event breaks by itself: what breaks them is an event of the run, and where none does, the run meets them.
-use Rattle.std.proofs.Common.{◌≡◌, ℕ, inl, inr, List, [], ◌∷◌, slice_get, Some, Bool, IsTrue, ◌↔◌, refl}
+use Rattle.std.proofs.Common.{◌≡◌, ℕ, inl, inr, List, slice_get, Some, Bool, IsTrue, ◌↔◌, refl}
 use Rattle.std.proofs.lemmas.Option.{slice_get_within}
 use Rattle.totem_names.specs.declared.ring.RingId.{RingId}
 use Rattle.totem_names.specs.declared.conf.ConfId.TheVariants.{Regular}
@@ -7,39 +7,16 @@ use Rattle.totem_evs.specs.declared.entry.Entry.{Entry}
 use Rattle.totem_evs.specs.declared.entry.Entry.TheVariants.{Conf, Send, Deliver}
 use Rattle.totem_evs.specs.declared.log.Log.{Log}
 use Rattle.totem_evs.specs.Events.{log_of}
-use Rattle.totem_evs.specs.Delivery.{DeliversWhatWasSent}
 use Rattle.totem_evs.specs.Changes.{EndsTogether, StaysInPlace}
-use Rattle.totem_evs.specs.DeliveryFaults.{IsUnsent}
 use Rattle.totem_evs.specs.ChangeFaults.{EndsAlone, IsMisplaced}
 use Rattle.totem_evs.specs.AgreementFaults.{IsNotOwned, IsNotReached, IsNotInstalled}
 use Rattle.totem_evs.specs.Agreement.{OwnDeliveryIn, SafetyIn, InstalledIn}
 use Rattle.totem_evs.proofs.Originating.{change_or_not}
-use Rattle.totem_plain.specs.Bad.{IsUnsentDelivery, IsLoneEnd, IsUnowned, IsUnreached, IsUninstalled}
-use Rattle.totem_plain.specs.Search.{place, IsOneEvent, HoldsOfNone, AreEvents}
-use Rattle.totem_plain.proofs.Deciding.{sent_or_not, shares_end_or_not, stands_or_not, delivers_or_ends_or_not, first_change_or_not}
-
--- no event has the property
-nowhere : (Bad : ℕ → ℕ → Type 0) → HoldsOfNone (IsOneEvent Bad) → (p i : ℕ) → Bad p i → ⊥
-nowhere Bad none p i h = none.none (place p i ∷ []) (i, refl, h)
-
--- a test of the entry at i says what is known about i
-told_at : (log : List Entry) (i : ℕ) (x : Entry) (P : Entry → Type 0) (Bad : Type 0) (b : Bool) → slice_get log i ≡ Some x → (P x → Bad) → (Bad → (y : Entry) × (slice_get log i ≡ Some y) × P y) → IsTrue b ↔ P x → IsTrue b ↔ Bad
-told_at log i x P Bad b at to from tells = (λ t. to (tells.0 t), λ bad. (let h = from bad in tells.1 (let one : h.0 ≡ x = (let there = h.1 in cc) in rw one at h.2)))
-
--- ---- 1.3
-
-pub unsent_told : (run : List Log) (p i : ℕ) (x : Entry) (b : Bool) → slice_get (log_of run p) i ≡ Some x → IsTrue b ↔ IsUnsentDelivery run p x → IsTrue b ↔ IsUnsent run p i
-unsent_told run p i x b at = told_at (log_of run p) i x (IsUnsentDelivery run p) (IsUnsent run p i) b at (to x at) (λ (m, d, at, never). (Deliver m d, at, never))
-  where
-    to : (x : Entry) → slice_get (log_of run p) i ≡ Some x → IsUnsentDelivery run p x → IsUnsent run p i
-    to (Deliver m d) at never = (m, d, at, never)
-    to x at h = absurd h
-
-pub unsent_events : (run : List Log) → AreEvents run (IsUnsent run)
-unsent_events run = record { each = λ p i (m, d, at, h). slice_get_within (log_of run p) i (Deliver m d) at }
-
-pub all_sent : (run : List Log) → HoldsOfNone (IsOneEvent (IsUnsent run)) → DeliversWhatWasSent run
-all_sent run none p i m d at = elim (sent_or_not run p m d) [ inl sent ↦ sent | inr unsent ↦ absurd (nowhere (IsUnsent run) none p i (m, d, at, unsent)) ]
+use Rattle.totem_plain.specs.Bad.{IsLoneEnd, IsUnowned, IsUnreached, IsUninstalled}
+use Rattle.totem_search.specs.Search.{IsOneEvent, HoldsOfNone, AreEvents}
+use Rattle.totem_judge_run.proofs.SentOrNot.{first_change_or_not}
+use Rattle.totem_search.proofs.Searching.{nowhere, told_at}
+use Rattle.totem_plain.proofs.Deciding.{shares_end_or_not, stands_or_not, delivers_or_ends_or_not}
 
 -- ---- 2.1
 

@@ -5,8 +5,8 @@ use Rattle.totem_names.specs.declared.place.Place.{Place}
 use Rattle.totem_evs.specs.declared.entry.Entry.{Entry}
 use Rattle.totem_evs.specs.declared.log.Log.{Log}
 use Rattle.totem_evs.specs.Events.{log_of}
-use Rattle.totem_plain.specs.Search.{Begins, EachBegins}
-use Rattle.totem_plain.proofs.Searching.{begins_at}
+use Rattle.totem_search.specs.Search.{Begins, EachBegins}
+use Rattle.totem_search.proofs.Searching.{begins_at}
 
 -- a place of a log is at one index
 pub index_is : (i j : ℕ) → i + 1 ≡ j + 1 → j ≡ i

@@ -15,13 +15,14 @@ use Rattle.totem_evs.specs.Following.{Com, DeliversIn}
 use Rattle.totem_evs.specs.RingAgreement.{IsHop, CausalityIn}
 use Rattle.totem_evs.specs.AgreementFaults.{IsNotDeliveredFirst}
 use Rattle.totem_evs.specs.RingFaults.{BreaksCausalityIn}
-use Rattle.totem_plain.specs.Search.{place, HoldsOfNone, EachBegins}
+use Rattle.totem_search.specs.Search.{place, HoldsOfNone, EachBegins}
 use Rattle.totem_plain.specs.Plain.{DeliversInConf, DeliversBefore}
 use Rattle.totem_plain.specs.Rings.{IsEffect}
-use Rattle.totem_plain.proofs.Decisions.{both_or_not, below_or_not}
-use Rattle.totem_plain.proofs.Deciding.{in_or_not, delivery_or_not}
+use Rattle.totem_judge_run.proofs.Decisions.{both_or_not, below_or_not}
+use Rattle.totem_judge_run.proofs.SentOrNot.{in_or_not}
+use Rattle.totem_plain.proofs.Deciding.{delivery_or_not}
 use Rattle.totem_plain.proofs.Beginning.{IsAt, begins}
-use Rattle.totem_plain.proofs.Searching.{Starts}
+use Rattle.totem_search.proofs.Searching.{Starts}
 
 -- ---- entries at places
 

@@ -1,49 +1,33 @@
 -- What the definitions say of logs holds, or it does not.
-use Rattle.std.proofs.Common.{below_more, ◌≡◌, ℕ, zero, suc, ◌<◌, ◌⊎◌, inl, inr, List, [], length, slice_get, Option, Some, None, refl, ◌∙◌, ap, arith}
+use Rattle.std.proofs.Common.{below_more, ◌≡◌, ℕ, zero, suc, ◌<◌, ◌⊎◌, inl, inr, List, length, slice_get, Option, Some, None, refl, ◌∙◌, ap, arith}
 use Rattle.std.proofs.lemmas.Bool.{cases_eq}
 use Rattle.std.proofs.lemmas.Option.{slice_get_within, get_or_from_slice_get, slice_get-get_or}
 use Rattle.totem_names.specs.declared.ring.RingId.{RingId}
 use Rattle.totem_names.specs.declared.conf.ConfId.{ConfId}
-use Rattle.totem_names.specs.declared.conf.ConfId.TheVariants.{Regular, Transitional}
 use Rattle.totem_names.specs.declared.message.MsgId.{MsgId}
 use Rattle.totem_evs.specs.declared.entry.Entry.{Entry}
-use Rattle.totem_evs.specs.declared.entry.Entry.TheVariants.{Conf, Send, Deliver, Fail}
+use Rattle.totem_evs.specs.declared.entry.Entry.TheVariants.{Conf, Deliver, Fail}
 use Rattle.totem_evs.specs.declared.log.Log.{Log}
 use Rattle.totem_evs.specs.declared.ending.Ending.{Ending}
 use Rattle.totem_evs.specs.declared.ending.Ending.TheVariants.{Standing, Failed, Quiet}
-use Rattle.totem_evs.specs.Events.{log_of, ending_of, ChangesTo, IsChange, IsTransitional, Delivers, Fails, IsQuiet}
-use Rattle.totem_evs.specs.Delivery.{WasSentFor}
+use Rattle.totem_evs.specs.Events.{log_of, ending_of, ChangesTo, IsChange, Delivers, Fails, IsQuiet}
 use Rattle.totem_evs.specs.Changes.{SharesEnd, StandsIn}
-use Rattle.totem_evs.specs.Following.{IsFirstChange, IsNextChange, Follows, Com, HasDelivered, NeverFails, FailedIn, LastChange, StaysIn, DeliversOrEnds}
+use Rattle.totem_evs.specs.Following.{IsFirstChange, Com, HasDelivered, NeverFails, FailedIn, LastChange, StaysIn, DeliversOrEnds}
 use Rattle.totem_evs.specs.Missing.{HasLog}
-use Rattle.totem_evs.proofs.LogOf.{log_of_cases, less_or_not}
-use Rattle.totem_evs.proofs.Originating.{change_or_not, last_before}
-use Rattle.totem_evs.proofs.NextChanges.{same_first}
-use Rattle.totem_plain.specs.Plain.{HasOne, IsEntrySendFor}
-use Rattle.totem_plain.proofs.Decisions.{both_or_not, either_or_not, not_or_not, same_or_not, below_or_not, same_ring_or_not}
-use Rattle.totem_plain.proofs.Follows.{changes_at_next}
-use Rattle.totem_plain.proofs.Logs.{sent_of}
-use Rattle.totem_plain.proofs.Loops.{NoneBelow}
+use Rattle.totem_evs.proofs.LogOf.{less_or_not}
+use Rattle.totem_evs.proofs.Originating.{last_before}
+use Rattle.totem_judge_run.proofs.Decisions.{both_or_not, same_or_not}
+use Rattle.totem_judge_run.proofs.SentOrNot.{same_conf_or_not, same_message_or_not, first_change_or_not, in_or_not}
+use Rattle.totem_search.proofs.Loops.{NoneBelow}
 
--- ---- names
+pub either_or_not : {P Q : Type 0} → P ⊎ (P → ⊥) → Q ⊎ (Q → ⊥) → (P ⊎ Q) ⊎ (P ⊎ Q → ⊥)
+either_or_not (inl p) other = inl (inl p)
+either_or_not (inr never) (inl q) = inl (inr q)
+either_or_not (inr never) (inr nor) = inr (λ h. elim h [ inl p ↦ never p | inr q ↦ nor q ])
 
-pub same_conf_or_not : (x y : ConfId) → (x ≡ y) ⊎ (x ≡ y → ⊥)
-same_conf_or_not (Regular c) (Regular d) = same_or_not (same_ring_or_not c d) (λ same. ap Regular same) (λ e. cc)
-same_conf_or_not (Regular c) (Transitional l n) = inr (λ e. cc)
-same_conf_or_not (Transitional l n) (Regular c) = inr (λ e. cc)
-same_conf_or_not (Transitional l n) (Transitional k m) = same_or_not (both_or_not (same_ring_or_not n m) (cases_eq l k)) (λ h. let a = h.0 in let b = h.1 in cc) (λ e. (cc, cc))
-
-same_message : (m n : MsgId) → m.ring ≡ n.ring → m.number ≡ n.number → m ≡ n
-same_message m n ring number =
-    let M : RingId → ℕ → MsgId = λ r k. record { ring = r; number = k } in
-    let same : M m.ring m.number ≡ M n.ring n.number = cc in same
-
-same_message_or_not : (m n : MsgId) → (m ≡ n) ⊎ (m ≡ n → ⊥)
-same_message_or_not m n = same_or_not (both_or_not (same_ring_or_not m.ring n.ring) (cases_eq m.number n.number)) (λ h. same_message m n h.0 h.1) (λ e. (ap (λ (x : MsgId). x.ring) e, ap (λ (x : MsgId). x.number) e))
-
-transitional_or_not : (x : ConfId) → IsTransitional x ⊎ (IsTransitional x → ⊥)
-transitional_or_not (Regular c) = inr (λ h. h)
-transitional_or_not (Transitional l n) = inl tt
+pub not_or_not : {P : Type 0} → P ⊎ (P → ⊥) → (P → ⊥) ⊎ ((P → ⊥) → ⊥)
+not_or_not (inl p) = inr (λ never. never p)
+not_or_not (inr never) = inl never
 
 -- ---- lists
 
@@ -79,38 +63,6 @@ same_there log i x y (ms, h) (ns, k) = cc
 
 within : (log : List Entry) (i : ℕ) → IsChange log i → i < length log
 within log i (x, (ms, at)) = slice_get_within log i (Conf x ms) at
-
-change_to_or_not : (log : List Entry) (x : ConfId) (i : ℕ) → ChangesTo log i x ⊎ (ChangesTo log i x → ⊥)
-change_to_or_not log x i = elim (change_or_not log i) [
-  | inr never ↦ inr (λ h. never (x, h))
-  | inl (y, change) ↦ same_or_not (same_conf_or_not y x) (λ same. rw same at change) (λ h. same_there log i y x change h)
-]
-
--- the first change to x, or none
-pub first_change_or_not : (log : List Entry) (x : ConfId) → ((i : ℕ) × IsFirstChange log x i) ⊎ ((i : ℕ) → ChangesTo log i x → ⊥)
-first_change_or_not log x = elim (first_below (λ i. ChangesTo log i x) (change_to_or_not log x) (length log)) [
-  | inl (i, change, before) ↦ inl (i, record { change = change; none_before = before.none })
-  | inr none ↦ inr (λ i h. none.none i (within log i (x, h)) h)
-]
-
-next_change_or_not : (log : List Entry) (i : ℕ) → ((j : ℕ) × IsNextChange log i j) ⊎ ((j : ℕ) → IsNextChange log i j → ⊥)
-next_change_or_not log i = elim (first_below (λ j. (i < j) × IsChange log j) (λ j. both_or_not (below_or_not i j) (change_or_not log j)) (length log)) [
-  | inl (j, (later, change), before) ↦ inl (j, record { change = change; later = later; none_between = λ k lt under c. before.none k under (lt, c) })
-  | inr none ↦ inr (λ j next. none.none j (within log j next.change) (next.later, next.change))
-]
-
-follows_or_not : (log : List Entry) (c : RingId) (d : ConfId) → Follows log c d ⊎ (Follows log c d → ⊥)
-follows_or_not log c d = elim (first_change_or_not log (Regular c)) [
-  | inr none ↦ inr (λ f. none f.from f.first.change)
-  | inl (i, first) ↦ elim (next_change_or_not log i) [
-    | inr none ↦ inr (λ f. none f.to (rw (same_first log (Regular c) f.from i f.first first) at f.next))
-    | inl (j, next) ↦ same_or_not (both_or_not (change_to_or_not log d j) (transitional_or_not d))
-        (λ h. record { from = i; to = j; first = first; next = next; change = h.0; transitional = h.1 }) (λ f. (changes_at_next log c d i j first next f, f.transitional))
-  ]
-]
-
-pub in_or_not : (log : List Entry) (c : RingId) (d : ConfId) → Com log c d ⊎ (Com log c d → ⊥)
-in_or_not log c d = either_or_not (same_conf_or_not d (Regular c)) (follows_or_not log c d)
 
 -- the configuration that the log is in before i, or none
 standing_or_none : (log : List Entry) (i : ℕ) → ((x : ConfId) × StandsIn log i x) ⊎ ((x : ConfId) → StandsIn log i x → ⊥)
@@ -228,26 +180,3 @@ shares_end_or_not run x q =
         → ((i : ℕ) → ChangesTo (log_of run q) i x → ⊥) ⊎ (((i : ℕ) → ChangesTo (log_of run q) i x → ⊥) → ⊥)
     never_or_not (inl (i, first)) = inr (λ never. never i first.change)
     never_or_not (inr never) = inl never
-
--- ---- sends
-
-send_or_not : (log : List Entry) (m : MsgId) (d : ConfId) (e : Entry) → IsEntrySendFor log m d e ⊎ (IsEntrySendFor log m d e → ⊥)
-send_or_not log m d (Send n (Regular c) s) = both_or_not (same_message_or_not n m) (in_or_not log c d)
-send_or_not log m d e = inr (λ h. h)
-
-pub sent_or_not : (run : List Log) (p : ℕ) (m : MsgId) (d : ConfId) → WasSentFor run p m d ⊎ (WasSentFor run p m d → ⊥)
-sent_or_not run p m d = elim (some_or_not (λ k (l : Log). HasOne P (log_of run l.proc)) run (λ k l. one_or_not l.proc)) [
-  | inl (k, l, at, (i, e, at_i, h)) ↦ inl (sent_of run p m d l.proc i e at_i h)
-  | inr none ↦ inr (λ (c, (q, i, (s, at)), inside). none_of none q (i, Send m (Regular c) s, at, (refl, inside)) (log_of_cases run q))
-]
-  where
-    P : Entry → Type 0
-    P = IsEntrySendFor (log_of run p) m d
-
-    one_or_not : (q : ℕ) → HasOne P (log_of run q) ⊎ (HasOne P (log_of run q) → ⊥)
-    one_or_not q = elim (some_or_not (λ i. P) (log_of run q) (λ i. send_or_not (log_of run p) m d)) [ inl found ↦ inl found | inr none ↦ inr (λ (i, e, at, h). none i e at h) ]
-
-    none_of : ((k : ℕ) (l : Log) → slice_get run k ≡ Some l → HasOne P (log_of run l.proc) → ⊥) → (q : ℕ) → HasOne P (log_of run q)
-        → (log_of run q ≡ []) ⊎ ((k : ℕ) × (l : Log) × (slice_get run k ≡ Some l) × (l.proc ≡ q) × (log_of run q ≡ l.entries)) → ⊥
-    none_of none q (i, e, at, h) (inl empty) = let at : slice_get {X = Entry} [] i ≡ Some e = rw empty at at in cc
-    none_of none q has (inr (k, l, at, same, is)) = none k l at (rw same has)

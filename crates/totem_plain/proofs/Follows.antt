@@ -1,16 +1,15 @@
--- What follows a regular configuration in a log, from the first change to it and the next one.
+-- The last change of a log, and the next one.
 use Rattle.std.proofs.Common.{◌≡◌, ℕ, ◌<◌, inl, inr, List, Option, Some, None, true, false, Bool, not, IsTrue, ◌↔◌, refl, arith}
 use Rattle.std.specs.Prelude.{IfSome, IfNone}
-use Rattle.totem_names.specs.declared.ring.RingId.{RingId}
 use Rattle.totem_names.specs.declared.conf.ConfId.{ConfId}
-use Rattle.totem_names.specs.declared.conf.ConfId.TheVariants.{Regular}
 use Rattle.totem_evs.specs.declared.entry.Entry.{Entry}
-use Rattle.totem_evs.specs.Events.{ChangesTo, IsTransitional, IsChange}
-use Rattle.totem_evs.specs.Following.{IsFirstChange, IsNextChange, LastChange, Follows}
+use Rattle.totem_evs.specs.Events.{ChangesTo, IsChange}
+use Rattle.totem_evs.specs.Following.{IsFirstChange, IsNextChange, LastChange}
 use Rattle.totem_evs.proofs.LogOf.{less_or_not}
-use Rattle.totem_evs.proofs.NextChanges.{one_next, same_first}
-use Rattle.totem_plain.specs.Plain.{NoNextChange, NeverChangesTo, IsSomeBefore, IsLastChangeBefore}
-use Rattle.totem_plain.proofs.Loops.{no_is}
+use Rattle.totem_evs.proofs.NextChanges.{one_next}
+use Rattle.totem_search.specs.Following.{NoNextChange, NeverChangesTo}
+use Rattle.totem_plain.specs.Plain.{IsSomeBefore, IsLastChangeBefore}
+use Rattle.totem_search.proofs.Loops.{no_is}
 
 pub one_change : (log : List Entry) (x : ConfId) (i : ℕ) → IsFirstChange log x i → IsTrue false ↔ NeverChangesTo log x
 one_change log x i first = no_is (λ none. none.never i first.change)
@@ -47,22 +46,3 @@ same_last log x y a b = elim (less_or_not a.index b.index) [
   | inr (inl gt) ↦ absurd (b.none_after a.index gt (x, a.change))
   | inr (inr same) ↦ (let here = (rw same at a.change).1 in let there = b.change.1 in cc)
 ]
-
--- ---- what follows c
-
-pub never_follows : (log : List Entry) (c : RingId) (d : ConfId) → NeverChangesTo log (Regular c) → IsTrue false ↔ Follows log c d
-never_follows log c d never = no_is (λ h. never.never h.from h.first.change)
-
-pub nothing_follows : (log : List Entry) (c : RingId) (d : ConfId) (i : ℕ) → IsFirstChange log (Regular c) i → NoNextChange log i → IsTrue false ↔ Follows log c d
-nothing_follows log c d i first none = no_is (λ h. let same = same_first log (Regular c) h.from i h.first first in none.none h.to (rw same at h.next.later) h.next.change)
-
-pub changes_at_next : (log : List Entry) (c : RingId) (d : ConfId) (i j : ℕ) → IsFirstChange log (Regular c) i → IsNextChange log i j → Follows log c d → ChangesTo log j d
-changes_at_next log c d i j first next h =
-    let from = same_first log (Regular c) h.from i h.first first in
-    let to = one_next log i h.to j (rw from at h.next) next in rw to at h.change
-
-pub other_follows : (log : List Entry) (c : RingId) (d : ConfId) (i j : ℕ) → IsFirstChange log (Regular c) i → IsNextChange log i j → (ChangesTo log j d → ⊥) → IsTrue false ↔ Follows log c d
-other_follows log c d i j first next never = no_is (λ h. never (changes_at_next log c d i j first next h))
-
-pub that_follows : (log : List Entry) (c : RingId) (d : ConfId) (i j : ℕ) (b : Bool) → IsFirstChange log (Regular c) i → IsNextChange log i j → ChangesTo log j d → IsTrue b ↔ IsTransitional d → IsTrue b ↔ Follows log c d
-that_follows log c d i j b first next change tells = (λ t. record { from = i; to = j; first = first; next = next; change = change; transitional = tells.0 t }, λ h. tells.1 h.transitional)

@@ -19,9 +19,9 @@ use Rattle.totem_evs.specs.declared.log.Log.{Log}
 use Rattle.totem_evs.specs.Events.{log_of}
 use Rattle.totem_evs.specs.Missing.{HasLog}
 use Rattle.totem_evs.proofs.LogOf.{Rising, log_of_cases, less_or_not}
-use Rattle.totem_plain.specs.Plain.{HasOne, SomeLog}
+use Rattle.totem_search.specs.Entries.{HasOne, SomeLog}
 use Rattle.totem_plain.specs.Gathered.{Adds, IsInOrder, AreListed}
-use Rattle.totem_plain.proofs.Loops.{at_log}
+use Rattle.totem_search.proofs.Loops.{at_log}
 
 pub adds_alike : {T : Type 0} (P Q : T → Type 0) (s t : List T) → ((x : T) → P x → Q x) → ((x : T) → Q x → P x) → Adds P s t → Adds Q s t
 adds_alike P Q s t to from h = record {

@@ -11,12 +11,13 @@ use Rattle.totem_evs.specs.Events.{log_of, Sends}
 use Rattle.totem_evs.specs.Following.{DeliversIn, HasDelivered}
 use Rattle.totem_evs.specs.Agreement.{NoGapsIn}
 use Rattle.totem_evs.specs.AgreementFaults.{BreaksGapIn}
-use Rattle.totem_plain.specs.Search.{place, HoldsOfNone, EachBegins}
-use Rattle.totem_plain.specs.Plain.{HasOne, IsEntrySend, SomeMember}
+use Rattle.totem_search.specs.Search.{place, HoldsOfNone, EachBegins}
+use Rattle.totem_search.specs.Entries.{HasOne}
+use Rattle.totem_plain.specs.Plain.{IsEntrySend, SomeMember}
 use Rattle.totem_plain.specs.Rings.{HasSent, IsLack, IsLater}
 use Rattle.totem_plain.proofs.Deciding.{has_delivered_or_not}
 use Rattle.totem_plain.proofs.Beginning.{index_is, IsAt, begins}
-use Rattle.totem_plain.proofs.Searching.{Starts}
+use Rattle.totem_search.proofs.Searching.{Starts}
 
 -- ---- the delivery without the earlier message
 

@@ -1,11 +1,6 @@
-pub mod Decisions
 pub mod Deciding
-pub mod Loops
 pub mod Follows
 pub mod Logs
-pub mod Searching
-pub mod Pairing
-pub mod Bad
 pub mod Alone
 pub mod Causes
 pub mod Partings
@@ -14,7 +9,6 @@ pub mod Gathering
 pub mod Comparing
 pub mod Unsettling
 pub mod Lacks
-pub mod Turning
 pub mod Numbering
 pub mod Beginning
 pub mod Judging

@@ -3,7 +3,6 @@ use Rattle.std.proofs.Common.{◌≡◌, ℕ, zero, suc, ◌<◌, ◌≤◌, inl
 use Rattle.std.specs.Prelude.{◌==◌, slice_index_or}
 use Rattle.std.proofs.lemmas.Option.{slice_get_within, get_or_from_slice_get, slice_get-get_or}
 use Rattle.totem_names.specs.declared.conf.ConfId.{ConfId}
-use Rattle.totem_names.specs.declared.conf.ConfId.TheVariants.{Regular}
 use Rattle.totem_names.specs.declared.message.MsgId.{MsgId}
 use Rattle.totem_names.specs.declared.message.Service.TheVariants.{Safe}
 use Rattle.totem_evs.specs.declared.entry.Entry.{Entry}
@@ -12,11 +11,11 @@ use Rattle.totem_evs.specs.declared.ending.Ending.{Ending}
 use Rattle.totem_evs.specs.declared.ending.Ending.TheVariants.{Standing, Quiet}
 use Rattle.totem_evs.specs.declared.log.Log.{Log}
 use Rattle.totem_evs.specs.Events.{log_of, ending_of, IsQuiet, IsSafe}
-use Rattle.totem_evs.specs.Delivery.{WasSentFor}
 use Rattle.totem_evs.specs.Missing.{HasLog}
 use Rattle.totem_evs.proofs.LogOf.{Rising, Rising-tail, in_order, log_of_cases, log_of_at}
-use Rattle.totem_plain.specs.Plain.{IsLogOf, HasNoLog, SomeLog, IsEntrySafe, IsEntrySendFor, IsEntryMember, SomeMember}
-use Rattle.totem_plain.proofs.Loops.{NoneBelow, HasLogAt, no_is}
+use Rattle.totem_search.specs.Entries.{SomeLog}
+use Rattle.totem_plain.specs.Plain.{IsLogOf, HasNoLog, IsEntrySafe, IsEntryMember, SomeMember}
+use Rattle.totem_search.proofs.Loops.{NoneBelow, HasLogAt, no_is}
 
 pub no_log : (run : List Log) (p n : ℕ) → length run ≤ n → NoneBelow (HasLogAt (λ q es. q ≡ p) run) n → HasNoLog run p
 no_log run p n end before = record { none = λ (k, l, lt, is, same). before.none k (omega arith) (record { log = l; at = there k l lt is; holds = same }) }
@@ -64,13 +63,6 @@ is_log run p k log rising at same = record {
 }
 
 -- ---- what some log has
-
-pub sent_of : (run : List Log) (p : ℕ) (m : MsgId) (d : ConfId) (q i : ℕ) (x : Entry) → slice_get (log_of run q) i ≡ Some x → IsEntrySendFor (log_of run p) m d x → WasSentFor run p m d
-sent_of run p m d q i (Send n (Regular c) s) at (same, inside) = (c, (q, i, (s, rw same at at)), inside)
-sent_of run p m d q i x at h = absurd h
-
-pub sent_for : (run : List Log) (p : ℕ) (m : MsgId) (d : ConfId) (b : Bool) → IsTrue b ↔ SomeLog (IsEntrySendFor (log_of run p) m d) run → IsTrue b ↔ WasSentFor run p m d
-sent_for run p m d b tells = (λ t. let (q, (i, x, at, h)) = tells.0 t in sent_of run p m d q i x at h, λ (c, (q, i, (s, at)), inside). tells.1 (q, (i, Send m (Regular c) s, at, (refl, inside))))
 
 safe_of : (run : List Log) (m : MsgId) (q i : ℕ) (x : Entry) → slice_get (log_of run q) i ≡ Some x → IsEntrySafe m x → IsSafe run m
 safe_of run m q i (Send n x Safe) at same = (q, i, x, rw same at at)

@@ -12,12 +12,13 @@ use Rattle.totem_evs.specs.Following.{Com}
 use Rattle.totem_evs.specs.AgreementFaults.{GoesAt}
 use Rattle.totem_evs.specs.RingAgreement.{AtomicityIn}
 use Rattle.totem_evs.specs.RingFaults.{BreaksAtomicityIn}
-use Rattle.totem_plain.specs.Search.{place, NoneFrom, HoldsOfNone, EachBegins}
+use Rattle.totem_search.specs.Search.{place, NoneFrom, HoldsOfNone, EachBegins}
 use Rattle.totem_plain.specs.Plain.{DeliversInConf}
 use Rattle.totem_plain.specs.Rings.{IsParting, IsGoing}
-use Rattle.totem_plain.proofs.Deciding.{delivery_or_not, same_conf_or_not}
+use Rattle.totem_judge_run.proofs.SentOrNot.{same_conf_or_not}
+use Rattle.totem_plain.proofs.Deciding.{delivery_or_not}
 use Rattle.totem_plain.proofs.Beginning.{index_is, IsAt, begins}
-use Rattle.totem_plain.proofs.Searching.{Starts}
+use Rattle.totem_search.proofs.Searching.{Starts}
 
 -- ---- the change
 

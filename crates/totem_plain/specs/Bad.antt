@@ -1,42 +1,16 @@
 -- Which entries are bad alone, and which two are bad together (docs/SPECIFICATIONS.md, "Faults").
-use Rattle.std.specs.Prelude.{◌≡◌, ◌≢◌, ◌⊎◌, ℕ, List, Contains}
+use Rattle.std.specs.Prelude.{◌≡◌, ℕ, List}
 use Rattle.totem_names.specs.declared.ring.RingId.{RingId}
 use Rattle.totem_names.specs.declared.conf.ConfId.{ConfId}
 use Rattle.totem_names.specs.declared.conf.ConfId.TheVariants.{Regular}
 use Rattle.totem_evs.specs.declared.entry.Entry.{Entry}
 use Rattle.totem_evs.specs.declared.log.Log.{Log}
 use Rattle.totem_evs.specs.declared.entry.Entry.TheVariants.{Conf, Send, Deliver}
-use Rattle.totem_evs.specs.Events.{log_of, IsTransitional, IsQuiet}
+use Rattle.totem_evs.specs.Events.{log_of, IsQuiet}
 use Rattle.totem_evs.specs.Changes.{SharesEnd}
-use Rattle.totem_evs.specs.Delivery.{WasSentFor}
 use Rattle.totem_evs.specs.Following.{Com, DeliversOrEnds}
-use Rattle.totem_plain.specs.Plain.{NoNextChange, NeverChangesTo, SomeOf, MissesSafe}
-
--- a change by p to a configuration of which p is not a member
-abbrev pub IsForeignChange : ℕ → ℕ → Entry → Type 0
-IsForeignChange p i (Conf x ms) = Contains ms p → ⊥
-IsForeignChange p i _ = ⊥
-
--- two changes to one configuration, in one log or with different members
-abbrev pub AreTwoForms : ℕ → ℕ → Entry → ℕ → ℕ → Entry → Type 0
-AreTwoForms p i (Conf x ms) q j (Conf y ns) = (x ≡ y) × (((p ≡ q) × (i ≢ j)) ⊎ (ms ≢ ns))
-AreTwoForms p i _ q j _ = ⊥
-
--- a send in a transitional configuration
-abbrev pub IsSendBetween : ℕ → ℕ → Entry → Type 0
-IsSendBetween p i (Send m x service) = IsTransitional x
-IsSendBetween p i _ = ⊥
-
--- two sends of one message, or two deliveries of one message in one log
-abbrev pub AreTwice : ℕ → ℕ → Entry → ℕ → ℕ → Entry → Type 0
-AreTwice p i (Send m x service) q j (Send n y other) = (m ≡ n) × ((p ≢ q) ⊎ (i ≢ j))
-AreTwice p i (Deliver m x) q j (Deliver n y) = (m ≡ n) × (p ≡ q) × (i ≢ j)
-AreTwice p i _ q j _ = ⊥
-
--- a delivery by p of what was not sent for it
-abbrev pub IsUnsentDelivery : List Log → ℕ → Entry → Type 0
-IsUnsentDelivery run p (Deliver m d) = WasSentFor run p m d → ⊥
-IsUnsentDelivery run p _ = ⊥
+use Rattle.totem_search.specs.Following.{NoNextChange, NeverChangesTo}
+use Rattle.totem_plain.specs.Plain.{SomeOf, MissesSafe}
 
 -- q is not quiet, and never changes to x
 abbrev pub MayCome : List Log → ConfId → ℕ → Type 0

@@ -15,7 +15,7 @@ use Rattle.totem_evs.specs.Events.{log_of}
 use Rattle.totem_evs.specs.Following.{HasDelivered, OpenIn}
 use Rattle.totem_evs.specs.Unsettled.{EndsIn}
 use Rattle.totem_evs.specs.Missing.{HasLog}
-use Rattle.totem_plain.specs.Plain.{SomeLog}
+use Rattle.totem_search.specs.Entries.{SomeLog}
 
 -- the new list has what the old one had and everything for which P holds
 pub record Adds {T : Type 0} (P : T → Type 0) (old new : List T) : Type 0 where

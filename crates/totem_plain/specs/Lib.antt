@@ -1,9 +1,6 @@
-pub mod Search
-pub mod Pairs
 pub mod Bad
 pub mod Plain
 pub mod Rings
-pub mod Turns
 pub mod Found
 pub mod Gathered
 pub mod Numbered

@@ -1,5 +1,5 @@
 -- What the plain checker asks of logs, in words of its own where the definitions have none.
-use Rattle.std.specs.Prelude.{◌≡◌, ◌≢◌, ◌⊎◌, ℕ, ◌<◌, List, All, Contains, slice_get, Option, Some, None}
+use Rattle.std.specs.Prelude.{◌≡◌, ◌≢◌, ◌⊎◌, ℕ, ◌<◌, List, All, Contains, Option, Some, None}
 use Rattle.totem_names.specs.declared.ring.RingId.{RingId}
 use Rattle.totem_names.specs.declared.conf.ConfId.{ConfId}
 use Rattle.totem_names.specs.declared.conf.ConfId.TheVariants.{Regular, Transitional}
@@ -13,18 +13,6 @@ use Rattle.totem_evs.specs.Changes.{Names, StandsIn}
 use Rattle.totem_evs.specs.Missing.{HasLog}
 use Rattle.totem_evs.specs.Following.{Com, DeliversIn, LastChange}
 
--- the entry at i, if there is one, is no change
-pub record NoChangeAt (log : List Entry) (i : ℕ) : Type 0 where
-  pub none : IsChange log i → ⊥
-
--- no change is after i
-pub record NoNextChange (log : List Entry) (i : ℕ) : Type 0 where
-  pub none : (k : ℕ) → i < k → IsChange log k → ⊥
-
--- the log never changes to x
-pub record NeverChangesTo (log : List Entry) (x : ConfId) : Type 0 where
-  pub never : (i : ℕ) → ChangesTo log i x → ⊥
-
 -- an entry before j delivers m in c or in what follows it
 abbrev pub DeliversBefore : List Entry → RingId → MsgId → ℕ → Type 0
 DeliversBefore log c m j = (i : ℕ) × (i < j) × DeliversIn log c m i
@@ -35,14 +23,6 @@ DeliversInConf log j m x = (i : ℕ) × (i < j) × Delivers log i m x
 
 -- ---- of entries, and of all logs
 
--- an entry of the log has the property
-abbrev pub HasOne : (Entry → Type 0) → List Entry → Type 0
-HasOne P log = (i : ℕ) × (x : Entry) × (slice_get log i ≡ Some x) × P x
-
--- an entry of some log has it
-abbrev pub SomeLog : (Entry → Type 0) → List Log → Type 0
-SomeLog P run = (p : ℕ) × HasOne P (log_of run p)
-
 abbrev pub IsEntrySend : MsgId → Entry → Type 0
 IsEntrySend m (Send n x service) = n ≡ m
 IsEntrySend m _ = ⊥
@@ -50,11 +30,6 @@ IsEntrySend m _ = ⊥
 abbrev pub IsEntrySafe : MsgId → Entry → Type 0
 IsEntrySafe m (Send n x Safe) = n ≡ m
 IsEntrySafe m _ = ⊥
-
--- a send of m in a regular configuration that is d, or that d follows in this log
-abbrev pub IsEntrySendFor : List Entry → MsgId → ConfId → Entry → Type 0
-IsEntrySendFor log m d (Send n (Regular c) service) = (n ≡ m) × Com log c d
-IsEntrySendFor log m d _ = ⊥
 
 -- one of these processes has the property
 abbrev pub SomeOf : (ℕ → Type 0) → List ℕ → Type 0

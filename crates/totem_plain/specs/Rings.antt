@@ -14,8 +14,9 @@ use Rattle.totem_evs.specs.Following.{IsNextChange, Com, DeliversIn, HasDelivere
 use Rattle.totem_evs.specs.Places.{At}
 use Rattle.totem_evs.specs.RingAgreement.{IsHop}
 use Rattle.totem_evs.specs.AgreementFaults.{GoesAt, IsNotDeliveredFirst}
-use Rattle.totem_plain.specs.Search.{IsOneEvent}
-use Rattle.totem_plain.specs.Plain.{HasOne, IsEntrySend, SomeMember}
+use Rattle.totem_search.specs.Search.{IsOneEvent}
+use Rattle.totem_search.specs.Entries.{HasOne}
+use Rattle.totem_plain.specs.Plain.{IsEntrySend, SomeMember}
 
 -- the change at j is to d, and is the next one after that at i, to x
 abbrev pub GoesFrom : List Entry → ConfId → ConfId → ℕ → ℕ → Type 0

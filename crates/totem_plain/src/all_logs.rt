@@ -1,15 +1,14 @@
 //! What the definitions ask of all logs (docs/SPECIFICATIONS.md, "Runs", "Failed and open").
 ghost use Rattle.std.specs.Prelude.{◌≡◌, ◌↔◌, ℕ, [], IsTrue, IfSome, IfNone};
-ghost use Rattle.totem_evs.specs.declared.entry.Entry.{Entry};
 ghost use Rattle.totem_evs.specs.Events.{log_of, IsQuiet, IsSafe};
-ghost use Rattle.totem_evs.specs.Delivery.{WasSentFor};
 ghost use Rattle.totem_evs.specs.Following.{OpenIn, DeliversOrEnds};
 ghost use Rattle.totem_evs.specs.Missing.{HasLog};
-ghost use Rattle.totem_plain.specs.Plain.{IsLogOf, HasNoLog, SomeLog, SomeOf, SomeMember, MissesSafe, IsEntrySend, IsEntrySafe, IsEntrySendFor, IsEntryMember, HasOne};
+ghost use Rattle.totem_plain.specs.Plain.{IsLogOf, HasNoLog, SomeOf, SomeMember, MissesSafe, IsEntrySend, IsEntrySafe, IsEntryMember};
 
-use crate::one_log::{failed_in, has_delivered, is_or_follows, stays_in};
+use crate::one_log::{failed_in, has_delivered, stays_in};
 use totem_evs::{Ending, Entry, Log, Run};
 use totem_names::{ConfId, MsgId, Proc, RingId, Service};
+use totem_search::{EntryTest, is_or_follows, some_event};
 
 /// Returns the log of a process, with its process and ending, or `None` if it has none.
 fn log_at(run: &Run, proc: Proc) -> Option<&Log>
@@ -58,38 +57,6 @@ pub fn is_quiet(run: &Run, proc: Proc) -> bool
     }
 }
 
-/// A test for entries, which need not know where they are.
-pub trait EntryTest {
-    ghost holds: { Self → Entry → Type 0 };
-
-    fn test(&self, entry: &Entry) -> bool
-        ensures { IsTrue result ↔ holds self.now entry.now };
-}
-
-/// Returns whether an entry of the log passes the test.
-pub fn some_entry<T: EntryTest>(test: &T, log: &[Entry]) -> bool
-    ensures { IsTrue result ↔ HasOne (T.holds test.now) log.now }
-{
-    for entry in log {
-        if test.test(entry) {
-            return true;
-        }
-    }
-    false
-}
-
-/// Returns whether an entry of the run passes the test.
-fn some_event<T: EntryTest>(test: &T, run: &Run) -> bool
-    ensures { IsTrue result ↔ SomeLog (T.holds test.now) run.now.logs }
-{
-    for log in run.logs.as_slice() {
-        if some_entry(test, log.entries.as_slice()) {
-            return true;
-        }
-    }
-    false
-}
-
 /// The sends of a message, in any configuration.
 #[derive(Clone, Copy)]
 pub struct Sends<'m> {
@@ -105,35 +72,6 @@ impl EntryTest for Sends<'_> {
             _ => false,
         }
     }
-}
-
-/// The sends of a message in a regular configuration that is `conf`, or that `conf` follows in a log.
-#[derive(Clone, Copy)]
-struct SendsFor<'m> {
-    log: &'m [Entry],
-    message: &'m MsgId,
-    conf: &'m ConfId,
-}
-
-impl EntryTest for SendsFor<'_> {
-    ghost holds = { λ t. IsEntrySendFor t.log.now t.message.now t.conf.now };
-
-    fn test(&self, entry: &Entry) -> bool {
-        match entry {
-            Entry::Send(message, ConfId::Regular(ring), _) => {
-                *message == *self.message && is_or_follows(self.log, ring, self.conf)
-            }
-            _ => false,
-        }
-    }
-}
-
-/// Returns whether the message was sent in this configuration, or in the regular one that it follows in this process's log.
-pub fn was_sent_for(run: &Run, proc: Proc, message: &MsgId, conf: &ConfId) -> bool
-    ensures { IsTrue result ↔ WasSentFor run.now.logs proc message.now conf.now }
-{
-    let log = log_of(run, proc);
-    some_event(&SendsFor { log, message, conf }, run)
 }
 
 /// The sends of a message as a safe one.

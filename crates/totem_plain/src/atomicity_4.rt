@@ -6,11 +6,14 @@ ghost use Rattle.totem_evs.specs.AgreementFaults.{GoesAt};
 ghost use Rattle.totem_evs.specs.RingFaults.{BreaksAtomicityIn};
 ghost use Rattle.totem_plain.specs.Rings.{GoesFrom, IsParting, IsGoing};
 
-use crate::one_log::{change_at, changes_to_at, delivered_by, is_next, is_or_follows};
-use crate::search::{FoundList, FoundPlaces, Relation, Test, least, least_bad, least_places};
+use crate::one_log::{delivered_by, is_next};
 use std::alloc::Global;
 use totem_evs::{Entry, Run, SpecNo};
 use totem_names::{ConfId, MsgId, Proc, RingId};
+use totem_search::{
+    FoundList, FoundPlaces, Relation, Test, change_at, changes_to_at, is_or_follows, least,
+    least_bad, least_places,
+};
 
 /// Returns whether the change at `at` is to `next`, and is the next one after that at `from`, to `conf`.
 fn goes_from(log: &[Entry], from: usize, conf: &ConfId, next: &ConfId, at: usize) -> bool

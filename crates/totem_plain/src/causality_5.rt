@@ -6,14 +6,14 @@ ghost use Rattle.totem_evs.specs.Events.{log_of};
 ghost use Rattle.totem_evs.specs.RingAgreement.{IsHop};
 ghost use Rattle.totem_evs.specs.AgreementFaults.{IsNotDeliveredFirst};
 ghost use Rattle.totem_evs.specs.RingFaults.{BreaksCausalityIn};
-ghost use Rattle.totem_plain.specs.Search.{place};
+ghost use Rattle.totem_search.specs.Search.{place};
 ghost use Rattle.totem_plain.specs.Rings.{IsEffect};
 
 use crate::one_log::{delivered_by, delivers_before, delivers_in};
-use crate::search::{FoundList, FoundPlaces, Relation, Test, least, least_bad, least_places};
 use std::alloc::Global;
 use totem_evs::{Entry, Run, SpecNo};
 use totem_names::{ConfId, MsgId, Proc, RingId};
+use totem_search::{FoundList, FoundPlaces, Relation, Test, least, least_bad, least_places};
 
 /// The deliveries of an effect without its cause before it.
 #[derive(Clone, Copy)]

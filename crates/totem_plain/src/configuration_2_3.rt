@@ -2,12 +2,13 @@
 //! (docs/SPECIFICATIONS.md, "2 Changes of configuration").
 ghost use Rattle.std.specs.Prelude.{IfOk};
 ghost use Rattle.totem_evs.specs.Answers.{Finds};
-ghost use Rattle.totem_plain.specs.Bad.{IsForeignChange, AreTwoForms};
+ghost use Rattle.totem_search.specs.Bad.{IsForeignChange, AreTwoForms};
 
-use crate::pairs::{OneOrTwoTest, Standing, least_pair};
-use crate::search::FoundPlaces;
 use std::alloc::Global;
-use totem_evs::{Entry, Run, SpecNo};
+use totem_evs::{Run, SpecNo};
+use totem_search::{
+    FoundPlaces, OneOrTwoTest, Standing, are_two_forms, is_foreign_change, least_pair,
+};
 
 #[derive(Clone, Copy)]
 struct TwoForms<'r> {
@@ -26,20 +27,11 @@ impl OneOrTwoTest for TwoForms<'_> {
     }
 
     fn is_alone(&self, first: &Standing) -> bool {
-        match first.entry {
-            Entry::Conf(_, members) => !members.contains(first.proc),
-            _ => false,
-        }
+        is_foreign_change(first)
     }
 
     fn is_pair(&self, first: &Standing, second: &Standing) -> bool {
-        match (first.entry, second.entry) {
-            (Entry::Conf(conf, members), Entry::Conf(other, others)) => {
-                let again = first.proc.rank() == second.proc.rank() && first.at != second.at;
-                conf.is(other) && (again || !members.is(others))
-            }
-            _ => false,
-        }
+        are_two_forms(first, second)
     }
 }
 

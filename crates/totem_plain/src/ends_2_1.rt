@@ -7,10 +7,10 @@ ghost use Rattle.totem_plain.specs.Bad.{IsLoneEnd, MayCome};
 
 use crate::all_logs::{MemberTest, has_log, is_quiet, log_of, some_of};
 use crate::one_log::{ends_in, is_last, never_changes_to, never_fails};
-use crate::search::{FoundPlaces, Test, bad_places};
 use std::alloc::Global;
 use totem_evs::{Entry, Run, SpecNo};
 use totem_names::{ConfId, Proc};
+use totem_search::{FoundPlaces, Test, bad_places};
 
 /// Returns whether the process may still change to the configuration.
 fn may_come(run: &Run, conf: &ConfId, proc: Proc) -> bool

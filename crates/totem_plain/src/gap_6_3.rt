@@ -5,12 +5,14 @@ ghost use Rattle.totem_evs.specs.Answers.{FindsIn};
 ghost use Rattle.totem_evs.specs.AgreementFaults.{BreaksGapIn};
 ghost use Rattle.totem_plain.specs.Rings.{HasSent, IsLack, IsLater};
 
-use crate::all_logs::{MemberTest, Sends, log_of, some_entry, some_member};
+use crate::all_logs::{MemberTest, Sends, log_of, some_member};
 use crate::one_log::{delivers_in, has_delivered};
-use crate::search::{FoundList, FoundPlaces, Relation, Test, least, least_bad, least_places};
 use std::alloc::Global;
 use totem_evs::{Entry, Run, SpecNo};
 use totem_names::{ConfId, MsgId, Proc, RingId};
+use totem_search::{
+    FoundList, FoundPlaces, Relation, Test, least, least_bad, least_places, some_entry,
+};
 
 /// The processes that send the message, in any configuration.
 #[derive(Clone, Copy)]

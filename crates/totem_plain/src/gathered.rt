@@ -3,7 +3,7 @@ ghost use Rattle.std.specs.Prelude.{◌≡◌, ℕ, List, IfOk, OnOk};
 ghost use Rattle.std.specs.declared.cmp.Ordering.TheVariants.{Equal};
 ghost use Rattle.totem_evs.specs.declared.entry.Entry.{Entry};
 ghost use Rattle.totem_evs.specs.declared.log.Log.{Log};
-ghost use Rattle.totem_plain.specs.Plain.{HasOne, SomeLog};
+ghost use Rattle.totem_search.specs.Entries.{HasOne, SomeLog};
 ghost use Rattle.totem_plain.specs.Gathered.{Adds, IsInOrder, AreListed};
 
 use std::alloc::{AllocError, Global};

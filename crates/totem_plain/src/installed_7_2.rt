@@ -3,15 +3,15 @@ ghost use Rattle.std.specs.Prelude.{◌↔◌, IsTrue, IfOk};
 ghost use Rattle.totem_evs.specs.Answers.{FindsIn};
 ghost use Rattle.totem_evs.specs.AgreementFaults.{IsNotInstalled};
 ghost use Rattle.totem_evs.specs.Events.{log_of};
-ghost use Rattle.totem_plain.specs.Plain.{NeverChangesTo};
+ghost use Rattle.totem_search.specs.Following.{NeverChangesTo};
 ghost use Rattle.totem_plain.specs.Bad.{IsUninstalled};
 
 use crate::all_logs::{MemberTest, log_of, misses_safe};
 use crate::one_log::never_changes_to;
-use crate::search::{FoundPlaces, Test, bad_places};
 use std::alloc::Global;
 use totem_evs::{Entry, Run, SpecNo};
 use totem_names::{ConfId, Proc, RingId};
+use totem_search::{FoundPlaces, Test, bad_places};
 
 /// The processes that never change to the configuration.
 #[derive(Clone, Copy)]

@@ -2,8 +2,8 @@
 //!
 //! `check_plainly` has the contract of totem_check `check`, word for word, and the code is as short as the definitions. `one_log` and
 //! `all_logs` ask what the definitions ask of one log and of all logs. Each specification that is not settled by the certificate is a module,
-//! whose name ends with its number: `search` tries the events of the run in rising places until the first list that breaks it. All is
-//! looked for entry by entry, so a check may take time with the cube of the number of entries.
+//! whose name ends with its number: totem_search tries the events of the run in rising places until the first list that breaks it, without
+//! a quick test. All is looked for entry by entry, so a check may take time with the cube of the number of entries.
 #![tactic(auto)]
 
 mod all_logs;
@@ -20,11 +20,9 @@ mod misplaced_2_2;
 mod numbered;
 mod one_log;
 mod own_3;
-mod pairs;
 mod passes;
 mod plainly;
 mod safety_7_1;
-mod search;
 mod succession_2_4;
 mod twice_1_4;
 mod unsent_1_3;

@@ -6,11 +6,11 @@ ghost use Rattle.totem_evs.specs.Events.{log_of};
 ghost use Rattle.totem_evs.specs.ChangeFaults.{IsMisplaced};
 ghost use Rattle.totem_plain.specs.Plain.{FailsBefore, IsElsewhere, IsNoBeginning};
 
-use crate::one_log::{is_change, is_failure, stands_in};
-use crate::search::{FoundPlaces, Test, bad_places};
+use crate::one_log::{is_failure, stands_in};
 use std::alloc::Global;
 use totem_evs::{Entry, Run, SpecNo};
 use totem_names::Proc;
+use totem_search::{FoundPlaces, Test, bad_places, is_change};
 
 fn fails_before(log: &[Entry], end: usize) -> bool
     ensures { IsTrue result ↔ FailsBefore log.now end }

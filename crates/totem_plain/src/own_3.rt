@@ -5,10 +5,10 @@ ghost use Rattle.totem_evs.specs.AgreementFaults.{IsNotOwned};
 ghost use Rattle.totem_plain.specs.Bad.{IsUnowned};
 
 use crate::all_logs::delivers_or_ends;
-use crate::search::{FoundPlaces, Test, bad_places};
 use std::alloc::Global;
 use totem_evs::{Entry, Run, SpecNo};
 use totem_names::{ConfId, Proc, RingId};
+use totem_search::{FoundPlaces, Test, bad_places};
 
 /// Returns whether the entry is a send in the regular configuration, and the process does not deliver the message, without excuse.
 fn is_unowned(run: &Run, ring: &RingId, proc: Proc, entry: &Entry) -> bool

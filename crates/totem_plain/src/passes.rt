@@ -1,33 +1,18 @@
 //! The faults of a run, pass by pass, and in each pass specification by specification (docs/SPECIFICATIONS.md, "Passes").
 ghost use Rattle.std.specs.Prelude.{◌≡◌, ◌++◌, IfOk};
 ghost use Rattle.totem_evs.specs.Answers.{FindsIn, Lists, ListsRings, ListsConfigurations, AreRings, pass_a, pass_b};
-ghost use Rattle.totem_plain.specs.Search.{listed};
 ghost use Rattle.totem_plain.specs.Found.{IsOfPassD};
 ghost use Rattle.totem_plain.specs.Gathered.{GivesRing, ring_of};
 
 use crate::gathered::{Gathered, all_given};
-use crate::search::FoundPlaces;
 use crate::{
     atomicity_4, causality_5, configuration_2_3, ends_2_1, gap_6_3, installed_7_2, misplaced_2_2,
     own_3, safety_7_1, succession_2_4, twice_1_4, unsent_1_3,
 };
 use std::alloc::{AllocError, Global};
-use totem_evs::{Entry, Fault, Places, Run, SpecNo};
+use totem_evs::{Entry, Fault, Run, SpecNo};
 use totem_names::{ConfId, Proc, RingId};
-
-/// Appends a fault to the list, if one was found.
-fn with_found(
-    mut faults: Vec<Fault>,
-    spec: SpecNo,
-    found: Option<Places>,
-) -> Result<Vec<Fault>, AllocError>
-    ensures { IfOk result (λ list. list.items ≡ faults.items ++ listed spec found) }
-{
-    if let Some(places) = found {
-        faults.push(Fault { spec, places })?;
-    }
-    Ok(faults)
-}
+use totem_search::{FoundPlaces, with_found};
 
 /// Pass A: 1.4, 2.1, 2.2, 2.3 and 2.4.
 pub fn pass_a(alloc: Global, run: &Run) -> Result<Vec<Fault>, AllocError>

@@ -7,11 +7,10 @@ ghost use Rattle.totem_evs.specs.Following.{DeliversOrEnds};
 ghost use Rattle.totem_plain.specs.Bad.{IsUnreached};
 
 use crate::all_logs::{MemberTest, delivers_or_ends, misses_safe};
-use crate::one_log::is_or_follows;
-use crate::search::{FoundPlaces, Test, bad_places};
 use std::alloc::Global;
 use totem_evs::{Entry, Run, SpecNo};
 use totem_names::{MsgId, Proc, RingId};
+use totem_search::{FoundPlaces, Test, bad_places, is_or_follows};
 
 /// The processes that do not deliver the message, without excuse.
 #[derive(Clone, Copy)]

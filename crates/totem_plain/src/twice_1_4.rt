@@ -1,13 +1,11 @@
 //! 1.4: each message is sent once, in a regular configuration, and no process delivers it twice (docs/SPECIFICATIONS.md, "1 Basic delivery").
 ghost use Rattle.std.specs.Prelude.{IfOk};
 ghost use Rattle.totem_evs.specs.Answers.{Finds};
-ghost use Rattle.totem_plain.specs.Bad.{IsSendBetween, AreTwice};
+ghost use Rattle.totem_search.specs.Bad.{IsSendBetween, AreTwice};
 
-use crate::one_log::is_transitional;
-use crate::pairs::{OneOrTwoTest, Standing, least_pair};
-use crate::search::FoundPlaces;
 use std::alloc::Global;
-use totem_evs::{Entry, Run, SpecNo};
+use totem_evs::{Run, SpecNo};
+use totem_search::{FoundPlaces, OneOrTwoTest, Standing, are_twice, is_send_between, least_pair};
 
 #[derive(Clone, Copy)]
 struct Twice<'r> {
@@ -26,25 +24,11 @@ impl OneOrTwoTest for Twice<'_> {
     }
 
     fn is_alone(&self, first: &Standing) -> bool {
-        match first.entry {
-            Entry::Send(_, conf, _) => is_transitional(conf),
-            _ => false,
-        }
+        is_send_between(first)
     }
 
     fn is_pair(&self, first: &Standing, second: &Standing) -> bool {
-        match (first.entry, second.entry) {
-            (Entry::Send(message, _, _), Entry::Send(other, _, _)) => {
-                *message == *other
-                    && (first.proc.rank() != second.proc.rank() || first.at != second.at)
-            }
-            (Entry::Deliver(message, _), Entry::Deliver(other, _)) => {
-                *message == *other
-                    && first.proc.rank() == second.proc.rank()
-                    && first.at != second.at
-            }
-            _ => false,
-        }
+        are_twice(first, second)
     }
 }
 

@@ -1,7 +1,8 @@
 use Rattle.std.proofs.Common.{◌∙◌, ap, rules}
 use Rattle.totem_evs.specs.RunRecord.{RunRecord}
 use Rattle.totem_evs.specs.declared.spec.SpecNo.TheVariants as spec
-use Rattle.totem_pass_ab.proofs.Bad.{finds, nothing_twice, twice_breaks, breaks_are_twice}
+use Rattle.totem_search.proofs.Searching.{finds}
+use Rattle.totem_search.proofs.Bad.{nothing_twice, twice_breaks, breaks_are_twice}
 use Rattle.totem_pass_ab.proofs.Repeating.{once_each}
 use Rattle.totem_pass_ab.proofs.twice_1_4.find.Goals as goal
 
@@ -11,4 +12,4 @@ returns-then-branch c =
     once_each c.args.run.now.logs _ (search rules) (rw runs at (rw c.if-branch.true at c.in_ok-sends_are_once.ensures)) c.in_ok-doubtful.ensures
 
 pub returns : goal.returns
-returns c = finds c.args.run.now.logs spec.Twice _ c.least_bad.result (nothing_twice _) (twice_breaks _) (breaks_are_twice _) c.least_bad.ensures
+returns c = finds c.args.run.now.logs c.least_pair.result _ spec.Twice (nothing_twice _) (twice_breaks _) (breaks_are_twice _) c.least_pair.ensures

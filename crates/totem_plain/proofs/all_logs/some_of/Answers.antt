@@ -1,6 +1,6 @@
 use Rattle.std.proofs.Common.{refl}
 use Rattle.std.proofs.lemmas.Option.{slice_get_read}
-use Rattle.totem_plain.proofs.Loops.{none_more, no_member, no_member_of, contains_at, denied, yes_is, no_is}
+use Rattle.totem_search.proofs.Loops.{none_more, no_member, no_member_of, contains_at, denied, yes_is, no_is}
 use Rattle.totem_plain.proofs.all_logs.some_of.Goals as goal
 
 pub returns-then-test : goal.returns-then-test

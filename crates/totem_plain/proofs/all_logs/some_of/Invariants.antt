@@ -1,4 +1,4 @@
-use Rattle.totem_plain.proofs.Loops.{NoneBelow, HasMember}
+use Rattle.totem_search.proofs.Loops.{NoneBelow, HasMember}
 use Rattle.totem_plain.proofs.all_logs.some_of.Given as goal
 
 abbrev pub invariant-loop-member : goal.invariant-loop-member

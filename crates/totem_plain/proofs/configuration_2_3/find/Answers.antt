@@ -1,6 +1,6 @@
 use Rattle.totem_evs.specs.declared.spec.SpecNo.TheVariants as spec
-use Rattle.totem_plain.proofs.Searching.{finds}
-use Rattle.totem_plain.proofs.Bad.{no_two_forms, forms_break, breaks_are_forms}
+use Rattle.totem_search.proofs.Searching.{finds}
+use Rattle.totem_search.proofs.Bad.{no_two_forms, forms_break, breaks_are_forms}
 use Rattle.totem_plain.proofs.configuration_2_3.find.Goals as goal
 
 pub returns : goal.returns

@@ -1,5 +1,5 @@
 use Rattle.totem_evs.specs.declared.spec.SpecNo.TheVariants as spec
-use Rattle.totem_plain.proofs.Searching.{finds}
+use Rattle.totem_search.proofs.Searching.{finds}
 use Rattle.totem_plain.proofs.Alone.{end_events, all_end}
 use Rattle.totem_plain.proofs.ends_2_1.find.Goals as goal
 

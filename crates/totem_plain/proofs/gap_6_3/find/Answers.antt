@@ -1,5 +1,5 @@
 use Rattle.totem_evs.specs.declared.spec.SpecNo.TheVariants as spec
-use Rattle.totem_plain.proofs.Searching.{finds_in}
+use Rattle.totem_search.proofs.Searching.{finds_in}
 use Rattle.totem_plain.proofs.Lacks.{gaps_begin, no_gaps}
 use Rattle.totem_plain.proofs.gap_6_3.find.Goals as goal
 

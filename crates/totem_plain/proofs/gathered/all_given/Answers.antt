@@ -4,7 +4,7 @@ use Rattle.std.proofs.lemmas.Result.{IfOk-weaker}
 use Rattle.totem_evs.specs.declared.log.Log.{Log}
 use Rattle.totem_evs.specs.LogRecord.{LogRecord}
 use Rattle.totem_evs.specs.RunRecord.{RunRecord}
-use Rattle.totem_plain.specs.Plain.{SomeLog}
+use Rattle.totem_search.specs.Entries.{SomeLog}
 use Rattle.totem_plain.proofs.Gathering.{some_more, all_added, all_listed}
 use Rattle.totem_plain.proofs.gathered.all_given.Goals as goal
 

@@ -1,5 +1,5 @@
 use Rattle.totem_evs.specs.declared.spec.SpecNo.TheVariants as spec
-use Rattle.totem_plain.proofs.Searching.{finds_in}
+use Rattle.totem_search.proofs.Searching.{finds_in}
 use Rattle.totem_plain.proofs.Alone.{installed_events, all_installed}
 use Rattle.totem_plain.proofs.installed_7_2.find.Goals as goal
 

@@ -1,5 +1,5 @@
 use Rattle.totem_evs.specs.declared.spec.SpecNo.TheVariants as spec
-use Rattle.totem_plain.proofs.Searching.{finds}
+use Rattle.totem_search.proofs.Searching.{finds}
 use Rattle.totem_plain.proofs.Alone.{misplaced_events, all_placed}
 use Rattle.totem_plain.proofs.misplaced_2_2.find.Goals as goal
 

@@ -1,4 +1,4 @@
-use Rattle.totem_plain.proofs.Loops.{no_is}
+use Rattle.totem_search.proofs.Loops.{no_is}
 use Rattle.totem_plain.proofs.Follows.{same_last}
 use Rattle.totem_plain.proofs.one_log.ends_in.Goals as goal
 

@@ -1,7 +1,7 @@
 use Rattle.std.proofs.Common.{refl}
 use Rattle.std.proofs.lemmas.Option.{slice_get_read}
 use Rattle.totem_evs.specs.declared.entry.Entry.TheVariants.{Fail}
-use Rattle.totem_plain.proofs.Loops.{none_more, none_here, none_in, denied}
+use Rattle.totem_search.proofs.Loops.{none_more, none_here, none_in, denied}
 use Rattle.totem_plain.proofs.one_log.never_fails.Goals as goal
 
 pub loop-entry-preserved : goal.loop-entry-preserved

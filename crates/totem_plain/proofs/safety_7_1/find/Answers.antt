@@ -1,5 +1,5 @@
 use Rattle.totem_evs.specs.declared.spec.SpecNo.TheVariants as spec
-use Rattle.totem_plain.proofs.Searching.{finds_in}
+use Rattle.totem_search.proofs.Searching.{finds_in}
 use Rattle.totem_plain.proofs.Alone.{reached_events, all_reached}
 use Rattle.totem_plain.proofs.safety_7_1.find.Goals as goal
 

@@ -1,6 +1,6 @@
 use Rattle.totem_evs.specs.declared.spec.SpecNo.TheVariants as spec
-use Rattle.totem_plain.proofs.Searching.{finds}
-use Rattle.totem_plain.proofs.Bad.{nothing_twice, twice_breaks, breaks_are_twice}
+use Rattle.totem_search.proofs.Searching.{finds}
+use Rattle.totem_search.proofs.Bad.{nothing_twice, twice_breaks, breaks_are_twice}
 use Rattle.totem_plain.proofs.twice_1_4.find.Goals as goal
 
 pub returns : goal.returns

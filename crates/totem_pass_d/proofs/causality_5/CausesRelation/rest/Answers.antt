@@ -1,6 +1,6 @@
 use Rattle.std.proofs.Common.{sym, ◌∙◌}
+use Rattle.totem_search.proofs.Searching.{started}
 use Rattle.totem_pass_d.proofs.Facts.{facts_of}
-use Rattle.totem_pass_d.proofs.Searching.{started}
 use Rattle.totem_pass_d.proofs.CausalityFaults.{send_here, effects_begin, cause_starts, none_unsuspected}
 use Rattle.totem_pass_d.proofs.causality_5.CausesRelation.rest.Goals as goal
 

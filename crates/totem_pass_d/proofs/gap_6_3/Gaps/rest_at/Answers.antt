@@ -1,4 +1,4 @@
-use Rattle.totem_table.proofs.Searching.{reworded}
+use Rattle.totem_search.proofs.Searching.{reworded}
 use Rattle.totem_pass_d.proofs.Facts.{facts_of}
 use Rattle.totem_pass_d.proofs.GapFaults.{none_unsent, none_after, least_after, none_behind}
 use Rattle.totem_pass_d.proofs.gap_6_3.Gaps.rest_at.Goals as goal

@@ -1,5 +1,5 @@
+use Rattle.totem_search.proofs.Searching.{started}
 use Rattle.totem_pass_d.proofs.Facts.{facts_of}
-use Rattle.totem_pass_d.proofs.Searching.{started}
 use Rattle.totem_pass_d.proofs.GapFaults.{lacks_begin, lack_starts}
 use Rattle.totem_pass_d.proofs.gap_6_3.LaterRelation.rest.Goals as goal
 

@@ -1,4 +1,4 @@
-use Rattle.totem_plain.proofs.Searching.{started}
+use Rattle.totem_search.proofs.Searching.{started}
 use Rattle.totem_plain.proofs.Lacks.{laters_begin, gap_starts}
 use Rattle.totem_plain.proofs.gap_6_3.EarliersRelation.rest.Goals as goal
 

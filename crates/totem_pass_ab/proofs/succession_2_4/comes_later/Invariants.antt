@@ -1,6 +1,0 @@
-use Rattle.std.proofs.Common.{◌-◌}
-use Rattle.totem_pass_ab.proofs.Turning.{NoneBetween}
-use Rattle.totem_pass_ab.proofs.succession_2_4.comes_later.Given as goal
-
-abbrev pub invariant-loop-back : goal.invariant-loop-back
-invariant-loop-back l = NoneBetween l.log (l.at - l.back) l.at

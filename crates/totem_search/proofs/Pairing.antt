@@ -1,0 +1,50 @@
+-- Lists of one entry that is bad alone, or of two that are bad together.
+use Rattle.std.proofs.Common.{◌≡◌, ℕ, ◌+◌, List, [], ◌∷◌, slice_get, Some, Bool, IsTrue, ◌↔◌, refl, arith}
+use Rattle.std.proofs.lemmas.Option.{slice_get_within}
+use Rattle.totem_names.specs.declared.place.Place.{Place}
+use Rattle.totem_evs.specs.declared.entry.Entry.{Entry}
+use Rattle.totem_evs.specs.declared.log.Log.{Log}
+use Rattle.totem_evs.specs.Events.{log_of}
+use Rattle.totem_search.specs.Search.{place, NoneFrom, IsLeastFrom, HoldsOfNone, Begins, EachBegins, IsOneEvent, AreEvents}
+use Rattle.totem_search.specs.Pairs.{Has, IsOneOrTwo}
+use Rattle.totem_search.proofs.Searching.{begins_at, Starts}
+
+pub entries : (run : List Log) (P : ℕ → ℕ → Entry → Type 0) → AreEvents run (Has run P)
+entries run P = record { each = λ p i (x, at, h). slice_get_within (log_of run p) i x at }
+
+pub one_or_two_begins : (run : List Log) (A : ℕ → ℕ → Entry → Type 0) (P : ℕ → ℕ → Entry → ℕ → ℕ → Entry → Type 0) → EachBegins run (IsOneOrTwo run A P)
+one_or_two_begins run A P = record { each = λ places h. go places h }
+  where
+    go : (places : List Place) → IsOneOrTwo run A P places → Begins run places
+    go [] h = absurd h
+    go (e ∷ []) (i, is, (x, at, h)) = begins_at run e i [] is (slice_get_within (log_of run e.proc) i x at)
+    go (e ∷ f ∷ rest) (i, is, (x, at, h)) = begins_at run e i (f ∷ rest) is (slice_get_within (log_of run e.proc) i x at)
+
+-- what is known about the entry at a place is known about the same entry read again
+moved : (log : List Entry) (i j : ℕ) (x y : Entry) (Q : ℕ → Entry → Type 0) → slice_get log i ≡ Some x → i + 1 ≡ j + 1 → slice_get log j ≡ Some y → Q j y → Q i x
+moved log i j x y Q at is at_j h = let same : j ≡ i = omega arith in
+    let one : y ≡ x = (let there : slice_get log i ≡ Some y = rw same at at_j in cc) in
+    rw (same, one) at h
+
+pub alone : (run : List Log) (A : ℕ → ℕ → Entry → Type 0) (P : ℕ → ℕ → Entry → ℕ → ℕ → Entry → Type 0) (p i : ℕ) (x : Entry) → slice_get (log_of run p) i ≡ Some x → A p i x → IsLeastFrom (IsOneOrTwo run A P) p i []
+alone run A P p i x at h = record { least = record { holds = (i, refl, (x, at, h)); first = λ others b. tt } }
+
+-- with an entry that is not bad alone, the others of the list are bad
+pub with_others : (run : List Log) (A : ℕ → ℕ → Entry → Type 0) (P : ℕ → ℕ → Entry → ℕ → ℕ → Entry → Type 0) (p i : ℕ) (x : Entry) → slice_get (log_of run p) i ≡ Some x → (A p i x → ⊥) → Starts (IsOneEvent (Has run (P p i x))) (IsOneOrTwo run A P) p i
+with_others run A P p i x at not_alone = record { to = known; from = bad }
+  where
+    known : (rest : List Place) → IsOneEvent (Has run (P p i x)) rest → IsOneOrTwo run A P (place p i ∷ rest)
+    known [] h = absurd h
+    known (f ∷ more) h = (i, refl, (x, at, h))
+
+    bad : (rest : List Place) → IsOneOrTwo run A P (place p i ∷ rest) → IsOneEvent (Has run (P p i x)) rest
+    bad [] (j, is, (y, at_j, h)) = absurd (not_alone (moved (log_of run p) i j x y (λ k z. A p k z) at is at_j h))
+    bad (f ∷ more) (j, is, (y, at_j, h)) = moved (log_of run p) i j x y (λ k z. IsOneEvent (Has run (P p k z)) (f ∷ more)) at is at_j h
+
+pub none_with : (run : List Log) (A : ℕ → ℕ → Entry → Type 0) (P : ℕ → ℕ → Entry → ℕ → ℕ → Entry → Type 0) (p i : ℕ) (x : Entry) → slice_get (log_of run p) i ≡ Some x → (A p i x → ⊥) → HoldsOfNone (IsOneEvent (Has run (P p i x)))
+    → NoneFrom (IsOneOrTwo run A P) p i
+none_with run A P p i x at not_alone never = record { none = λ rest h. never.none rest ((with_others run A P p i x at not_alone).from rest h) }
+
+-- a test of the entry says whether it is bad
+pub entry_told : (run : List Log) (P : ℕ → ℕ → Entry → Type 0) (p i : ℕ) (x : Entry) (b : Bool) → slice_get (log_of run p) i ≡ Some x → IsTrue b ↔ P p i x → IsTrue b ↔ Has run P p i
+entry_told run P p i x b at tells = (λ t. (x, at, tells.0 t), λ (y, at_y, h). tells.1 (let one : y ≡ x = cc in rw one at h))
