@@ -78,14 +78,6 @@ IsNoBeginning log i = (i ≡ 0) × (IsChange log i → ⊥)
 abbrev pub IsElsewhere : List Entry → ℕ → Type 0
 IsElsewhere log i = (x : ConfId) × Names log i x × (StandsIn log i x → ⊥)
 
--- ---- changes
-
--- a change to y may not be the next one after a change to x
-abbrev pub IsWrong : ConfId → List ℕ → ConfId → List ℕ → Type 0
-IsWrong x ms y ns = (IsRegular x × IsRegular y) ⊎ (IsTransitional x × IsTransitional y)
-    ⊎ (IsRegular x × IsTransitional y × (All (Contains ms) ns → ⊥)) ⊎ (IsTransitional x × IsRegular y × (All (Contains ns) ms → ⊥))
-    ⊎ ((next c : RingId) × (least : ℕ) × (x ≡ Transitional least next) × (y ≡ Regular c) × (c ≢ next))
-
 -- ---- at an index of a log
 
 -- no change is the last one
