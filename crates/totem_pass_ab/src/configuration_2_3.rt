@@ -3,7 +3,7 @@
 ghost use Rattle.std.specs.Prelude.{◌≡◌, ◌↔◌, ℕ, ◌<◌, List, IsTrue, IfOk, MatchOption};
 ghost use Rattle.totem_evs.specs.Answers.{Finds};
 ghost use Rattle.totem_table.specs.Changes.{AreChanges};
-ghost use Rattle.totem_search.specs.Bad.{IsForeignChange, AreTwoForms};
+ghost use Rattle.totem_search.specs.Bad.{AreTwoForms};
 ghost use Rattle.totem_table.specs.Registers.{KnowsRun};
 ghost use Rattle.totem_pass_ab.specs.Noted.{KnowsChange};
 
@@ -11,9 +11,7 @@ use crate::met::{Met, Same};
 use std::alloc::{AllocError, Global};
 use totem_evs::{Entry, Members, Run, SpecNo};
 use totem_names::{ConfId, Place, Proc};
-use totem_search::{
-    FoundPlaces, OneOrTwoTest, Standing, are_two_forms, is_foreign_change, least_pair,
-};
+use totem_search::{FoundPlaces, QuickTests, Standing, find_two_forms};
 use totem_table::{Change, ChangeRegister, Changes, enter_changes};
 
 impl Same for Members {
@@ -60,35 +58,22 @@ impl ChangeRegister for Forms {
     }
 }
 
-/// Looks for changes by processes that are not members, for two changes of one log to one configuration, and for two
-/// forms of a configuration.
+/// What is noted of the changes of a run.
 #[derive(Drop)]
-struct TwoForms<'r> {
+struct NotedForms<'r> {
     run: &'r Run,
     forms: Forms,
     ghost known: { ∥ KnowsRun (KnowsChange ⟦<Change as Ord>⟧.cmp ⟦<ConfId as Ord>⟧.cmp forms.changes.values forms.members.values) run.now.logs ∥₁ },
 }
 
-impl OneOrTwoTest for TwoForms<'_> {
+impl QuickTests for NotedForms<'_> {
     ghost of = { λ t. t.run.now.logs };
-
-    ghost alone = { λ t. IsForeignChange };
-
-    ghost pair = { λ t. AreTwoForms };
 
     fn run(&self) -> &Run {
         self.run
     }
 
-    fn is_alone(&self, first: &Standing) -> bool {
-        is_foreign_change(first)
-    }
-
-    fn is_pair(&self, first: &Standing, second: &Standing) -> bool {
-        are_two_forms(first, second)
-    }
-
-    fn may_pair(&self, first: &Standing) -> bool {
+    fn may_have_two_forms(&self, first: &Standing) -> bool {
         let Entry::Conf(conf, members) = first.entry else {
             return false;
         };
@@ -112,5 +97,5 @@ pub fn find(alloc: Global, run: &Run, changes: &Changes) -> FoundPlaces
         members: Met::new(alloc),
     };
     enter_changes(&mut forms, alloc, run, changes)?;
-    least_pair(&TwoForms { run, forms }, alloc)
+    find_two_forms(&NotedForms { run, forms }, alloc)
 }

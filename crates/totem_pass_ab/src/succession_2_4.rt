@@ -14,7 +14,7 @@ use std::alloc::{AllocError, Global};
 use std::collections::BTreeMap;
 use totem_evs::{Entry, Run, SpecNo};
 use totem_names::{ConfId, Proc, RingId};
-use totem_search::{FoundPlaces, Origins, find_turns, succession_at};
+use totem_search::{FoundPlaces, QuickTests, find_turns, succession_at};
 use totem_table::{ChangeRegister, Changes, enter_changes};
 
 /// What is noted of the logs that come to a configuration from regular ones: the ranks of their processes are at most `rank`, and at
@@ -81,7 +81,7 @@ struct NotedOrigins<'r> {
     ghost known: { ∥ KnowsRun (KnowsOrigin ⟦<ConfId as Ord>⟧.cmp origins.latest) run.now.logs ∥₁ },
 }
 
-impl Origins for NotedOrigins<'_> {
+impl QuickTests for NotedOrigins<'_> {
     ghost of = { λ s. s.run.now.logs };
 
     fn run(&self) -> &Run {

@@ -3,7 +3,7 @@
 ghost use Rattle.std.specs.Prelude.{◌≡◌, ◌↔◌, ℕ, ◌<◌, List, Contains, IsTrue, IfOk};
 ghost use Rattle.std.specs.Bool.{OnTrue};
 ghost use Rattle.totem_evs.specs.Answers.{Finds};
-ghost use Rattle.totem_search.specs.Bad.{IsSendBetween, AreTwice};
+ghost use Rattle.totem_search.specs.Bad.{AreTwice};
 ghost use Rattle.totem_table.specs.Registers.{KnowsRun};
 ghost use Rattle.totem_pass_ab.specs.Noted.{DeliverOnceBut, KnowsAct};
 
@@ -12,7 +12,7 @@ use std::alloc::{AllocError, Global};
 use totem_evs::{Entry, Run, SpecNo};
 use totem_judge_run::{deliveries_are_once, sends_are_once};
 use totem_names::{MsgId, Place, Proc};
-use totem_search::{FoundPlaces, OneOrTwoTest, Standing, are_twice, is_send_between, least_pair};
+use totem_search::{FoundPlaces, QuickTests, Standing, find_twice};
 use totem_table::{Register, enter_run};
 
 /// A message, and a process that delivers it.
@@ -76,35 +76,23 @@ impl Register for Repeats {
     }
 }
 
-/// Looks for sends in transitional configurations, and for what is sent or delivered twice.
+/// What is noted of the sends and deliveries of a run.
 #[derive(Drop)]
-struct Twice<'r> {
+struct NotedRepeats<'r> {
     run: &'r Run,
     repeats: Repeats,
     ghost known: { ∥ KnowsRun (KnowsAct ⟦<MsgId as Ord>⟧.cmp ⟦<Delivery as Ord>⟧.cmp repeats.sends.values repeats.deliveries.values repeats.doubtful.items) run.now.logs ∥₁ },
     ghost once: { ∥ DeliverOnceBut repeats.doubtful.items run.now.logs ∥₁ },
 }
 
-impl OneOrTwoTest for Twice<'_> {
+impl QuickTests for NotedRepeats<'_> {
     ghost of = { λ t. t.run.now.logs };
-
-    ghost alone = { λ t. IsSendBetween };
-
-    ghost pair = { λ t. AreTwice };
 
     fn run(&self) -> &Run {
         self.run
     }
 
-    fn is_alone(&self, first: &Standing) -> bool {
-        is_send_between(first)
-    }
-
-    fn is_pair(&self, first: &Standing, second: &Standing) -> bool {
-        are_twice(first, second)
-    }
-
-    fn may_pair(&self, first: &Standing) -> bool {
+    fn may_be_twice(&self, first: &Standing) -> bool {
         let proc = first.proc;
         let place = Place {
             proc,
@@ -152,5 +140,5 @@ pub fn find(alloc: Global, run: &Run) -> FoundPlaces
         doubtful,
     };
     enter_run(&mut repeats, alloc, run)?;
-    least_pair(&Twice { run, repeats }, alloc)
+    find_twice(&NotedRepeats { run, repeats }, alloc)
 }

@@ -13,7 +13,7 @@ use std::alloc::{AllocError, Global};
 use std::collections::{BTreeMap, BTreeSet};
 use totem_evs::{Entry, Run, SpecNo};
 use totem_names::{ConfId, MsgId, Proc, RingId};
-use totem_search::{FoundPlaces, Sendings, find_unsent, is_transitional, succession_at};
+use totem_search::{FoundPlaces, QuickTests, find_unsent, is_transitional, succession_at};
 use totem_table::{Change, ChangeRegister, Changes, Register, enter_changes, enter_run};
 
 /// A message, and the ring in whose regular configuration it is sent.
@@ -110,7 +110,7 @@ struct NotedSends<'r> {
 
 impl NotedSends<'_> {
     /// Returns `true` only if what this process delivers in `conf` was sent for it.
-    fn is_sent(&self, proc: Proc, message: MsgId, conf: &ConfId) -> bool
+    fn has_send(&self, proc: Proc, message: MsgId, conf: &ConfId) -> bool
         ensures { OnTrue result (WasSentTo self.now.run.now.logs (log_of self.now.run.now.logs proc) message conf.now) }
     {
         let sends = &self.sendings.sends;
@@ -134,16 +134,16 @@ impl NotedSends<'_> {
     }
 }
 
-impl Sendings for NotedSends<'_> {
+impl QuickTests for NotedSends<'_> {
     ghost of = { λ s. s.run.now.logs };
 
     fn run(&self) -> &Run {
         self.run
     }
 
-    fn is_fine(&self, proc: Proc, entry: &Entry) -> bool {
+    fn is_sent(&self, proc: Proc, entry: &Entry) -> bool {
         match entry {
-            Entry::Deliver(message, conf) => self.is_sent(proc, *message, conf),
+            Entry::Deliver(message, conf) => self.has_send(proc, *message, conf),
             _ => true,
         }
     }

@@ -1,14 +1,13 @@
 -- What the plain checker asks of logs, in words of its own where the definitions have none.
-use Rattle.std.specs.Prelude.{◌≡◌, ◌≢◌, ◌⊎◌, ℕ, ◌<◌, List, All, Contains, Option, Some, None}
+use Rattle.std.specs.Prelude.{◌≡◌, ℕ, ◌<◌, List, Contains, Option, Some, None}
 use Rattle.totem_names.specs.declared.ring.RingId.{RingId}
 use Rattle.totem_names.specs.declared.conf.ConfId.{ConfId}
-use Rattle.totem_names.specs.declared.conf.ConfId.TheVariants.{Regular, Transitional}
 use Rattle.totem_names.specs.declared.message.MsgId.{MsgId}
 use Rattle.totem_names.specs.declared.message.Service.TheVariants.{Safe}
 use Rattle.totem_evs.specs.declared.entry.Entry.{Entry}
 use Rattle.totem_evs.specs.declared.entry.Entry.TheVariants.{Conf, Send}
 use Rattle.totem_evs.specs.declared.log.Log.{Log}
-use Rattle.totem_evs.specs.Events.{ChangesTo, IsChange, Delivers, Fails, IsSafe, IsMember, log_of, ending_of, IsRegular, IsTransitional}
+use Rattle.totem_evs.specs.Events.{ChangesTo, IsChange, Delivers, Fails, IsSafe, IsMember, log_of, ending_of}
 use Rattle.totem_evs.specs.Changes.{Names, StandsIn}
 use Rattle.totem_evs.specs.Missing.{HasLog}
 use Rattle.totem_evs.specs.Following.{Com, DeliversIn, LastChange}

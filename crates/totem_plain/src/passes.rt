@@ -6,32 +6,31 @@ ghost use Rattle.totem_plain.specs.Gathered.{GivesRing, ring_of};
 
 use crate::gathered::{Gathered, all_given};
 use crate::{
-    atomicity_4, causality_5, configuration_2_3, ends_2_1, gap_6_3, installed_7_2, misplaced_2_2,
-    own_3, safety_7_1, succession_2_4, twice_1_4, unsent_1_3,
+    atomicity_4, causality_5, ends_2_1, gap_6_3, installed_7_2, misplaced_2_2, own_3, safety_7_1,
 };
 use std::alloc::{AllocError, Global};
 use totem_evs::{Entry, Fault, Run, SpecNo};
 use totem_names::{ConfId, Proc, RingId};
-use totem_search::{FoundPlaces, with_found};
+use totem_search::{FoundPlaces, find_turns, find_twice, find_two_forms, find_unsent, with_found};
 
 /// Pass A: 1.4, 2.1, 2.2, 2.3 and 2.4.
 pub fn pass_a(alloc: Global, run: &Run) -> Result<Vec<Fault>, AllocError>
     ensures { IfOk result (λ faults. Lists run.now.logs pass_a faults.items) }
 {
-    let twice = twice_1_4::find(alloc, run)?;
+    let twice = find_twice(run, alloc)?;
     let faults = with_found(Vec::new(alloc), SpecNo::Twice, twice)?;
     let faults = with_found(faults, SpecNo::End, ends_2_1::find(alloc, run)?)?;
     let faults = with_found(faults, SpecNo::Misplaced, misplaced_2_2::find(alloc, run)?)?;
-    let configuration = configuration_2_3::find(alloc, run)?;
+    let configuration = find_two_forms(run, alloc)?;
     let faults = with_found(faults, SpecNo::Configuration, configuration)?;
-    with_found(faults, SpecNo::Turns, succession_2_4::find(alloc, run)?)
+    with_found(faults, SpecNo::Turns, find_turns(run, alloc)?)
 }
 
 /// Pass B: 1.3.
 pub fn pass_b(alloc: Global, run: &Run) -> Result<Vec<Fault>, AllocError>
     ensures { IfOk result (λ faults. Lists run.now.logs pass_b faults.items) }
 {
-    let unsent = unsent_1_3::find(alloc, run)?;
+    let unsent = find_unsent(run, alloc)?;
     with_found(Vec::new(alloc), SpecNo::Unsent, unsent)
 }
 

@@ -1,5 +1,5 @@
 -- 1.3: what breaks it, and where nothing does.
-use Rattle.std.proofs.Common.{◌≡◌, ℕ, inl, inr, List, [], ◌∷◌, slice_get, Some, Bool, IsTrue, ◌↔◌, refl}
+use Rattle.std.proofs.Common.{◌≡◌, ℕ, inl, inr, List, slice_get, Some, Bool, IsTrue, ◌↔◌, refl}
 use Rattle.std.proofs.lemmas.Option.{slice_get_within}
 use Rattle.totem_names.specs.declared.conf.ConfId.{ConfId}
 use Rattle.totem_names.specs.declared.conf.ConfId.TheVariants.{Regular}
@@ -12,7 +12,7 @@ use Rattle.totem_evs.specs.Delivery.{DeliversWhatWasSent}
 use Rattle.totem_evs.specs.DeliveryFaults.{IsUnsent}
 use Rattle.totem_judge_run.specs.Sent.{WasSentTo, IsSendTo}
 use Rattle.totem_judge_run.proofs.SentOrNot.{sent_or_not}
-use Rattle.totem_search.specs.Search.{place, HoldsOfNone, IsOneEvent, AreEvents}
+use Rattle.totem_search.specs.Search.{HoldsOfNone, IsOneEvent, AreEvents}
 use Rattle.totem_search.specs.Entries.{SomeLog}
 use Rattle.totem_search.specs.Unsent.{IsUnsentDelivery}
 use Rattle.totem_search.proofs.Searching.{nowhere, told_at}

@@ -43,10 +43,7 @@ pub trait OneOrTwoTest {
     fn may_pair(&self, first: &Standing) -> bool
         requires few { first.now.at < 1000000 }
         requires here { slice_get (log_of (of self.now) first.now.proc) first.now.at ≡ Some first.now.entry.now }
-        ensures { OnFalse result (HoldsOfNone (IsOneEvent (Has (of self.now) (pair self.now first.now.proc first.now.at first.now.entry.now)))) }
-    {
-        true
-    }
+        ensures { OnFalse result (HoldsOfNone (IsOneEvent (Has (of self.now) (pair self.now first.now.proc first.now.at first.now.entry.now)))) };
 }
 
 /// Looks for entries that are bad together with this one.

@@ -1,14 +1,12 @@
 //! 2.4: regular and transitional configurations alternate (docs/SPECIFICATIONS.md, "2 Changes of configuration").
 ghost use Rattle.std.specs.Prelude.{◌≡◌, ◌↔◌, ℕ, ◌<◌, List, IsTrue, IfOk, MatchOption, length};
-ghost use Rattle.std.specs.Bool.{OnFalse};
-ghost use Rattle.totem_evs.specs.declared.log.Log.{Log};
 ghost use Rattle.totem_evs.specs.Events.{log_of, IsChange};
 ghost use Rattle.totem_evs.specs.ChangeFaults.{BeginsTransitional};
 ghost use Rattle.totem_evs.specs.Answers.{Finds};
-ghost use Rattle.totem_search.specs.Search.{HoldsOfNone};
 ghost use Rattle.totem_search.specs.Turns.{IsTurnFault, IsOtherOrigin, IsOfOtherRing};
 
 use crate::neighbours::{is_transitional, succession_at};
+use crate::quick::QuickTests;
 use crate::search::{FoundList, FoundPlaces, Relation, begin_at, least, least_places};
 use std::alloc::Global;
 use totem_evs::{Entry, Run, SpecNo};
@@ -77,32 +75,16 @@ impl Relation for OtherOrigins<'_, '_> {
     }
 }
 
-/// What is known of the rings from which logs come to configurations.
-pub trait Origins {
-    /// The logs of the run.
-    ghost of: { Self → List Log };
-
-    fn run(&self) -> &Run
-        ensures { result.now.logs ≡ of self.now };
-
-    /// Returns `false` only if no log above `proc` comes to `conf` from another ring: a quick test that can make a search unnecessary.
-    fn may_differ(&self, _proc: Proc, _ring: &RingId, _conf: &ConfId) -> bool
-        ensures { OnFalse result (HoldsOfNone (IsOtherOrigin (of self.now) _proc _ring.now _conf.now)) }
-    {
-        true
-    }
-}
-
 /// Looks for what breaks 2.4, with the places of neighbours in their order.
 #[derive(Clone, Copy)]
-struct Turns<'r, Q> {
-    origins: &'r Q,
+struct Turns<'q, Q> {
+    quick: &'q Q,
 }
 
-impl<Q: Origins> Relation for Turns<'_, Q> {
-    ghost of = { λ s. Q.of s.origins.now };
+impl<Q: QuickTests> Relation for Turns<'_, Q> {
+    ghost of = { λ s. Q.of s.quick.now };
 
-    ghost holds = { λ s. IsTurnFault (Q.of s.origins.now) };
+    ghost holds = { λ s. IsTurnFault (Q.of s.quick.now) };
 
     fn rest(&self, alloc: Global, proc: Proc, log: &[Entry], at: usize) -> FoundList {
         if begins_transitional(log, at) {
@@ -122,10 +104,10 @@ impl<Q: Origins> Relation for Turns<'_, Q> {
         let ConfId::Regular(ring) = succession.conf else {
             return Ok(None);
         };
-        if !self.origins.may_differ(proc, ring, succession.next) {
+        if !self.quick.may_differ(proc, ring, succession.next) {
             return Ok(None);
         }
-        let run = self.origins.run();
+        let run = self.quick.run();
         let others = OtherOrigins {
             run,
             proc,
@@ -140,8 +122,8 @@ impl<Q: Origins> Relation for Turns<'_, Q> {
 }
 
 /// Finds the least events that break 2.4.
-pub fn find_turns<Q: Origins>(origins: &Q, alloc: Global) -> FoundPlaces
-    ensures { IfOk result (Finds (Q.of origins.now) SpecNo.Turns) }
+pub fn find_turns<Q: QuickTests>(quick: &Q, alloc: Global) -> FoundPlaces
+    ensures { IfOk result (Finds (Q.of quick.now) SpecNo.Turns) }
 {
-    least_places(&Turns { origins }, alloc, origins.run())
+    least_places(&Turns { quick }, alloc, quick.run())
 }

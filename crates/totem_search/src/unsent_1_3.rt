@@ -1,8 +1,6 @@
 //! 1.3: a process delivers what was sent, in the configuration in which it was sent or in what follows it (docs/SPECIFICATIONS.md, "1 Basic
 //! delivery").
 ghost use Rattle.std.specs.Prelude.{◌≡◌, ◌↔◌, ◌<◌, List, IsTrue, IfOk, length};
-ghost use Rattle.std.specs.Bool.{OnTrue};
-ghost use Rattle.totem_evs.specs.declared.log.Log.{Log};
 ghost use Rattle.totem_evs.specs.Answers.{Finds};
 ghost use Rattle.totem_evs.specs.Events.{log_of};
 ghost use Rattle.totem_evs.specs.DeliveryFaults.{IsUnsent};
@@ -11,6 +9,7 @@ ghost use Rattle.totem_search.specs.Unsent.{IsUnsentDelivery};
 
 use crate::entries::{EntryTest, some_event};
 use crate::following::is_or_follows;
+use crate::quick::QuickTests;
 use crate::search::{FoundPlaces, Test, bad_places};
 use std::alloc::Global;
 use totem_evs::{Entry, Run, SpecNo};
@@ -54,46 +53,30 @@ fn is_unsent(run: &Run, log: &[Entry], entry: &Entry) -> bool
     }
 }
 
-/// What is known of the sends of a run.
-pub trait Sendings {
-    /// The logs of the run.
-    ghost of: { Self → List Log };
-
-    fn run(&self) -> &Run
-        ensures { result.now.logs ≡ of self.now };
-
-    /// Returns `true` only if the entry is no delivery by `proc` of what was not sent for it: a quick test that can make a search unnecessary.
-    fn is_fine(&self, _proc: Proc, _entry: &Entry) -> bool
-        ensures { OnTrue result (IsUnsentDelivery (of self.now) (log_of (of self.now) _proc) _entry.now → ⊥) }
-    {
-        false
-    }
-}
-
 /// The deliveries of what was not sent for them.
 #[derive(Clone, Copy)]
-struct Unsent<'r, Q> {
-    sendings: &'r Q,
+struct Unsent<'q, Q> {
+    quick: &'q Q,
 }
 
-impl<Q: Sendings> Test for Unsent<'_, Q> {
-    ghost of = { λ t. Q.of t.sendings.now };
+impl<Q: QuickTests> Test for Unsent<'_, Q> {
+    ghost of = { λ t. Q.of t.quick.now };
 
-    ghost bad = { λ t. IsUnsent (Q.of t.sendings.now) };
+    ghost bad = { λ t. IsUnsent (Q.of t.quick.now) };
 
     fn run(&self) -> &Run {
-        self.sendings.run()
+        self.quick.run()
     }
 
     fn is_bad(&self, proc: Proc, log: &[Entry], at: usize) -> bool {
         let entry = &log[at];
-        !self.sendings.is_fine(proc, entry) && is_unsent(self.sendings.run(), log, entry)
+        !self.quick.is_sent(proc, entry) && is_unsent(self.quick.run(), log, entry)
     }
 }
 
 /// Finds the least event that breaks 1.3.
-pub fn find_unsent<Q: Sendings>(sendings: &Q, alloc: Global) -> FoundPlaces
-    ensures { IfOk result (Finds (Q.of sendings.now) SpecNo.Unsent) }
+pub fn find_unsent<Q: QuickTests>(quick: &Q, alloc: Global) -> FoundPlaces
+    ensures { IfOk result (Finds (Q.of quick.now) SpecNo.Unsent) }
 {
-    bad_places(&Unsent { sendings }, alloc)
+    bad_places(&Unsent { quick }, alloc)
 }

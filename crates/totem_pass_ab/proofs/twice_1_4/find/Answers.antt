@@ -1,8 +1,5 @@
 use Rattle.std.proofs.Common.{◌∙◌, ap, rules}
 use Rattle.totem_evs.specs.RunRecord.{RunRecord}
-use Rattle.totem_evs.specs.declared.spec.SpecNo.TheVariants as spec
-use Rattle.totem_search.proofs.Searching.{finds}
-use Rattle.totem_search.proofs.Bad.{nothing_twice, twice_breaks, breaks_are_twice}
 use Rattle.totem_pass_ab.proofs.Repeating.{once_each}
 use Rattle.totem_pass_ab.proofs.twice_1_4.find.Goals as goal
 
@@ -10,6 +7,3 @@ pub returns-then-branch : goal.returns-then-branch
 returns-then-branch c =
     let runs = c.as_slice.ensures.value ∙ ap (λ (r : RunRecord). r.logs) c.run.view_is in
     once_each c.args.run.now.logs _ (search rules) (rw runs at (rw c.if-branch.true at c.in_ok-sends_are_once.ensures)) c.in_ok-doubtful.ensures
-
-pub returns : goal.returns
-returns c = finds c.args.run.now.logs c.least_pair.result _ spec.Twice (nothing_twice _) (twice_breaks _) (breaks_are_twice _) c.least_pair.ensures

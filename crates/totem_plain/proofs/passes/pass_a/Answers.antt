@@ -12,5 +12,5 @@ returns c =
     let three = lists_then run (spec.Twice ∷ spec.End ∷ []) spec.Misplaced _ _ _ c.in_ok-faults-3.ensures c.in_ok-find-2.ensures two in
     let four = lists_then run (spec.Twice ∷ spec.End ∷ spec.Misplaced ∷ []) spec.Configuration _ _ _ c.in_ok-faults-4.ensures c.in_ok-configuration.ensures three in
     IfOk-weaker c.with_found-5.result _ _
-    (λ list is. lists_then run (spec.Twice ∷ spec.End ∷ spec.Misplaced ∷ spec.Configuration ∷ []) spec.Turns _ list.items _ is c.in_ok-find-3.ensures four)
+    (λ list is. lists_then run (spec.Twice ∷ spec.End ∷ spec.Misplaced ∷ spec.Configuration ∷ []) spec.Turns _ list.items _ is c.in_ok-find_turns.ensures four)
     c.with_found-5.ensures

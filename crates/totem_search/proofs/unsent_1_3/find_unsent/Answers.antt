@@ -7,4 +7,4 @@ pub bad_places-requires : goal.bad_places-requires
 bad_places-requires g c = unsent_events _
 
 pub returns : goal.returns
-returns g c = finds (g.Q.Sendings.of c.args.sendings.now) c.bad_places.result _ spec.Unsent (all_sent _) (λ ps h. h) (λ ps h. h) c.bad_places.ensures
+returns g c = finds (g.Q.QuickTests.of c.args.quick.now) c.bad_places.result _ spec.Unsent (all_sent _) (λ ps h. h) (λ ps h. h) c.bad_places.ensures

@@ -1,6 +1,6 @@
 use Rattle.totem_pass_ab.proofs.Quick.{none_known, unless}
 use Rattle.totem_pass_ab.proofs.Repeating.{only_send, only_delivery, once_delivery}
-use Rattle.totem_pass_ab.proofs.twice_1_4.TwiceOneOrTwoTest.may_pair.Goals as goal
+use Rattle.totem_pass_ab.proofs.twice_1_4.NotedRepeatsQuickTests.may_be_twice.Goals as goal
 
 pub returns-in-Send : goal.returns-in-Send
 returns-in-Send c =

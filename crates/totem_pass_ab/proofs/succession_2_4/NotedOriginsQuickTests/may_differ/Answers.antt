@@ -2,7 +2,7 @@ use Rattle.std.proofs.Common.{arith, refl}
 use Rattle.std.proofs.lemmas.Grind.{common_steps}
 use Rattle.totem_pass_ab.proofs.Quick.{none_known}
 use Rattle.totem_pass_ab.proofs.Origins.{nothing_noted, none_above}
-use Rattle.totem_pass_ab.proofs.succession_2_4.NotedOriginsOrigins.may_differ.Goals as goal
+use Rattle.totem_pass_ab.proofs.succession_2_4.NotedOriginsQuickTests.may_differ.Goals as goal
 
 pub returns-in-None : goal.returns-in-None
 returns-in-None c = none_known _ c.args.self.now.known (nothing_noted _ c.args.self.now.run.now.logs c.args.self.now.origins.latest _ _ _ c.in-None.ensures.value)

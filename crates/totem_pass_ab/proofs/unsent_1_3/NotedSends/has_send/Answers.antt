@@ -1,5 +1,5 @@
 use Rattle.totem_pass_ab.proofs.Sent.{sent_in, sent_regular, sent_before}
-use Rattle.totem_pass_ab.proofs.unsent_1_3.NotedSends.is_sent.Goals as goal
+use Rattle.totem_pass_ab.proofs.unsent_1_3.NotedSends.has_send.Goals as goal
 
 pub returns-in-Regular : goal.returns-in-Regular
 returns-in-Regular c = rw c.in-Regular.is (sent_regular _ _ _ _ c.contains.result (sent_in _ c.args.self.now.sendings.sends _ _ _ c.contains.result c.contains.ensures c.args.self.now.sent))

@@ -1,7 +1,7 @@
 use Rattle.std.proofs.Common.{refl}
 use Rattle.totem_pass_ab.proofs.Quick.{none_known, unless}
 use Rattle.totem_pass_ab.proofs.Forming.{only_form}
-use Rattle.totem_pass_ab.proofs.configuration_2_3.TwoFormsOneOrTwoTest.may_pair.Goals as goal
+use Rattle.totem_pass_ab.proofs.configuration_2_3.NotedFormsQuickTests.may_have_two_forms.Goals as goal
 
 pub returns-else-not-is_only : goal.returns-else-not-is_only
 returns-else-not-is_only c =

@@ -1,7 +1,0 @@
-use Rattle.totem_evs.specs.declared.spec.SpecNo.TheVariants as spec
-use Rattle.totem_search.proofs.Searching.{finds}
-use Rattle.totem_search.proofs.Bad.{nothing_twice, twice_breaks, breaks_are_twice}
-use Rattle.totem_plain.proofs.twice_1_4.find.Goals as goal
-
-pub returns : goal.returns
-returns c = finds c.args.run.now.logs c.least_pair.result _ spec.Twice (nothing_twice _) (twice_breaks _) (breaks_are_twice _) c.least_pair.ensures
