@@ -110,12 +110,7 @@ pub trait MemberTest {
 pub fn some_of<T: MemberTest>(test: &T, members: &[Proc]) -> bool
     ensures { IsTrue result ↔ SomeOf (T.holds test.now) members.now }
 {
-    for member in members {
-        if test.test(*member) {
-            return true;
-        }
-    }
-    false
+    members.iter().any(|member| test.test(*member))
 }
 
 /// The changes to a configuration that list a process that passes the test.

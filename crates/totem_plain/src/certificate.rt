@@ -48,13 +48,7 @@ fn rises(numbers: &[u32]) -> bool
 pub fn all_rise(lines: &[Line]) -> bool
     ensures { MatchBool result (LinesRise lines.now (length lines.now)) (LineFalls lines.now) }
 {
-    for at in 0..lines.len() {
-        let line = &lines[at];
-        if !rises(line.numbers.as_slice()) {
-            return false;
-        }
-    }
-    true
+    lines.iter().all(|line| rises(line.numbers.as_slice()))
 }
 
 fn are_send_and_delivery(first: &Entry, second: &Entry) -> bool

@@ -148,12 +148,7 @@ pub fn delivered_by(log: &[Entry], end: usize, message: &MsgId, conf: &ConfId) -
 pub fn never_fails(log: &[Entry]) -> bool
     ensures { IsTrue result ↔ NeverFails log.now }
 {
-    for entry in log {
-        if entry.is_failure() {
-            return false;
-        }
-    }
-    true
+    !log.iter().any(|entry| entry.is_failure())
 }
 
 pub fn is_failure(log: &[Entry], at: usize) -> bool

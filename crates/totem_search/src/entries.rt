@@ -17,12 +17,7 @@ pub trait EntryTest {
 pub fn some_entry<T: EntryTest>(test: &T, log: &[Entry]) -> bool
     ensures { IsTrue result ↔ HasOne (T.holds test.now) log.now }
 {
-    for entry in log {
-        if test.test(entry) {
-            return true;
-        }
-    }
-    false
+    log.iter().any(|entry| test.test(entry))
 }
 
 /// Returns whether an entry of the run passes the test.
