@@ -13,7 +13,7 @@ REPOSITORY = os.path.dirname(os.path.dirname(os.path.abspath(__file__)))
 TEXTS = ("totem_names", "totem_evs", "totem_certificate", "totem_outcome")
 CHECKERS = (
     ("check", (*TEXTS, "totem_judge_run", "totem_judge_traffic", "totem_judge_certificate", "totem_judge", "totem_check")),
-    ("check_plainly", (*TEXTS, "totem_plain")),
+    ("check_plainly", (*TEXTS, "totem_search", "totem_plain")),
 )
 # What begins a contract or a ghost item. It ends where its braces do, or with its line if it has none.
 CONTRACT = re.compile(r"(requires|ensures|returns|(pub )?ghost)\b")
