@@ -1,14 +1,18 @@
 //! What a run put to the test (docs/SPECIFICATIONS.md, "Counts"): its shape, how often the premise of each specification was met, and how
 //! often an excuse kept that from being a fault.
-use crate::moves::{Move, Moves, Site, is_regular, merges, partitions};
+ghost use Rattle.std.specs.Prelude.{IfOk};
+ghost use Rattle.totem_explain.specs.Sizes.{IsSizeOf, all_entries};
+
+use crate::lookup::last_change;
+use crate::sites::{Site, Sites, is_regular, logs_of};
 use crate::size::Size;
-use crate::traffic::{Sent, Traffic, logs_of};
+use crate::survey::Survey;
+use crate::traffic::{Sent, Traffic};
 use std::alloc::{AllocError, Global};
-use totem_evs::{Ending, Entry, Log, Run};
-use totem_names::Proc;
+use totem_evs::{Ending, Log, Run};
 
 /// How often something happened in a run.
-#[derive(Clone, Copy)]
+#[derive(Clone, Copy, Default)]
 pub struct Counts {
     pub size: Size,
     pub regular: u32,
@@ -51,83 +55,59 @@ pub struct Counts {
 }
 
 impl Counts {
-    fn begin(size: Size) -> Counts {
-        Counts {
-            size,
-            regular: 0,
-            shared: 0,
-            partitions: 0,
-            merges: 0,
-            returned: 0,
-            safe_delivered: 0,
-            received: 0,
-            quiet: 0,
-            awaited: 0,
-            twins: 0,
-            moves: 0,
-            own: 0,
-            own_failed: 0,
-            own_open: 0,
-            agreed: 0,
-            pairs: 0,
-            larger: 0,
-            effects: 0,
-            effects_sent: 0,
-            common: 0,
-            past: 0,
-            past_no_member: 0,
-            obliged: 0,
-            obliged_failed: 0,
-            obliged_open: 0,
-            installed: 0,
-        }
-    }
-
     /// Counts what a run put to the test.
-    pub fn of(alloc: Global, run: &Run) -> Result<Counts, AllocError> {
-        let mut counts = Counts::begin(Size::of(run));
-        let mut moves = Moves::of(alloc, run)?;
-        counts.add_sites(&moves.sites);
-        counts.moves = u32::try_from(moves.list.len()).unwrap_or(u32::MAX);
-        counts.partitions = partitions(alloc, &moves.list)?;
-        counts.merges = merges(alloc, &moves.list)?;
-        let mut traffic = Traffic::of(alloc, run, &mut moves)?;
-        counts.add_logs(run, &moves, &traffic);
-        counts.add_sent(&traffic.sent, &moves.sites);
-        counts.installed = traffic.regular_safe;
-        counts.past = traffic.past;
-        counts.add_groups(run, &moves.list, &mut traffic);
-        Ok(counts)
+    pub fn of(alloc: Global, run: &Run) -> Result<Counts, AllocError>
+        ensures { IfOk result (λ counts. IsSizeOf (all_entries run.now.logs) counts.size) }
+    {
+        let Survey {
+            size,
+            mut sites,
+            messages,
+        } = Survey::of(alloc, run)?;
+        let traffic = Traffic::of(alloc, run, &mut sites, &messages)?;
+        let mut counts = Counts {
+            moves: sites.moves(),
+            agreed: traffic.agreed,
+            pairs: traffic.pairs,
+            larger: traffic.larger,
+            past: traffic.past,
+            past_no_member: traffic.lacking,
+            ..Counts::default()
+        };
+        counts.add_sites(&sites);
+        counts.add_logs(run, &sites, &traffic);
+        for one in &traffic.sent {
+            counts.add_message(one);
+            if let Some(site) = sites.list.get(one.site as usize) {
+                counts.add_excuses(one, site);
+            }
+        }
+        Ok(Counts { size, ..counts })
     }
 
-    fn add_sites(&mut self, sites: &[Site]) {
-        for site in sites {
+    fn add_sites(&mut self, sites: &Sites) {
+        for site in &sites.list {
             let is_shared = u32::from(site.logs.count_ones() >= 2);
             self.twins = self.twins.saturating_add(is_shared);
             if is_regular(&site.conf) {
                 self.regular = self.regular.saturating_add(1);
                 self.shared = self.shared.saturating_add(is_shared);
+                self.partitions = self
+                    .partitions
+                    .saturating_add(u32::from(site.is_partition()));
+                self.merges = self.merges.saturating_add(u32::from(site.is_merge()));
             }
         }
     }
 
-    fn add_logs(&mut self, run: &Run, moves: &Moves, traffic: &Traffic) {
+    fn add_logs(&mut self, run: &Run, sites: &Sites, traffic: &Traffic) {
         for log in run.logs.as_slice() {
             let is_returned = log.proc.life() > 1;
             self.returned = self.returned.saturating_add(u32::from(is_returned));
             if log.ending == Ending::Quiet {
-                let awaited = awaited_by(run, log, moves, traffic);
+                let awaited = missing_at(run, log, sites) & !traffic.failed;
                 self.quiet = self.quiet.saturating_add(1);
                 self.awaited = self.awaited.saturating_add(awaited.count_ones());
-            }
-        }
-    }
-
-    fn add_sent(&mut self, sent: &[Sent], sites: &[Site]) {
-        for one in sent {
-            self.add_message(one);
-            if let Some(site) = sites.get(one.site) {
-                self.add_excuses(one, site);
             }
         }
     }
@@ -139,21 +119,25 @@ impl Counts {
         self.received = self.received.saturating_add(others);
         self.own = self.own.saturating_add(u32::from(is_own));
         self.common = self.common.saturating_add(u32::from(count >= 2));
-        if one.is_safe && count > 0 {
-            self.safe_delivered = self.safe_delivered.saturating_add(1);
+        if one.is_safe {
+            self.safe_delivered = self.safe_delivered.saturating_add(u32::from(count > 0));
+            self.installed = self.installed.saturating_add(one.regular.count_ones());
+            self.obliged = self.obliged.saturating_add(one.obliged.count_ones());
         }
         if one.is_later {
             self.effects = self.effects.saturating_add(count);
             self.effects_sent = self.effects_sent.saturating_add(1);
         }
-        self.past_no_member = self.past_no_member.saturating_add(one.past.count_ones());
-        self.obliged = self.obliged.saturating_add(one.obliged.count_ones());
     }
 
     /// Adds the processes that need not deliver a message, since they ended where they could have done so.
     fn add_excuses(&mut self, one: &Sent, site: &Site) {
         let own = one.sender & !one.delivered;
-        let lacking = one.obliged & !one.delivered;
+        let lacking = if one.is_safe {
+            one.obliged & !one.delivered
+        } else {
+            0
+        };
         let own_failed = (own & site.failed).count_ones();
         let own_open = (own & site.open).count_ones();
         let failed = (lacking & site.failed).count_ones();
@@ -163,59 +147,20 @@ impl Counts {
         self.obliged_failed = self.obliged_failed.saturating_add(failed);
         self.obliged_open = self.obliged_open.saturating_add(open);
     }
-
-    /// Adds the groups of processes that went on together from one configuration to the next.
-    fn add_groups(&mut self, run: &Run, moves: &[Move], traffic: &mut Traffic) {
-        let mut from = 0;
-        for to in 1..=moves.len() {
-            if !are_together(moves, to) {
-                self.add_group(run, moves.get(from..to).unwrap_or(&[]), traffic);
-                from = to;
-            }
-        }
-    }
-
-    fn add_group(&mut self, run: &Run, group: &[Move], traffic: &mut Traffic) {
-        match group.len() {
-            0 | 1 => return,
-            2 => self.pairs = self.pairs.saturating_add(1),
-            _ => self.larger = self.larger.saturating_add(1),
-        }
-        let number = self.pairs.saturating_add(self.larger);
-        for one in group {
-            let count = traffic.count_for(number, entries_between(run, one));
-            self.agreed = self.agreed.saturating_add(count);
-        }
-    }
 }
 
-/// Returns whether the move at this index is between the same configurations as the one before it.
-fn are_together(moves: &[Move], at: usize) -> bool {
-    match (moves.get(at.saturating_sub(1)), moves.get(at)) {
-        (Some(one), Some(next)) => one.way == next.way,
-        _ => false,
-    }
-}
-
-/// Returns the entries between two neighbouring changes of a log.
-fn entries_between<'r>(run: &'r Run, one: &Move) -> &'r [Entry] {
-    match run.logs.as_slice().get(one.log) {
-        Some(log) => log.entries.as_slice().get(one.at..one.next).unwrap_or(&[]),
-        None => &[],
-    }
-}
-
-/// Returns the members that may still come to the configuration in which a quiet log ends.
-fn awaited_by(run: &Run, log: &Log, moves: &Moves, traffic: &Traffic) -> u32 {
-    let mut last: Option<(usize, &[Proc])> = None;
-    for entry in log.entries.as_slice() {
-        if let Entry::Conf(conf, members) = entry {
-            last = Some((moves.site(conf), members.as_slice()));
-        }
-    }
-    let Some((site, members)) = last else {
+/// Returns the members that have not come to the configuration in which a log ends, and are not quiet.
+fn missing_at(run: &Run, log: &Log, sites: &Sites) -> u32 {
+    let Some((conf, members)) = last_change(log) else {
         return 0;
     };
-    let came = moves.sites.get(site).map_or(0, |site| site.logs);
-    logs_of(run, members) & !traffic.failed & !traffic.quiet & !came
+    let mut missing = logs_of(run, members) & !sites.logs_at(&conf);
+    let mut bit = 1u32;
+    for log in run.logs.as_slice() {
+        if log.ending == Ending::Quiet {
+            missing &= !bit;
+        }
+        bit <<= 1;
+    }
+    missing
 }

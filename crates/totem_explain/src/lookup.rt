@@ -88,6 +88,16 @@ pub fn change_before<'r>(log: &'r Log, at: u32) -> Option<(ConfId, &'r [Proc])> 
     last
 }
 
+/// Returns the last change of a log, with its members.
+pub fn last_change<'r>(log: &'r Log) -> Option<(ConfId, &'r [Proc])> {
+    for entry in log.entries.as_slice().iter().rev() {
+        if let Entry::Conf(to, members) = entry {
+            return Some((*to, members.as_slice()));
+        }
+    }
+    None
+}
+
 /// Returns the first change of a log after entry `at`, and its place.
 pub fn change_behind(log: &Log, at: u32) -> Option<(Place, ConfId)> {
     for (index, entry) in log.entries.as_slice().iter().enumerate() {

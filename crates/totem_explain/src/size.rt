@@ -1,13 +1,13 @@
 //! The size of a run: its entries by kind.
-ghost use Rattle.std.specs.Prelude.{[], ◌∷◌, ◌≤◌, length};
-ghost use Rattle.totem_explain.specs.Sizes.{AddUp, IsSizeOf, IsWithin, all_entries};
+ghost use Rattle.std.specs.Prelude.{[], ◌∷◌};
+ghost use Rattle.totem_explain.specs.Sizes.{AddUp, IsSizeOf, IsWithin};
 
 use std::alloc::{AllocError, Global};
-use totem_evs::{Entry, Log, Run};
+use totem_evs::{Entry, Run};
 use totem_names::{ConfId, Service};
 
 /// How many entries of each kind a run has.
-#[derive(Clone, Copy)]
+#[derive(Clone, Copy, Default)]
 pub struct Size {
     pub changes: u32,
     pub sends: u32,
@@ -18,7 +18,7 @@ pub struct Size {
 }
 
 impl Size {
-    fn none() -> Size
+    pub fn none() -> Size
         ensures { IsSizeOf [] result }
     {
         Size {
@@ -31,7 +31,8 @@ impl Size {
         }
     }
 
-    fn add(&mut self, entry: &Entry)
+    /// Counts an entry.
+    pub fn add(&mut self, entry: &Entry)
         requires { IsWithin self.old 32000000 }
         ensures { AddUp self.old (entry.now ∷ []) self.new [] }
     {
@@ -49,37 +50,6 @@ impl Size {
             }
             Entry::Fail(_) => self.failures += 1,
         }
-    }
-
-    #[tactic(auto, using(crate::proofs::Sizing::added, crate::proofs::Sizing::grown))]
-    fn add_log(&mut self, entries: &[Entry])
-        requires few { length entries.now ≤ 1000000 }
-        requires room { IsWithin self.old 31000000 }
-        ensures { AddUp self.old entries.now self.new [] }
-    {
-        for entry in entries {
-            self.add(entry);
-        }
-    }
-
-    fn add_logs(&mut self, logs: &[Log])
-        requires few { length logs.now ≤ 32 }
-        requires none { IsWithin self.old 0 }
-        ensures { AddUp self.old (all_entries logs.now) self.new [] }
-    {
-        for log in logs {
-            self.add_log(log.entries.as_slice());
-        }
-    }
-
-    /// Counts the entries of a run.
-    #[tactic(auto, using(crate::proofs::Sizing::sized))]
-    pub fn of(run: &Run) -> Size
-        ensures { IsSizeOf (all_entries run.now.logs) result }
-    {
-        let mut size = Size::none();
-        size.add_logs(run.logs.as_slice());
-        size
     }
 
     /// Returns how many entries send or deliver a message.

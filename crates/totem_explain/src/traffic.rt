@@ -1,247 +1,220 @@
-//! The messages of a run, each with the logs that deliver it. Sets of logs are bits: bit i stands for the log at index i.
-use crate::moves::{Moves, is_regular};
+//! The messages of a run, each with the logs that deliver it. Sets of logs are bits, as in `sites`.
+use crate::messages::Messages;
+use crate::sites::{Sites, Stay, is_regular};
 use std::alloc::{AllocError, Global};
 use totem_evs::{Ending, Entry, Log, Run};
-use totem_names::{MsgId, Proc, Service};
+use totem_names::Service;
 
 /// A message that was sent.
 #[derive(Clone, Copy)]
 pub struct Sent {
-    pub message: MsgId,
     pub is_safe: bool,
     /// Whether its sender had sent or delivered a message in the same configuration before.
     pub is_later: bool,
     /// The index of the configuration's site.
-    pub site: usize,
+    pub site: u32,
     pub sender: u32,
     /// The logs that deliver it.
     pub delivered: u32,
-    /// Of a safe message: the members that the delivery of another process obliges to deliver it.
+    /// The logs that deliver it in a regular configuration.
+    pub regular: u32,
+    /// The members that the delivery of another process obliges to deliver it, if it is safe.
     pub obliged: u32,
-    /// The logs that deliver it and lack a message that a log delivers before it.
-    pub past: u32,
-    /// The last group of processes that counted it.
-    pub group: u32,
+}
+
+impl Sent {
+    fn none() -> Sent {
+        Sent {
+            is_safe: false,
+            is_later: false,
+            site: 0,
+            sender: 0,
+            delivered: 0,
+            regular: 0,
+            obliged: 0,
+        }
+    }
+
+    fn send(&mut self, stay: &Stay, is_later: bool, service: Service) {
+        self.is_safe |= service == Service::Safe;
+        if self.sender == 0 {
+            self.sender = stay.log;
+            self.site = stay.site;
+            self.is_later = is_later;
+        }
+    }
+
+    /// Notes a delivery. Returns whether it is the first one in a group of processes that go on together.
+    fn deliver(&mut self, stay: &Stay) -> bool {
+        let there = if stay.is_regular {
+            self.regular
+        } else {
+            self.delivered & !self.regular
+        };
+        if stay.is_regular {
+            self.regular |= stay.log;
+        }
+        self.delivered |= stay.log;
+        self.obliged |= stay.members & !stay.log;
+        stay.group != 0 && there & stay.group == 0
+    }
+
+    /// Returns the logs that change to the configuration in which it was sent, and don't deliver it though another one does.
+    fn lacking(&self, sites: &Sites) -> u32 {
+        match sites.list.get(self.site as usize) {
+            Some(site) if self.delivered != 0 => site.logs & !self.delivered,
+            _ => 0,
+        }
+    }
 }
 
 /// The messages of a run.
 #[derive(Drop)]
 pub struct Traffic {
-    /// In ascending order of messages.
     pub sent: Vec<Sent>,
     /// The logs that have a failure.
     pub failed: u32,
-    /// The logs that are quiet.
-    pub quiet: u32,
-    /// How many deliveries of safe messages are in regular configurations.
-    pub regular_safe: u32,
+    /// The groups of two processes that go on together from one configuration to the next, and the larger ones.
+    pub pairs: u32,
+    pub larger: u32,
+    /// The messages that such groups deliver in the configuration before.
+    pub agreed: u32,
     /// How many deliveries are past a message that another process lacks.
     pub past: u32,
+    /// How many deliveries are by a process that lacks a message that another delivers before.
+    pub lacking: u32,
 }
 
 impl Traffic {
     /// Gathers the messages of a run.
-    pub fn of(alloc: Global, run: &Run, moves: &mut Moves) -> Result<Traffic, AllocError> {
+    pub fn of(
+        alloc: Global,
+        run: &Run,
+        sites: &mut Sites,
+        names: &Messages,
+    ) -> Result<Traffic, AllocError> {
         let mut traffic = Traffic {
-            sent: Vec::new(alloc),
+            sent: vec![in alloc; Sent::none(); names.len()]?,
             failed: 0,
-            quiet: 0,
-            regular_safe: 0,
+            pairs: 0,
+            larger: 0,
+            agreed: 0,
             past: 0,
+            lacking: 0,
         };
         let mut bit = 1u32;
+        let mut changes = 0;
         for log in run.logs.as_slice() {
-            traffic.add_sends(bit, log, moves)?;
+            changes = traffic.add_log(bit, log, sites, names, changes);
             bit <<= 1;
         }
-        traffic.sent.sort_by_key(|one| one.message)?;
-        join_sends(&mut traffic.sent);
-        traffic.add_deliveries(run);
-        traffic.find_gaps(run, moves);
+        if traffic.sent.iter().any(|one| one.lacking(sites) != 0) {
+            traffic.find_gaps(alloc, run, sites, names)?;
+        }
         Ok(traffic)
     }
 
-    /// Adds the messages that a log sends, and notes how it ends.
-    fn add_sends(&mut self, bit: u32, log: &Log, moves: &mut Moves) -> Result<(), AllocError> {
-        let mut site = 0;
+    /// Adds what a log does, and notes how it ends. Returns how many changes this log and those before it have.
+    fn add_log(
+        &mut self,
+        bit: u32,
+        log: &Log,
+        sites: &mut Sites,
+        names: &Messages,
+        before: usize,
+    ) -> usize {
+        let mut stay = Stay::before(bit);
         let mut is_later = false;
+        let mut changes = before;
+        let mut near = 0;
         for entry in log.entries.as_slice() {
             match entry {
-                Entry::Conf(conf, _) if is_regular(conf) => {
-                    site = moves.site(conf);
-                    is_later = false;
+                Entry::Conf(_, _) => {
+                    stay = sites.stay(changes, &stay);
+                    is_later &= !stay.is_regular;
+                    self.add_group(&stay);
+                    changes = changes.saturating_add(1);
                 }
                 Entry::Send(message, _, service) => {
-                    self.sent.push(Sent {
-                        message: *message,
-                        is_safe: *service == Service::Safe,
-                        is_later,
-                        site,
-                        sender: bit,
-                        delivered: 0,
-                        obliged: 0,
-                        past: 0,
-                        group: 0,
-                    })?;
+                    let index = names.find(message, &mut near);
+                    if let Some(one) = index.and_then(|index| self.sent.get_mut(index)) {
+                        one.send(&stay, is_later, *service);
+                    }
                     is_later = true;
                 }
-                Entry::Deliver(_, conf) if is_regular(conf) => is_later = true,
+                Entry::Deliver(message, _) => {
+                    let index = names.find(message, &mut near);
+                    if let Some(one) = index.and_then(|index| self.sent.get_mut(index)) {
+                        let is_first = one.deliver(&stay);
+                        self.agreed = self.agreed.saturating_add(u32::from(is_first));
+                    }
+                    is_later |= stay.is_regular;
+                }
                 Entry::Fail(_) => self.failed |= bit,
-                _ => {}
             }
         }
-        if log.ending == Ending::Quiet {
-            self.quiet |= bit;
+        sites.end(&stay, log.ending);
+        changes
+    }
+
+    /// Counts the group of a stay, at its first log.
+    fn add_group(&mut self, stay: &Stay) {
+        if !stay.is_first() {
+            return;
         }
-        if let Some(site) = moves.sites.get_mut(site) {
-            match log.ending {
-                Ending::Failed => site.failed |= bit,
-                Ending::Standing => site.open |= bit,
-                Ending::Quiet => {}
-            }
+        if stay.group.count_ones() == 2 {
+            self.pairs = self.pairs.saturating_add(1);
+        } else {
+            self.larger = self.larger.saturating_add(1);
+        }
+    }
+
+    /// Finds the deliveries past a message that another process lacks.
+    fn find_gaps(
+        &mut self,
+        alloc: Global,
+        run: &Run,
+        sites: &Sites,
+        names: &Messages,
+    ) -> Result<(), AllocError> {
+        // For each message, the logs that deliver it and lack one that a log delivers before it.
+        let mut lacking = vec![in alloc; 0u32; self.sent.len()]?;
+        for log in run.logs.as_slice() {
+            self.find_gaps_of(log.entries.as_slice(), sites, names, &mut lacking);
+        }
+        for logs in &lacking {
+            self.lacking = self.lacking.saturating_add(logs.count_ones());
         }
         Ok(())
     }
 
-    fn add_deliveries(&mut self, run: &Run) {
-        let mut bit = 1u32;
-        for log in run.logs.as_slice() {
-            self.add_deliveries_of(run, bit, log.entries.as_slice());
-            bit <<= 1;
-        }
-    }
-
-    /// Notes which messages a log delivers, and whom its deliveries of safe messages oblige.
-    fn add_deliveries_of(&mut self, run: &Run, bit: u32, entries: &[Entry]) {
-        let mut members: &[Proc] = &[];
-        let mut known = None;
-        let mut found = 0;
+    fn find_gaps_of(
+        &mut self,
+        entries: &[Entry],
+        sites: &Sites,
+        names: &Messages,
+        lacking: &mut Vec<u32>,
+    ) {
+        let mut lacked = 0u32;
+        let mut near = 0;
         for entry in entries {
             match entry {
-                Entry::Conf(_, all) => {
-                    members = all.as_slice();
-                    known = None;
-                }
-                Entry::Deliver(message, conf) => {
-                    found = index_near(&self.sent, message, found);
-                    let Some(one) = found_at(&mut self.sent, message, found) else {
+                Entry::Conf(conf, _) if is_regular(conf) => lacked = 0,
+                Entry::Deliver(message, _) => {
+                    let Some(index) = names.find(message, &mut near) else {
                         continue;
                     };
-                    one.delivered |= bit;
-                    if one.is_safe {
-                        let all = known.unwrap_or_else(|| logs_of(run, members));
-                        known = Some(all);
-                        one.obliged |= all & !bit;
-                        let is_regular = is_regular(conf);
-                        self.regular_safe = self.regular_safe.saturating_add(u32::from(is_regular));
+                    if let (Some(one), Some(logs)) = (
+                        self.sent.get(index),
+                        lacking.get_mut(index),
+                    ) {
+                        *logs |= one.delivered & lacked;
+                        self.past = self.past.saturating_add(u32::from(lacked != 0));
+                        lacked |= one.lacking(sites);
                     }
                 }
                 _ => {}
             }
         }
     }
-
-    /// Finds the deliveries past a message that another process lacks.
-    fn find_gaps(&mut self, run: &Run, moves: &Moves) {
-        if self.sent.iter().all(|one| lacking(one, moves) == 0) {
-            return;
-        }
-        for log in run.logs.as_slice() {
-            self.find_gaps_of(log.entries.as_slice(), moves);
-        }
-    }
-
-    fn find_gaps_of(&mut self, entries: &[Entry], moves: &Moves) {
-        let mut lacked = 0u32;
-        let mut found = 0;
-        for entry in entries {
-            match entry {
-                Entry::Conf(conf, _) if is_regular(conf) => lacked = 0,
-                Entry::Deliver(message, _) => {
-                    found = index_near(&self.sent, message, found);
-                    let Some(one) = found_at(&mut self.sent, message, found) else {
-                        continue;
-                    };
-                    one.past |= one.delivered & lacked;
-                    self.past = self.past.saturating_add(u32::from(lacked != 0));
-                    lacked |= lacking(one, moves);
-                }
-                _ => {}
-            }
-        }
-    }
-
-    /// Counts the messages that these entries deliver and that this group has not counted yet.
-    pub fn count_for(&mut self, group: u32, entries: &[Entry]) -> u32 {
-        let mut count = 0u32;
-        let mut found = 0;
-        for entry in entries {
-            if let Entry::Deliver(message, _) = entry {
-                found = index_near(&self.sent, message, found);
-                if let Some(one) = found_at(&mut self.sent, message, found)
-                    && one.group != group
-                {
-                    one.group = group;
-                    count = count.saturating_add(1);
-                }
-            }
-        }
-        count
-    }
-}
-
-/// Joins the sends of one message.
-fn join_sends(sent: &mut Vec<Sent>) {
-    sent.dedup_by(|next, kept| {
-        let is_same = next.message == kept.message;
-        if is_same {
-            kept.is_safe |= next.is_safe;
-        }
-        is_same
-    });
-}
-
-/// Returns the logs that change to the configuration in which a message was sent, and don't deliver it though another one does.
-fn lacking(one: &Sent, moves: &Moves) -> u32 {
-    match moves.sites.get(one.site) {
-        Some(site) if one.delivered != 0 => site.logs & !one.delivered,
-        _ => 0,
-    }
-}
-
-/// Returns the logs of these processes.
-pub fn logs_of(run: &Run, procs: &[Proc]) -> u32 {
-    let mut all = 0u32;
-    let mut bit = 1u32;
-    for log in run.logs.as_slice() {
-        if procs.contains(&log.proc) {
-            all |= bit;
-        }
-        bit <<= 1;
-    }
-    all
-}
-
-fn is_at(sent: &[Sent], message: &MsgId, at: usize) -> bool {
-    sent.get(at).is_some_and(|one| one.message == *message)
-}
-
-/// Returns where a message is in the ascending list, or would be. In most logs that is behind the one found before it.
-fn index_near(sent: &[Sent], message: &MsgId, before: usize) -> usize {
-    let next = before.saturating_add(1);
-    if is_at(sent, message, next) {
-        return next;
-    }
-    if is_at(sent, message, before) {
-        return before;
-    }
-    sent.partition_point(|one| one.message.is_below(message))
-}
-
-fn found_at<'a>(sent: &'a mut [Sent], message: &MsgId, at: usize) -> Option<&'a mut Sent> {
-    let one = sent.get_mut(at)?;
-    if one.message != *message {
-        return None;
-    }
-    Some(one)
 }

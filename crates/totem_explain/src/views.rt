@@ -3,7 +3,7 @@
 use crate::event::spaced;
 use crate::fitted::fitted;
 use crate::lookup::{entry_of, log_of};
-use crate::size::Size;
+use crate::survey::Survey;
 use crate::visits::{Visit, Visits};
 use std::alloc::{AllocError, Global};
 use totem_evs::{Ending, Entry, Run};
@@ -174,7 +174,7 @@ fn visits_of<'v>(list: &'v [Visit], conf: &ConfId) -> &'v [Visit] {
 /// Describes the membership of a run: its regular configurations, in an order that fits all logs. A line has at most this many columns,
 /// unless a word is longer.
 pub fn explain_views(alloc: Global, run: &Run, columns: usize) -> Result<String, AllocError> {
-    let mut text = Size::of(run).summary(alloc, run)?;
+    let mut text = Survey::of(alloc, run)?.size.summary(alloc, run)?;
     let mut visits = Visits::of(alloc, run)?;
     let order = visits.order(alloc)?;
     let mut list = visits.list;

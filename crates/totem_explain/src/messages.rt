@@ -1,0 +1,117 @@
+//! The messages that a run sends, numbered in the order of their names.
+use std::alloc::{AllocError, Global};
+use totem_names::{MsgId, RingId};
+
+/// How many names one after the other are in a block.
+const SPAN: u32 = 64;
+
+/// Names one after the other.
+#[derive(Clone, Copy, PartialEq, Eq, PartialOrd, Ord)]
+struct Names {
+    ring: RingId,
+    /// Their numbers, divided by 64.
+    part: u32,
+}
+
+impl Names {
+    /// Returns the names among which a message has its own.
+    fn of(message: &MsgId) -> Names {
+        Names {
+            ring: message.ring,
+            part: message.number / SPAN,
+        }
+    }
+}
+
+/// The messages that are sent, of those with these names.
+#[derive(Clone, Copy)]
+struct Block {
+    names: Names,
+    /// Bit i stands for the message whose number is i modulo 64.
+    sent: u64,
+    /// How many messages are in the blocks before it.
+    before: usize,
+}
+
+impl Block {
+    fn end(&self) -> usize {
+        self.before.saturating_add(self.sent.count_ones() as usize)
+    }
+}
+
+/// The messages that a run sends.
+#[derive(Drop)]
+pub struct Messages {
+    blocks: Vec<Block>,
+}
+
+impl Messages {
+    pub fn none(alloc: Global) -> Messages {
+        Messages {
+            blocks: Vec::new(alloc),
+        }
+    }
+
+    /// Adds a message that is sent.
+    pub fn add(&mut self, message: &MsgId) -> Result<(), AllocError> {
+        let names = Names::of(message);
+        let bit = 1u64 << (message.number % SPAN);
+        match self.blocks.last_mut() {
+            Some(block) if block.names == names => block.sent |= bit,
+            _ => self.blocks.push(Block {
+                names,
+                sent: bit,
+                before: 0,
+            })?,
+        }
+        Ok(())
+    }
+
+    /// Numbers the messages, once all are added.
+    pub fn number(&mut self) -> Result<(), AllocError> {
+        self.blocks.sort_by_key(|block| block.names)?;
+        self.blocks.dedup_by(|next, kept| {
+            let is_same = next.names == kept.names;
+            if is_same {
+                kept.sent |= next.sent;
+            }
+            is_same
+        });
+        let mut count = 0;
+        for block in self.blocks.iter_mut() {
+            block.before = count;
+            count = block.end();
+        }
+        Ok(())
+    }
+
+    /// Returns how many messages there are.
+    pub fn len(&self) -> usize {
+        self.blocks.last().map_or(0, |block| block.end())
+    }
+
+    fn is_in(&self, names: &Names, block: usize) -> bool {
+        self.blocks
+            .get(block)
+            .is_some_and(|block| block.names == *names)
+    }
+
+    /// Returns the index of a message, or `None` if it is not sent. `near` is the index of the block that was found before; in most logs the
+    /// message is in that one or in the next.
+    pub fn find(&self, message: &MsgId, near: &mut usize) -> Option<usize> {
+        let names = Names::of(message);
+        if !self.is_in(&names, *near) {
+            *near = near.saturating_add(1);
+            if !self.is_in(&names, *near) {
+                *near = self.blocks.partition_point(|block| block.names < names);
+            }
+        }
+        let block = self.blocks.get(*near)?;
+        let at = message.number % SPAN;
+        if block.names != names || block.sent >> at & 1 == 0 {
+            return None;
+        }
+        let below = block.sent & !(u64::MAX << at);
+        Some(block.before.saturating_add(below.count_ones() as usize))
+    }
+}
