@@ -114,10 +114,9 @@ impl Counts {
 
     fn add_message(&mut self, one: &Sent) {
         let count = one.delivered.count_ones();
-        let others = (one.delivered & !one.sender).count_ones();
-        let is_own = one.delivered & one.sender != 0;
-        self.received = self.received.saturating_add(others);
-        self.own = self.own.saturating_add(u32::from(is_own));
+        let own = u32::from(one.delivered & one.sender != 0);
+        self.received = self.received.saturating_add(count.saturating_sub(own));
+        self.own = self.own.saturating_add(own);
         self.common = self.common.saturating_add(u32::from(count >= 2));
         if one.is_safe {
             self.safe_delivered = self.safe_delivered.saturating_add(u32::from(count > 0));
@@ -138,6 +137,9 @@ impl Counts {
         } else {
             0
         };
+        if own | lacking == 0 {
+            return;
+        }
         let own_failed = (own & site.failed).count_ones();
         let own_open = (own & site.open).count_ones();
         let failed = (lacking & site.failed).count_ones();

@@ -90,28 +90,49 @@ impl Messages {
         self.blocks.last().map_or(0, |block| block.end())
     }
 
-    fn is_in(&self, names: &Names, block: usize) -> bool {
-        self.blocks
-            .get(block)
-            .is_some_and(|block| block.names == *names)
-    }
-
-    /// Returns the index of a message, or `None` if it is not sent. `near` is the index of the block that was found before; in most logs the
-    /// message is in that one or in the next.
-    pub fn find(&self, message: &MsgId, near: &mut usize) -> Option<usize> {
-        let names = Names::of(message);
-        if !self.is_in(&names, *near) {
-            *near = near.saturating_add(1);
-            if !self.is_in(&names, *near) {
-                *near = self.blocks.partition_point(|block| block.names < names);
-            }
+    /// Returns a finder that has not found any message yet.
+    pub fn finder(&self) -> Finder<'_> {
+        Finder {
+            blocks: self.blocks.as_slice(),
+            at: 0,
+            block: self.blocks.first().copied(),
         }
-        let block = self.blocks.get(*near)?;
+    }
+}
+
+/// Finds one message after the other. In most logs the next one is in the block of the one before, or in the block after that.
+#[derive(Drop)]
+pub struct Finder<'a> {
+    blocks: &'a [Block],
+    at: usize,
+    block: Option<Block>,
+}
+
+impl Finder<'_> {
+    /// Returns the index of a message, or `None` if it is not sent.
+    pub fn find(&mut self, message: &MsgId) -> Option<usize> {
+        let names = Names::of(message);
+        let found = self.block;
+        let block = match found {
+            Some(block) if block.names == names => block,
+            _ => self.go_to(&names)?,
+        };
         let at = message.number % SPAN;
-        if block.names != names || block.sent >> at & 1 == 0 {
+        if block.sent >> at & 1 == 0 {
             return None;
         }
         let below = block.sent & !(u64::MAX << at);
         Some(block.before.saturating_add(below.count_ones() as usize))
+    }
+
+    /// Returns the block of these names, or `None` if none of them is sent.
+    fn go_to(&mut self, names: &Names) -> Option<Block> {
+        self.at = self.at.saturating_add(1);
+        self.block = self.blocks.get(self.at).copied();
+        if !self.block.is_some_and(|block| block.names == *names) {
+            self.at = self.blocks.partition_point(|block| block.names < *names);
+            self.block = self.blocks.get(self.at).copied();
+        }
+        self.block.filter(|block| block.names == *names)
     }
 }

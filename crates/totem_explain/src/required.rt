@@ -1,6 +1,5 @@
 //! Counts that a run is required to have (docs/PROGRAM.md, "Counts that are required").
 use crate::counts::Counts;
-use crate::tested::value_of;
 use std::alloc::{AllocError, Global};
 
 /// The names of the counts that can be required: those of the shape of a run, and the first one of each specification.
@@ -55,7 +54,7 @@ impl Required {
         let mut text = String::new(alloc);
         let mut bit = 1u32;
         for name in REQUIRABLE {
-            if self.bits & bit != 0 && value_of(counts, name) == 0 {
+            if self.bits & bit != 0 && counts.value_of(name) == 0 {
                 text.push_str(if text.is_empty() {
                     "totem: not tested: "
                 } else {

@@ -4,191 +4,149 @@ use crate::pass::Pass;
 use std::alloc::{AllocError, Global};
 use totem_evs::SpecNo;
 
-/// A count, with its name for programs and its label for people.
+/// The names of the counts for programs and their labels for people, in the order of `values`. The name of a count about a premise or an
+/// excuse begins with the specification.
+const NAMES: [(&str, &str); 31] = [
+    ("regular", "regular configurations"),
+    ("shared", "shared"),
+    ("partition", "partitions"),
+    ("merge", "merges"),
+    ("returned", "returned processes"),
+    ("transitional", "transitional deliveries"),
+    ("safe-sent", "safe messages sent"),
+    ("safe", "delivered"),
+    ("1.1", "deliveries of what another process sent"),
+    ("1.3", "deliveries"),
+    ("1.4", "sends and deliveries"),
+    ("2.1", "quiet logs"),
+    ("2.1-may-come", "members that may still come"),
+    ("2.2", "entries that are no changes"),
+    ("2.3", "configurations that two logs or more change to"),
+    ("2.4", "neighbouring changes"),
+    ("3", "sends that their sender delivers"),
+    ("3-failed", "excused as failed"),
+    ("3-open", "excused as open"),
+    ("4", "messages in which groups had to agree"),
+    ("4-pairs", "groups of two"),
+    ("4-larger", "larger groups"),
+    ("5", "deliveries that had to keep an order of causes"),
+    ("5-sends", "sends after another message"),
+    ("6.1", "messages that two processes or more deliver"),
+    ("6.3", "deliveries past a message that somebody lacks"),
+    ("6.3-no-member", "by a process that lacks one"),
+    ("7.1", "members that had to deliver a safe message"),
+    ("7.1-failed", "excused as failed"),
+    ("7.1-open", "excused as open"),
+    (
+        "7.2",
+        "deliveries of safe messages in regular configurations",
+    ),
+];
+
+fn values(counts: &Counts) -> [u32; 31] {
+    [
+        counts.regular,
+        counts.shared,
+        counts.partitions,
+        counts.merges,
+        counts.returned,
+        counts.size.transitional_deliveries,
+        counts.size.safe_sends,
+        counts.safe_delivered,
+        counts.received,
+        counts.size.deliveries,
+        counts.size.traffic(),
+        counts.quiet,
+        counts.awaited,
+        counts.size.unchanging(),
+        counts.twins,
+        counts.moves,
+        counts.own,
+        counts.own_failed,
+        counts.own_open,
+        counts.agreed,
+        counts.pairs,
+        counts.larger,
+        counts.effects,
+        counts.effects_sent,
+        counts.common,
+        counts.past,
+        counts.past_no_member,
+        counts.obliged,
+        counts.obliged_failed,
+        counts.obliged_open,
+        counts.installed,
+    ]
+}
+
+/// The specifications, and why the premise of each was never met.
+const UNTESTED: [(SpecNo, &str); 14] = [
+    (SpecNo::Cycle, "no process delivers what another sent"),
+    (SpecNo::Unsent, "nothing is delivered"),
+    (SpecNo::Twice, "nothing is sent or delivered"),
+    (SpecNo::End, "no log is quiet"),
+    (SpecNo::Misplaced, "all entries are changes"),
+    (
+        SpecNo::Configuration,
+        "no two logs change to one configuration",
+    ),
+    (SpecNo::Turns, "no log has two changes"),
+    (SpecNo::OwnDelivery, "no process delivers what it sent"),
+    (
+        SpecNo::Atomicity,
+        "no processes that went on together had delivered a message before",
+    ),
+    (SpecNo::Causality, "no message with a cause is delivered"),
+    (SpecNo::Order, "no two processes deliver one message"),
+    (
+        SpecNo::Gap,
+        "no delivery is past a message that somebody lacks",
+    ),
+    (
+        SpecNo::Safety,
+        "no other member had to deliver a safe message",
+    ),
+    (
+        SpecNo::Installed,
+        "no safe message is delivered in a regular configuration",
+    ),
+];
+
+/// A count, with its name and its label.
 #[derive(Clone, Copy)]
 struct Count {
-    /// The specification whose premise or excuse it counts, or `None` if it says what the run is like.
-    about: Option<SpecNo>,
+    /// The specification whose premise or excuse it counts, with why that premise was never met; `None` if it says what the run is like.
+    about: Option<(SpecNo, &'static str)>,
     name: &'static str,
     label: &'static str,
     value: u32,
 }
 
-impl Count {
-    fn of(about: Option<SpecNo>, name: &'static str, label: &'static str, value: u32) -> Count {
-        Count {
-            about,
-            name,
-            label,
-            value,
+/// Returns the counts that an audit checked which stopped at a fault of `stopped`, if at any.
+fn checked(
+    alloc: Global,
+    counts: &Counts,
+    stopped: Option<SpecNo>,
+) -> Result<Vec<Count>, AllocError> {
+    let mut list = Vec::new(alloc);
+    for ((name, label), value) in NAMES.iter().zip(values(counts).iter()) {
+        let about = UNTESTED
+            .iter()
+            .find(|(spec, _)| name.starts_with(spec.as_str()));
+        let about = about.copied();
+        if let (Some((spec, _)), Some(fault)) = (about, stopped)
+            && Pass::of(spec) > Pass::of(fault)
+        {
+            continue;
         }
+        list.push(Count {
+            about,
+            name: *name,
+            label: *label,
+            value: *value,
+        })?;
     }
-}
-
-fn shape(counts: &Counts) -> [Count; 8] {
-    [
-        Count::of(None, "regular", "regular configurations", counts.regular),
-        Count::of(None, "shared", "shared", counts.shared),
-        Count::of(None, "partition", "partitions", counts.partitions),
-        Count::of(None, "merge", "merges", counts.merges),
-        Count::of(None, "returned", "returned processes", counts.returned),
-        Count::of(
-            None,
-            "transitional",
-            "transitional deliveries",
-            counts.size.transitional_deliveries,
-        ),
-        Count::of(
-            None,
-            "safe-sent",
-            "safe messages sent",
-            counts.size.safe_sends,
-        ),
-        Count::of(None, "safe", "delivered", counts.safe_delivered),
-    ]
-}
-
-/// The counts about messages and about changes of configuration.
-fn basic(counts: &Counts) -> [Count; 8] {
-    let cycle = Some(SpecNo::Cycle);
-    let unsent = Some(SpecNo::Unsent);
-    let twice = Some(SpecNo::Twice);
-    let end = Some(SpecNo::End);
-    let misplaced = Some(SpecNo::Misplaced);
-    let configuration = Some(SpecNo::Configuration);
-    let turns = Some(SpecNo::Turns);
-    [
-        Count::of(
-            cycle,
-            "1.1",
-            "deliveries of what another process sent",
-            counts.received,
-        ),
-        Count::of(unsent, "1.3", "deliveries", counts.size.deliveries),
-        Count::of(twice, "1.4", "sends and deliveries", counts.size.traffic()),
-        Count::of(end, "2.1", "quiet logs", counts.quiet),
-        Count::of(
-            end,
-            "2.1-may-come",
-            "members that may still come",
-            counts.awaited,
-        ),
-        Count::of(
-            misplaced,
-            "2.2",
-            "entries that are no changes",
-            counts.size.unchanging(),
-        ),
-        Count::of(
-            configuration,
-            "2.3",
-            "configurations that two logs or more change to",
-            counts.twins,
-        ),
-        Count::of(turns, "2.4", "neighbouring changes", counts.moves),
-    ]
-}
-
-/// The counts about agreement.
-fn agreement(counts: &Counts) -> [Count; 15] {
-    let own = Some(SpecNo::OwnDelivery);
-    let atomicity = Some(SpecNo::Atomicity);
-    let causality = Some(SpecNo::Causality);
-    let order = Some(SpecNo::Order);
-    let gap = Some(SpecNo::Gap);
-    let safety = Some(SpecNo::Safety);
-    let installed = Some(SpecNo::Installed);
-    [
-        Count::of(own, "3", "sends that their sender delivers", counts.own),
-        Count::of(own, "3-failed", "excused as failed", counts.own_failed),
-        Count::of(own, "3-open", "excused as open", counts.own_open),
-        Count::of(
-            atomicity,
-            "4",
-            "messages in which groups had to agree",
-            counts.agreed,
-        ),
-        Count::of(atomicity, "4-pairs", "groups of two", counts.pairs),
-        Count::of(atomicity, "4-larger", "larger groups", counts.larger),
-        Count::of(
-            causality,
-            "5",
-            "deliveries that had to keep an order of causes",
-            counts.effects,
-        ),
-        Count::of(
-            causality,
-            "5-sends",
-            "sends after another message",
-            counts.effects_sent,
-        ),
-        Count::of(
-            order,
-            "6.1",
-            "messages that two processes or more deliver",
-            counts.common,
-        ),
-        Count::of(
-            gap,
-            "6.3",
-            "deliveries past a message that somebody lacks",
-            counts.past,
-        ),
-        Count::of(
-            gap,
-            "6.3-no-member",
-            "by a process that lacks one",
-            counts.past_no_member,
-        ),
-        Count::of(
-            safety,
-            "7.1",
-            "members that had to deliver a safe message",
-            counts.obliged,
-        ),
-        Count::of(
-            safety,
-            "7.1-failed",
-            "excused as failed",
-            counts.obliged_failed,
-        ),
-        Count::of(safety, "7.1-open", "excused as open", counts.obliged_open),
-        Count::of(
-            installed,
-            "7.2",
-            "deliveries of safe messages in regular configurations",
-            counts.installed,
-        ),
-    ]
-}
-
-/// Returns why the premise of a specification was never met.
-fn why_untested(spec: SpecNo, counts: &Counts) -> &'static str {
-    match spec {
-        SpecNo::Cycle => "no process delivers what another sent",
-        SpecNo::Unsent => "nothing is delivered",
-        SpecNo::Twice => "nothing is sent or delivered",
-        SpecNo::End => "no log is quiet",
-        SpecNo::Misplaced => "all entries are changes",
-        SpecNo::Configuration => "no two logs change to one configuration",
-        SpecNo::Turns => "no log has two changes",
-        SpecNo::OwnDelivery => "no process delivers what it sent",
-        SpecNo::Atomicity => "no processes that went on together had delivered a message before",
-        SpecNo::Causality => "no message with a cause is delivered",
-        SpecNo::Order => "no two processes deliver one message",
-        SpecNo::Gap => "no delivery is past a message that somebody lacks",
-        SpecNo::Safety | SpecNo::Installed if counts.size.safe_sends == 0 => "no message is safe",
-        SpecNo::Safety => "no other member had to deliver a safe message",
-        SpecNo::Installed => "no safe message is delivered in a regular configuration",
-    }
-}
-
-/// Returns whether an audit checked what this count is about; `stopped` is the specification of its first fault.
-fn is_checked(about: Option<SpecNo>, stopped: Option<SpecNo>) -> bool {
-    match (about, stopped) {
-        (Some(spec), Some(fault)) => Pass::of(spec) <= Pass::of(fault),
-        _ => true,
-    }
+    Ok(list)
 }
 
 /// The specifications that were never tested.
@@ -231,7 +189,7 @@ impl Untested {
 struct Told {
     text: String,
     line: String,
-    about: Option<SpecNo>,
+    about: Option<(SpecNo, &'static str)>,
     /// Whether the line has a count above 0.
     is_any: bool,
     untested: Untested,
@@ -252,10 +210,10 @@ impl Told {
         }
     }
 
-    fn add(&mut self, counts: &Counts, one: &Count) -> Result<(), AllocError> {
+    fn add(&mut self, one: &Count, is_any_safe: bool) -> Result<(), AllocError> {
         if self.line.is_empty() || self.about != one.about {
             self.end_line()?;
-            self.begin_line(counts, one)?;
+            self.begin_line(one, is_any_safe)?;
         } else {
             self.line.push_str(", ")?;
         }
@@ -265,17 +223,21 @@ impl Told {
         write!(self.line, "{label} {value}")
     }
 
-    fn begin_line(&mut self, counts: &Counts, one: &Count) -> Result<(), AllocError> {
+    fn begin_line(&mut self, one: &Count, is_any_safe: bool) -> Result<(), AllocError> {
         self.about = one.about;
-        match one.about {
-            None => self.line.push_str("  "),
-            Some(spec) => {
-                if one.value == 0 {
-                    self.untested.add(spec, why_untested(spec, counts))?;
-                }
-                write!(self.line, "  {spec}: ")
-            }
+        let Some((spec, why)) = one.about else {
+            return self.line.push_str("  ");
+        };
+        if one.value == 0 {
+            let is_about_safe = matches!(spec, SpecNo::Safety | SpecNo::Installed);
+            let why = if is_about_safe && !is_any_safe {
+                "no message is safe"
+            } else {
+                why
+            };
+            self.untested.add(spec, why)?;
         }
+        write!(self.line, "  {spec}: ")
     }
 
     /// Puts the line into the text, unless all its counts are 0.
@@ -286,20 +248,6 @@ impl Told {
         }
         self.line.clear();
         self.is_any = false;
-        Ok(())
-    }
-
-    fn add_all(
-        &mut self,
-        counts: &Counts,
-        list: &[Count],
-        stopped: Option<SpecNo>,
-    ) -> Result<(), AllocError> {
-        for one in list {
-            if is_checked(one.about, stopped) {
-                self.add(counts, one)?;
-            }
-        }
         Ok(())
     }
 
@@ -321,9 +269,9 @@ impl Counts {
     pub fn told(&self, alloc: Global, stopped: Option<SpecNo>) -> Result<String, AllocError> {
         let mut told = Told::none(alloc);
         told.text.push_str("What the run put to the test:\n")?;
-        told.add_all(self, &shape(self), stopped)?;
-        told.add_all(self, &basic(self), stopped)?;
-        told.add_all(self, &agreement(self), stopped)?;
+        for one in &checked(alloc, self, stopped)? {
+            told.add(one, self.size.safe_sends > 0)?;
+        }
         told.end()?;
         Ok(told.text)
     }
@@ -331,33 +279,19 @@ impl Counts {
     /// Returns a line for each count, as in `count 6.1 12`. Leaves out the same specifications.
     pub fn lines(&self, alloc: Global, stopped: Option<SpecNo>) -> Result<String, AllocError> {
         let mut text = String::new(alloc);
-        push_lines(&mut text, &shape(self), stopped)?;
-        push_lines(&mut text, &basic(self), stopped)?;
-        push_lines(&mut text, &agreement(self), stopped)?;
-        Ok(text)
-    }
-}
-
-fn push_lines(
-    text: &mut String,
-    list: &[Count],
-    stopped: Option<SpecNo>,
-) -> Result<(), AllocError> {
-    for one in list {
-        if is_checked(one.about, stopped) {
+        for one in &checked(alloc, self, stopped)? {
             let name = one.name;
             let value = one.value;
             write!(text, "count {name} {value}\n")?;
         }
+        Ok(text)
     }
-    Ok(())
-}
 
-/// Returns the count with a name, or 0 if no count has it.
-pub fn value_of(counts: &Counts, name: &str) -> u32 {
-    let shape = shape(counts);
-    let basic = basic(counts);
-    let agreement = agreement(counts);
-    let mut all = shape.iter().chain(&basic).chain(&agreement);
-    all.find(|one| one.name == name).map_or(0, |one| one.value)
+    /// Returns the count with a name, or 0 if no count has it.
+    pub fn value_of(&self, name: &str) -> u32 {
+        let values = values(self);
+        let mut all = NAMES.iter().zip(values.iter());
+        all.find(|((known, _), _)| *known == name)
+            .map_or(0, |(_, value)| *value)
+    }
 }

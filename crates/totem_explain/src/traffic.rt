@@ -20,6 +20,8 @@ pub struct Sent {
     pub regular: u32,
     /// The members that the delivery of another process obliges to deliver it, if it is safe.
     pub obliged: u32,
+    /// The logs that change to the configuration in which it was sent, and don't deliver it though another one does.
+    lacking: u32,
 }
 
 impl Sent {
@@ -32,6 +34,7 @@ impl Sent {
             delivered: 0,
             regular: 0,
             obliged: 0,
+            lacking: 0,
         }
     }
 
@@ -59,11 +62,12 @@ impl Sent {
         stay.group != 0 && there & stay.group == 0
     }
 
-    /// Returns the logs that change to the configuration in which it was sent, and don't deliver it though another one does.
-    fn lacking(&self, sites: &Sites) -> u32 {
-        match sites.list.get(self.site as usize) {
-            Some(site) if self.delivered != 0 => site.logs & !self.delivered,
-            _ => 0,
+    /// Finds the logs that lack it.
+    fn find_lacking(&mut self, sites: &Sites) {
+        if let Some(site) = sites.list.get(self.site as usize)
+            && self.delivered != 0
+        {
+            self.lacking = site.logs & !self.delivered;
         }
     }
 }
@@ -108,8 +112,11 @@ impl Traffic {
             changes = traffic.add_log(bit, log, sites, names, changes);
             bit <<= 1;
         }
-        if traffic.sent.iter().any(|one| one.lacking(sites) != 0) {
-            traffic.find_gaps(alloc, run, sites, names)?;
+        for one in traffic.sent.iter_mut() {
+            one.find_lacking(sites);
+        }
+        if traffic.sent.iter().any(|one| one.lacking != 0) {
+            traffic.find_gaps(alloc, run, names)?;
         }
         Ok(traffic)
     }
@@ -126,7 +133,7 @@ impl Traffic {
         let mut stay = Stay::before(bit);
         let mut is_later = false;
         let mut changes = before;
-        let mut near = 0;
+        let mut finder = names.finder();
         for entry in log.entries.as_slice() {
             match entry {
                 Entry::Conf(_, _) => {
@@ -136,14 +143,14 @@ impl Traffic {
                     changes = changes.saturating_add(1);
                 }
                 Entry::Send(message, _, service) => {
-                    let index = names.find(message, &mut near);
+                    let index = finder.find(message);
                     if let Some(one) = index.and_then(|index| self.sent.get_mut(index)) {
                         one.send(&stay, is_later, *service);
                     }
                     is_later = true;
                 }
                 Entry::Deliver(message, _) => {
-                    let index = names.find(message, &mut near);
+                    let index = finder.find(message);
                     if let Some(one) = index.and_then(|index| self.sent.get_mut(index)) {
                         let is_first = one.deliver(&stay);
                         self.agreed = self.agreed.saturating_add(u32::from(is_first));
@@ -170,17 +177,11 @@ impl Traffic {
     }
 
     /// Finds the deliveries past a message that another process lacks.
-    fn find_gaps(
-        &mut self,
-        alloc: Global,
-        run: &Run,
-        sites: &Sites,
-        names: &Messages,
-    ) -> Result<(), AllocError> {
+    fn find_gaps(&mut self, alloc: Global, run: &Run, names: &Messages) -> Result<(), AllocError> {
         // For each message, the logs that deliver it and lack one that a log delivers before it.
         let mut lacking = vec![in alloc; 0u32; self.sent.len()]?;
         for log in run.logs.as_slice() {
-            self.find_gaps_of(log.entries.as_slice(), sites, names, &mut lacking);
+            self.find_gaps_of(log.entries.as_slice(), names, &mut lacking);
         }
         for logs in &lacking {
             self.lacking = self.lacking.saturating_add(logs.count_ones());
@@ -188,33 +189,35 @@ impl Traffic {
         Ok(())
     }
 
-    fn find_gaps_of(
-        &mut self,
-        entries: &[Entry],
-        sites: &Sites,
-        names: &Messages,
-        lacking: &mut Vec<u32>,
-    ) {
+    fn find_gaps_of(&mut self, entries: &[Entry], names: &Messages, lacking: &mut Vec<u32>) {
         let mut lacked = 0u32;
-        let mut near = 0;
+        let mut finder = names.finder();
         for entry in entries {
             match entry {
                 Entry::Conf(conf, _) if is_regular(conf) => lacked = 0,
                 Entry::Deliver(message, _) => {
-                    let Some(index) = names.find(message, &mut near) else {
+                    let Some(index) = finder.find(message) else {
                         continue;
                     };
-                    if let (Some(one), Some(logs)) = (
-                        self.sent.get(index),
-                        lacking.get_mut(index),
-                    ) {
-                        *logs |= one.delivered & lacked;
-                        self.past = self.past.saturating_add(u32::from(lacked != 0));
-                        lacked |= one.lacking(sites);
+                    let Some(one) = self.sent.get(index) else {
+                        continue;
+                    };
+                    if lacked != 0 {
+                        self.past = self.past.saturating_add(1);
+                        add_logs(lacking, index, one.delivered & lacked);
                     }
+                    lacked |= one.lacking;
                 }
                 _ => {}
             }
         }
+    }
+}
+
+fn add_logs(list: &mut Vec<u32>, index: usize, logs: u32) {
+    if logs != 0
+        && let Some(all) = list.get_mut(index)
+    {
+        *all |= logs;
     }
 }
