@@ -208,14 +208,12 @@ impl Bands {
         frame: &Frame,
     ) -> Result<(), AllocError> {
         let known = self.known.as_slice();
-        let mut number = 0u32;
-        for row in self.rows.iter() {
+        for (number, row) in self.rows.iter().enumerate() {
             let y = frame.y(number);
             push_process(alloc, text, version, y, row)?;
             for band in row.bands.iter() {
                 push_one(text, frame, y, band, known)?;
             }
-            number = number.saturating_add(1);
         }
         Ok(())
     }
@@ -227,13 +225,11 @@ impl Bands {
         text: &mut String,
         frame: &Frame,
     ) -> Result<(), AllocError> {
-        let mut number = 0u32;
-        for row in self.rows.iter() {
+        for (number, row) in self.rows.iter().enumerate() {
             let y = frame.y(number);
             for band in row.bands.iter() {
                 push_name(alloc, text, frame, y, band)?;
             }
-            number = number.saturating_add(1);
         }
         Ok(())
     }

@@ -1,12 +1,12 @@
 //! The events of the lanes.
 use crate::frame::Frame;
-use crate::marks::{number_of, told};
+use crate::marks::number_of;
 use crate::shapes::{
     Point, push_bar, push_cross, push_dot, push_label, push_mark, push_missing, push_ring,
 };
 use crate::subject::Subject;
 use std::alloc::{AllocError, Global};
-use totem_explain::{Gap, Lane, Spot, What, place_name};
+use totem_explain::{Gap, Lane, Spot, What, event_at, place_name};
 use totem_names::{MsgId, Place};
 
 /// Adds a name below its event.
@@ -123,7 +123,7 @@ fn push_spot(
         }
         _ => {}
     }
-    let event = told(alloc, run, place)?;
+    let event = event_at(alloc, run, place)?;
     let name = place_name(alloc, run.version, place)?;
     write!(text, "<g><title>{name}: {event}</title>\n")?;
     push_shape(alloc, text, at, spot.what)?;
@@ -141,14 +141,12 @@ pub fn push_events(
     lanes: &[Lane],
     subject: &Subject<'_>,
 ) -> Result<(), AllocError> {
-    let mut number = 0u32;
-    for lane in lanes {
+    for (number, lane) in lanes.iter().enumerate() {
         let y = frame.y(number);
         for spot in lane.spots.as_slice() {
             let place = lane.place_of(spot);
             push_spot(alloc, text, point_of(frame, y, spot), place, spot, subject)?;
         }
-        number = number.saturating_add(1);
     }
     Ok(())
 }

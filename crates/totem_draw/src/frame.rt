@@ -25,7 +25,7 @@ const LEAST: u32 = 760;
 pub struct Frame {
     /// The top of the lanes.
     pub top: u32,
-    pub lanes: u32,
+    pub lanes: usize,
     pub slots: u32,
     /// The distance from one slot to the next.
     pub step: u32,
@@ -52,8 +52,8 @@ impl Frame {
     }
 
     /// Returns the vertical position of a lane, counted from 0.
-    pub fn y(&self, lane: u32) -> u32 {
-        let lanes = lane.saturating_mul(LANE);
+    pub fn y(&self, lane: usize) -> u32 {
+        let lanes = u32::try_from(lane).unwrap_or(u32::MAX).saturating_mul(LANE);
         self.top.saturating_add(LANE / 2).saturating_add(lanes)
     }
 

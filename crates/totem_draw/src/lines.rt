@@ -8,8 +8,7 @@ use totem_names::MsgId;
 
 /// Returns the point at which a message is sent, if the send is drawn.
 fn send_of(frame: &Frame, lanes: &[Lane], message: MsgId) -> Option<Point> {
-    let mut number = 0u32;
-    for lane in lanes {
+    for (number, lane) in lanes.iter().enumerate() {
         for spot in lane.spots.as_slice() {
             if spot.sends() == Some(message) {
                 return Some(Point {
@@ -18,7 +17,6 @@ fn send_of(frame: &Frame, lanes: &[Lane], message: MsgId) -> Option<Point> {
                 });
             }
         }
-        number = number.saturating_add(1);
     }
     None
 }
@@ -50,10 +48,8 @@ fn push_lane(
 
 /// Adds a line for each delivery whose send is drawn too, dashed for one that is missing.
 pub fn push_lines(text: &mut String, frame: &Frame, lanes: &[Lane]) -> Result<(), AllocError> {
-    let mut number = 0u32;
-    for lane in lanes {
+    for (number, lane) in lanes.iter().enumerate() {
         push_lane(text, frame, lanes, lane, frame.y(number))?;
-        number = number.saturating_add(1);
     }
     Ok(())
 }
@@ -70,7 +66,7 @@ pub fn push_pending(
             continue;
         };
         if let Some(from) = send_of(frame, lanes, one.msg) {
-            let y = frame.y(u32::try_from(lane).unwrap_or(u32::MAX));
+            let y = frame.y(lane);
             push_dashed(
                 text,
                 from,

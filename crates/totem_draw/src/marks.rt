@@ -1,7 +1,7 @@
 //! The places that a picture marks, and the text about them.
 use std::alloc::{AllocError, Global};
 use totem_evs::Run;
-use totem_explain::{entry_at, event_of, place_name};
+use totem_explain::{event_at, place_name};
 use totem_names::Place;
 
 /// How many places are described.
@@ -13,21 +13,13 @@ pub fn number_of(places: &[Place], place: Place) -> Option<usize> {
     Some(index.saturating_add(1))
 }
 
-/// Returns what happened at a place.
-pub fn told(alloc: Global, run: &Run, place: Place) -> Result<String, AllocError> {
-    match entry_at(run, place) {
-        Some(entry) => event_of(alloc, run.version, place.proc, entry),
-        None => String::from_str(alloc, "no entry of this run"),
-    }
-}
-
 /// Returns a line for each place: its number, the place, and what happened there. If there are many, only the first are described.
 pub fn lines_of(alloc: Global, run: &Run, places: &[Place]) -> Result<Vec<String>, AllocError> {
     let mut lines = Vec::new(alloc);
     let mut number = 0u32;
     for place in places.iter().take(TOLD) {
         number = number.saturating_add(1);
-        let event = told(alloc, run, *place)?;
+        let event = event_at(alloc, run, *place)?;
         let place = place_name(alloc, run.version, *place)?;
         lines.push(format!(in alloc; "({number}) {place}: {event}")?)?;
     }

@@ -166,11 +166,9 @@ fn push_all_counts(
     list: &[Visit],
     columns: &[Column],
 ) -> Result<(), AllocError> {
-    let mut number = 0u32;
-    for log in run.logs.as_slice() {
+    for (number, log) in run.logs.as_slice().iter().enumerate() {
         let visits = visits_of(list, log.proc);
         push_counts(alloc, text, frame, frame.y(number), visits, columns)?;
-        number = number.saturating_add(1);
     }
     Ok(())
 }
@@ -202,7 +200,7 @@ pub fn draw_views(alloc: Global, run: &Run) -> Result<String, AllocError> {
     push_wrapped(alloc, &mut below, LEGEND)?;
     let frame = Frame {
         top: LINE.saturating_mul(2),
-        lanes: u32::try_from(run.logs.as_slice().len()).unwrap_or(u32::MAX),
+        lanes: run.logs.as_slice().len(),
         slots: u32::try_from(columns.len()).unwrap_or(u32::MAX),
         step: step_for(most_letters(alloc, list.as_slice())?),
     };

@@ -82,7 +82,7 @@ fn draw(alloc: Global, subject: &Subject<'_>) -> Result<String, AllocError> {
     let lines = u32::try_from(above.len()).unwrap_or(u32::MAX);
     let frame = Frame {
         top: LINE.saturating_mul(lines.saturating_add(1)),
-        lanes: u32::try_from(lanes.len()).unwrap_or(u32::MAX),
+        lanes: lanes.len(),
         slots,
         step: step_for(most_letters(alloc, lanes.as_slice())?),
     };

@@ -1,10 +1,10 @@
 //! Events that a log lacks where a fault is that they are absent, and where they were due.
-use crate::fate::next_of;
-use crate::lookup::{entry_at, log_of, message_at};
-use crate::members::{Member, absent, lacking, parted};
+use crate::fate::{Fate, course_of, next_of};
+use crate::lookup::{change_before, delivery_in, entry_at, log_of, message_at};
+use crate::members::{Member, parted, told_together};
 use std::alloc::{AllocError, Global};
 use totem_evs::{Entry, Fault, Run, SpecNo};
-use totem_names::{ConfId, MsgId, Place, Proc};
+use totem_names::{ConfId, MsgId, Place, Proc, Version};
 
 /// An event that a log lacks.
 #[derive(Clone, Copy, Debug, PartialEq, Eq)]
@@ -46,97 +46,151 @@ fn end_of(run: &Run, proc: Proc) -> Place {
     }
 }
 
-/// Returns the absence of this event at each of these members.
-fn of_members(
-    alloc: Global,
-    run: &Run,
-    event: &Lacked,
-    members: &[Member],
-) -> Result<Vec<Absence>, AllocError> {
-    let mut list = Vec::new(alloc);
-    for member in members {
-        if log_of(run, member.proc).is_none() {
-            continue;
-        }
-        let due = match member.course.place {
-            Some(place) => place,
-            None => end_of(run, member.proc),
-        };
-        list.push(Absence { event: *event, due })?;
-    }
-    Ok(list)
+/// An event that members of a configuration lack, which nothing excuses.
+#[derive(Drop)]
+pub struct Lack {
+    event: Lacked,
+    /// What they did not do, unless what happened to them says it.
+    missed: String,
+    members: Vec<Member>,
 }
 
-/// 3: returns the absence of the sender's own delivery.
-fn own_delivery(alloc: Global, run: &Run, send: Place) -> Result<Vec<Absence>, AllocError> {
+impl Lack {
+    /// Returns lines that say what happened to the members.
+    pub fn told(&self, alloc: Global, version: Version) -> Result<String, AllocError> {
+        told_together(
+            alloc,
+            version,
+            self.missed.as_str(),
+            self.members.as_slice(),
+        )
+    }
+
+    /// Returns the absence of the event in the log of each member that has one.
+    fn absences(&self, alloc: Global, run: &Run) -> Result<Vec<Absence>, AllocError> {
+        let mut list = Vec::new(alloc);
+        for member in &self.members {
+            if log_of(run, member.proc).is_none() {
+                continue;
+            }
+            let due = match member.course.place {
+                Some(place) => place,
+                None => end_of(run, member.proc),
+            };
+            list.push(Absence {
+                event: self.event,
+                due,
+            })?;
+        }
+        Ok(list)
+    }
+}
+
+/// 3: returns the sender's own delivery, which it lacks.
+fn own_delivery(alloc: Global, run: &Run, send: Place) -> Result<Option<Lack>, AllocError> {
     let (Some(log), Some(Entry::Send(message, conf, _))) = (
         log_of(run, send.proc),
         entry_at(run, send),
     ) else {
-        return Ok(Vec::new(alloc));
+        return Ok(None);
     };
-    let sender = Member {
+    let mut members = Vec::new(alloc);
+    members.push(Member {
         proc: send.proc,
         course: next_of(log, conf, send.at),
-    };
-    of_members(alloc, run, &Lacked::Delivery(*message), &[sender])
+    })?;
+    Ok(Some(Lack {
+        event: Lacked::Delivery(*message),
+        missed: format!(in alloc; "did not deliver {message} in {conf} or what follows it")?,
+        members,
+    }))
 }
 
-/// 4, 5, 6.3: returns the absence of a message, which was sent or delivered at one place, before another one.
-fn delivery_before(
+/// 7.1, 7.2: returns what members of the configuration of a delivery lack: for 7.1 the message, for 7.2 the change to it.
+fn lacked_at(
     alloc: Global,
     run: &Run,
-    known: Place,
-    due: Place,
-) -> Result<Vec<Absence>, AllocError> {
-    let mut list = Vec::new(alloc);
-    if let Some(message) = message_at(run, known) {
-        list.push(Absence {
-            event: Lacked::Delivery(message),
-            due,
-        })?;
+    spec: SpecNo,
+    delivery: Place,
+) -> Result<Option<Lack>, AllocError> {
+    let (Some(message), Some(log)) = (message_at(run, delivery), log_of(run, delivery.proc)) else {
+        return Ok(None);
+    };
+    let Some((conf, all)) = change_before(log, delivery.at) else {
+        return Ok(None);
+    };
+    let (event, missed) = match spec {
+        SpecNo::Safety => (
+            Lacked::Delivery(message),
+            format!(in alloc; "did not deliver {message}")?,
+        ),
+        _ => (Lacked::Change(conf), String::new(alloc)),
+    };
+    let mut members = Vec::new(alloc);
+    for proc in all {
+        let course = course_of(run, *proc, &conf);
+        let lacks = match event {
+            Lacked::Delivery(_) => {
+                let own = log_of(run, *proc).and_then(|log| delivery_in(log, message));
+                course.fate.owes() && own.is_none()
+            }
+            _ => matches!(course.fate, Fate::NeverCame(_, _) | Fate::WithoutLog),
+        };
+        if lacks {
+            members.push(Member {
+                proc: *proc,
+                course,
+            })?;
+        }
     }
-    Ok(list)
+    Ok(Some(Lack {
+        event,
+        missed,
+        members,
+    }))
 }
 
-/// 7.1: returns the absence of a safe message at the members that lack it.
-fn safe_delivery(alloc: Global, run: &Run, delivery: Place) -> Result<Vec<Absence>, AllocError> {
-    let Some(message) = message_at(run, delivery) else {
-        return Ok(Vec::new(alloc));
-    };
-    let members = lacking(alloc, run, delivery)?;
-    of_members(alloc, run, &Lacked::Delivery(message), members.as_slice())
-}
-
-/// 7.2: returns the absence of the change to the configuration of a delivery.
-fn change(alloc: Global, run: &Run, delivery: Place) -> Result<Vec<Absence>, AllocError> {
-    let Some(Entry::Deliver(_, conf)) = entry_at(run, delivery) else {
-        return Ok(Vec::new(alloc));
-    };
-    let members = absent(alloc, run, delivery)?;
-    of_members(alloc, run, &Lacked::Change(*conf), members.as_slice())
-}
-
-/// 2.1: returns the absence of the end in the configuration of a change.
-fn end(alloc: Global, run: &Run, change: Place) -> Result<Vec<Absence>, AllocError> {
+/// 2.1: returns the end in the configuration of a change, which members lack.
+fn end(alloc: Global, run: &Run, change: Place) -> Result<Option<Lack>, AllocError> {
     let Some(Entry::Conf(conf, _)) = entry_at(run, change) else {
-        return Ok(Vec::new(alloc));
+        return Ok(None);
     };
-    let members = parted(alloc, run, change)?;
-    of_members(alloc, run, &Lacked::End(*conf), members.as_slice())
+    Ok(Some(Lack {
+        event: Lacked::End(*conf),
+        missed: String::new(alloc),
+        members: parted(alloc, run, change)?,
+    }))
+}
+
+/// Returns what members lack by a fault of 2.1, 3, 7.1 or 7.2, or `None` for any other fault.
+pub fn lack_of(alloc: Global, run: &Run, fault: &Fault) -> Result<Option<Lack>, AllocError> {
+    match (fault.spec, fault.places.as_slice()) {
+        (SpecNo::OwnDelivery, [send, ..]) => own_delivery(alloc, run, *send),
+        (SpecNo::Safety | SpecNo::Installed, [delivery, ..]) => {
+            lacked_at(alloc, run, fault.spec, *delivery)
+        }
+        (SpecNo::End, [change, ..]) => end(alloc, run, *change),
+        _ => Ok(None),
+    }
 }
 
 /// Returns the events whose absence is this fault of the run, in ascending order of the logs that lack them. There are none if the fault is
 /// something that happened.
 pub fn absences(alloc: Global, run: &Run, fault: &Fault) -> Result<Vec<Absence>, AllocError> {
-    match (fault.spec, fault.places.as_slice()) {
-        (SpecNo::OwnDelivery, [send, ..]) => own_delivery(alloc, run, *send),
-        (SpecNo::Atomicity | SpecNo::Causality | SpecNo::Gap, [known, _, due, ..]) => {
-            delivery_before(alloc, run, *known, *due)
-        }
-        (SpecNo::Safety, [delivery, ..]) => safe_delivery(alloc, run, *delivery),
-        (SpecNo::Installed, [delivery, ..]) => change(alloc, run, *delivery),
-        (SpecNo::End, [place, ..]) => end(alloc, run, *place),
-        _ => Ok(Vec::new(alloc)),
+    let mut list = match lack_of(alloc, run, fault)? {
+        Some(lack) => lack.absences(alloc, run)?,
+        None => Vec::new(alloc),
+    };
+    if let (SpecNo::Atomicity | SpecNo::Causality | SpecNo::Gap, [known, _, due, ..]) = (
+        fault.spec,
+        fault.places.as_slice(),
+    )
+        && let Some(message) = message_at(run, *known)
+    {
+        list.push(Absence {
+            event: Lacked::Delivery(message),
+            due: *due,
+        })?;
     }
+    Ok(list)
 }

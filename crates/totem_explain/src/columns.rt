@@ -1,6 +1,7 @@
 //! The lines of the logs around the places of a fault, side by side.
 use crate::absence::Absence;
 use crate::event::line_of;
+use crate::fitted::push_spaces;
 use crate::lane::{Excerpt, Gap, Lane, Spot, What};
 use crate::layout::lay_out;
 use crate::lookup::{entry_of, log_of};
@@ -209,13 +210,6 @@ impl Column {
         let cell = self.cells.pop()?;
         Some(cell.text)
     }
-}
-
-fn push_spaces(text: &mut String, count: usize) -> Result<(), AllocError> {
-    for _ in 0..count {
-        text.push(' ')?;
-    }
-    Ok(())
 }
 
 /// Adds a row of the columns, if one of them has a cell in it.

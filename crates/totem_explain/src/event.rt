@@ -4,8 +4,9 @@ ghost use Rattle.std.specs.String.{string_bytes};
 ghost use Rattle.totem_names.specs.Processes.{process_text};
 ghost use Rattle.totem_evs.specs.RunText.{entry_text, members_text};
 
+use crate::lookup::entry_at;
 use std::alloc::{AllocError, Global};
-use totem_evs::Entry;
+use totem_evs::{Entry, Run};
 use totem_names::{Place, Proc, Service, Version};
 
 /// Returns a place as texts of this version write it, as in `2@5`.
@@ -71,5 +72,13 @@ pub fn event_of(
             format!(in alloc; "process {proc} delivered {message} in {conf}")
         }
         Entry::Fail(conf) => format!(in alloc; "process {proc} failed in {conf}"),
+    }
+}
+
+/// Returns a sentence about what happened at a place of the run.
+pub fn event_at(alloc: Global, run: &Run, place: Place) -> Result<String, AllocError> {
+    match entry_at(run, place) {
+        Some(entry) => event_of(alloc, run.version, place.proc, entry),
+        None => String::from_str(alloc, "no entry of this run"),
     }
 }

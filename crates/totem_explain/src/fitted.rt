@@ -4,7 +4,7 @@ use std::alloc::{AllocError, Global};
 /// How many spaces more than the first line the further lines of a broken one begin with.
 const HANGING: usize = 4;
 
-fn push_spaces(text: &mut String, count: usize) -> Result<(), AllocError> {
+pub fn push_spaces(text: &mut String, count: usize) -> Result<(), AllocError> {
     for _ in 0..count {
         text.push(' ')?;
     }

@@ -45,7 +45,7 @@ mod yes;
 
 pub use absence::{Absence, Lacked, absences};
 pub use counts::Counts;
-pub use event::{event_of, line_of, place_name};
+pub use event::{event_at, line_of, place_name};
 pub use lane::{Excerpt, Gap, Lane, Spot, What};
 pub use layout::lay_out;
 pub use lookup::entry_at;

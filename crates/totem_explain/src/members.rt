@@ -1,67 +1,16 @@
 //! Members of a configuration that did not do what the others rely on, each with what happened to it.
 use crate::event::place_name;
-use crate::fate::{Course, Fate, Number, course_of, instead_of};
-use crate::lookup::{
-    change_before, change_behind, change_in, delivery_in, entry_at, log_of, message_at, place_of,
-};
+use crate::fate::{Course, Fate, Number, instead_of};
+use crate::lookup::{change_behind, change_in, entry_at, last_change, log_of, place_of};
 use std::alloc::{AllocError, Global};
 use totem_evs::{Ending, Entry, Log, Run};
-use totem_names::{ConfId, MsgId, Place, Proc, Version};
+use totem_names::{ConfId, Place, Proc, Version};
 
 /// A process and what happened to it.
 #[derive(Clone, Copy)]
 pub struct Member {
     pub proc: Proc,
     pub course: Course,
-}
-
-fn has_delivered(run: &Run, proc: Proc, message: MsgId) -> bool {
-    match log_of(run, proc) {
-        Some(log) => delivery_in(log, message).is_some(),
-        None => false,
-    }
-}
-
-/// 7.1: returns the members that lack the message that is delivered here, and that nothing excuses.
-pub fn lacking(alloc: Global, run: &Run, delivery: Place) -> Result<Vec<Member>, AllocError> {
-    let mut list = Vec::new(alloc);
-    let (Some(message), Some(log)) = (message_at(run, delivery), log_of(run, delivery.proc)) else {
-        return Ok(list);
-    };
-    let Some((conf, members)) = change_before(log, delivery.at) else {
-        return Ok(list);
-    };
-    for proc in members {
-        let course = course_of(run, *proc, &conf);
-        if course.fate.owes() && !has_delivered(run, *proc, message) {
-            list.push(Member {
-                proc: *proc,
-                course,
-            })?;
-        }
-    }
-    Ok(list)
-}
-
-/// 7.2: returns the members that never came to the configuration of this delivery.
-pub fn absent(alloc: Global, run: &Run, delivery: Place) -> Result<Vec<Member>, AllocError> {
-    let mut list = Vec::new(alloc);
-    let Some(log) = log_of(run, delivery.proc) else {
-        return Ok(list);
-    };
-    let Some((conf, members)) = change_before(log, delivery.at) else {
-        return Ok(list);
-    };
-    for proc in members {
-        let course = course_of(run, *proc, &conf);
-        if matches!(course.fate, Fate::NeverCame(_, _) | Fate::WithoutLog) {
-            list.push(Member {
-                proc: *proc,
-                course,
-            })?;
-        }
-    }
-    Ok(list)
 }
 
 /// Returns the first failure of a log.
@@ -88,7 +37,7 @@ fn behind(log: &Log, came: Place) -> Option<Course> {
 
 /// Returns whether the last change of a log is to the configuration.
 fn ends_in(log: &Log, conf: &ConfId) -> bool {
-    match change_before(log, u32::MAX) {
+    match last_change(log) {
         Some((last, _)) => last.is(conf),
         None => false,
     }

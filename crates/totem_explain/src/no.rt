@@ -4,9 +4,8 @@ ghost use Rattle.std.specs.Prelude.{◌≡◌, IfOk, map};
 use crate::absence::absences;
 use crate::columns::{Focus, columns as side_by_side};
 use crate::counts::Counts;
-use crate::event::{event_of, place_name};
+use crate::event::{event_at, place_name};
 use crate::fitted::fitted;
-use crate::lookup::entry_at;
 use crate::pass::Pass;
 use crate::reason::reason_of;
 use crate::rule::rule_of;
@@ -37,10 +36,7 @@ const IN_FULL: usize = 100;
 fn events(alloc: Global, run: &Run, places: &[Place]) -> Result<String, AllocError> {
     let mut text = String::new(alloc);
     for place in places {
-        let event = match entry_at(run, *place) {
-            Some(entry) => event_of(alloc, run.version, place.proc, entry)?,
-            None => String::from_str(alloc, "no entry of this run")?,
-        };
+        let event = event_at(alloc, run, *place)?;
         let place = place_name(alloc, run.version, *place)?;
         write!(text, "  {place}  {event}\n")?;
     }

@@ -1,9 +1,8 @@
 //! Why the places of a fault break the specification, and what is missing there.
+use crate::absence::lack_of;
 use crate::cycle::cycle;
 use crate::event::place_name;
-use crate::fate::next_of;
 use crate::lookup::{change_before, delivery_in, entry_at, entry_of, log_of, message_at};
-use crate::members::{Member, absent, lacking, parted, told_together};
 use crate::twice::twice;
 use crate::unsent::unsent;
 use std::alloc::{AllocError, Global};
@@ -55,22 +54,6 @@ fn turns(alloc: Global, places: &[Place]) -> Result<String, AllocError> {
     }
 }
 
-/// 3: returns what the sender did instead of delivering its message.
-fn undelivered(alloc: Global, run: &Run, send: Place) -> Result<String, AllocError> {
-    let (Some(log), Some(Entry::Send(message, conf, _))) = (
-        log_of(run, send.proc),
-        entry_at(run, send),
-    ) else {
-        return Ok(String::new(alloc));
-    };
-    let sender = Member {
-        proc: send.proc,
-        course: next_of(log, conf, send.at),
-    };
-    let missed = format!(in alloc; "did not deliver {message} in {conf} or what follows it")?;
-    told_together(alloc, run.version, missed.as_str(), &[sender])
-}
-
 /// Returns what a process did at a place before which it had to deliver a message.
 fn done_instead(alloc: Global, run: &Run, place: Place) -> Result<String, AllocError> {
     let name = place_name(alloc, run.version, place)?;
@@ -103,28 +86,6 @@ fn lacks(alloc: Global, run: &Run, known: Place, due: Place) -> Result<String, A
     }
 }
 
-/// 7.1: returns which members lack the message and are not excused, and what happened to them.
-fn unsafe_for(alloc: Global, run: &Run, delivery: Place) -> Result<String, AllocError> {
-    let Some(message) = message_at(run, delivery) else {
-        return Ok(String::new(alloc));
-    };
-    let members = lacking(alloc, run, delivery)?;
-    let missed = format!(in alloc; "did not deliver {message}")?;
-    told_together(alloc, run.version, missed.as_str(), members.as_slice())
-}
-
-/// 7.2: returns which members never came to the configuration, and where they were instead.
-fn uninstalled(alloc: Global, run: &Run, delivery: Place) -> Result<String, AllocError> {
-    let members = absent(alloc, run, delivery)?;
-    told_together(alloc, run.version, "", members.as_slice())
-}
-
-/// 2.1: returns which members neither end in the configuration nor may still come, and where they are instead.
-fn ended_alone(alloc: Global, run: &Run, change: Place) -> Result<String, AllocError> {
-    let members = parted(alloc, run, change)?;
-    told_together(alloc, run.version, "", members.as_slice())
-}
-
 /// Returns lines that say why the places of the fault break the specification, and what is missing there.
 pub fn reason_of(alloc: Global, run: &Run, fault: &Fault) -> Result<String, AllocError> {
     let places = fault.places.as_slice();
@@ -135,16 +96,15 @@ pub fn reason_of(alloc: Global, run: &Run, fault: &Fault) -> Result<String, Allo
             None => Ok(String::new(alloc)),
         },
         (SpecNo::Twice, _) => twice(alloc, run, places),
-        (SpecNo::End, [change, ..]) => ended_alone(alloc, run, *change),
         (SpecNo::Misplaced, [entry, ..]) => misplaced(alloc, run, *entry),
         (SpecNo::Configuration, _) => configuration(alloc, run, places),
         (SpecNo::Turns, _) => turns(alloc, places),
-        (SpecNo::OwnDelivery, [send, ..]) => undelivered(alloc, run, *send),
         (SpecNo::Atomicity | SpecNo::Causality | SpecNo::Gap, [known, _, due, ..]) => {
             lacks(alloc, run, *known, *due)
         }
-        (SpecNo::Safety, [delivery, ..]) => unsafe_for(alloc, run, *delivery),
-        (SpecNo::Installed, [delivery, ..]) => uninstalled(alloc, run, *delivery),
-        _ => Ok(String::new(alloc)),
+        _ => match lack_of(alloc, run, fault)? {
+            Some(lack) => lack.told(alloc, run.version),
+            None => Ok(String::new(alloc)),
+        },
     }
 }

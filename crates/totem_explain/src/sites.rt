@@ -37,6 +37,8 @@ pub struct Site {
     pub failed: u32,
     /// The logs that are open in it, or in what follows it.
     pub open: u32,
+    /// Of a regular one: whether a log lacks a message that was sent there and that another one delivers.
+    pub is_lacking: bool,
     before: Beside,
     behind: Beside,
 }
@@ -58,6 +60,7 @@ impl Site {
             left: 0,
             failed: 0,
             open: 0,
+            is_lacking: false,
             before: Beside::None,
             behind: Beside::None,
         }
@@ -223,9 +226,14 @@ impl Sites {
         }
     }
 
+    /// Returns the index of a configuration, which is most often that of the one found before it, or the next.
+    pub fn find(&self, conf: &ConfId, before: usize) -> usize {
+        site_near(self.list.as_slice(), conf, before)
+    }
+
     /// Returns the logs that change to a configuration.
     pub fn logs_at(&self, conf: &ConfId) -> u32 {
-        let site = self.list.get(site_near(self.list.as_slice(), conf, 0));
+        let site = self.list.get(self.find(conf, 0));
         site.map_or(0, |site| site.logs)
     }
 

@@ -63,11 +63,12 @@ impl Sent {
     }
 
     /// Finds the logs that lack it.
-    fn find_lacking(&mut self, sites: &Sites) {
-        if let Some(site) = sites.list.get(self.site as usize)
+    fn find_lacking(&mut self, sites: &mut Sites) {
+        if let Some(site) = sites.list.get_mut(self.site as usize)
             && self.delivered != 0
         {
             self.lacking = site.logs & !self.delivered;
+            site.is_lacking |= self.lacking != 0;
         }
     }
 }
@@ -115,8 +116,8 @@ impl Traffic {
         for one in traffic.sent.iter_mut() {
             one.find_lacking(sites);
         }
-        if traffic.sent.iter().any(|one| one.lacking != 0) {
-            traffic.find_gaps(alloc, run, names)?;
+        if sites.list.iter().any(|site| site.is_lacking) {
+            traffic.find_gaps(alloc, run, sites, names)?;
         }
         Ok(traffic)
     }
@@ -177,11 +178,17 @@ impl Traffic {
     }
 
     /// Finds the deliveries past a message that another process lacks.
-    fn find_gaps(&mut self, alloc: Global, run: &Run, names: &Messages) -> Result<(), AllocError> {
+    fn find_gaps(
+        &mut self,
+        alloc: Global,
+        run: &Run,
+        sites: &Sites,
+        names: &Messages,
+    ) -> Result<(), AllocError> {
         // For each message, the logs that deliver it and lack one that a log delivers before it.
         let mut lacking = vec![in alloc; 0u32; self.sent.len()]?;
         for log in run.logs.as_slice() {
-            self.find_gaps_of(log.entries.as_slice(), names, &mut lacking);
+            self.find_gaps_of(log.entries.as_slice(), sites, names, &mut lacking);
         }
         for logs in &lacking {
             self.lacking = self.lacking.saturating_add(logs.count_ones());
@@ -189,13 +196,26 @@ impl Traffic {
         Ok(())
     }
 
-    fn find_gaps_of(&mut self, entries: &[Entry], names: &Messages, lacking: &mut Vec<u32>) {
+    fn find_gaps_of(
+        &mut self,
+        entries: &[Entry],
+        sites: &Sites,
+        names: &Messages,
+        lacking: &mut Vec<u32>,
+    ) {
         let mut lacked = 0u32;
+        let mut is_lacking = false;
+        let mut near = 0;
         let mut finder = names.finder();
         for entry in entries {
             match entry {
-                Entry::Conf(conf, _) if is_regular(conf) => lacked = 0,
-                Entry::Deliver(message, _) => {
+                Entry::Conf(conf, _) if is_regular(conf) => {
+                    lacked = 0;
+                    near = sites.find(conf, near);
+                    let site = sites.list.get(near);
+                    is_lacking = site.is_some_and(|site| site.is_lacking);
+                }
+                Entry::Deliver(message, _) if is_lacking => {
                     let Some(index) = finder.find(message) else {
                         continue;
                     };

@@ -1,6 +1,6 @@
 //! Why a delivery has no send (docs/SPECIFICATIONS.md, "1 Basic delivery"): where the message was sent, or which logs may lack the send.
 use crate::event::place_name;
-use crate::lookup::{change_before, change_in, log_of, place_of, send_in};
+use crate::lookup::{change_before, change_in, last_change, log_of, place_of, send_in};
 use std::alloc::{AllocError, Global};
 use totem_evs::{Ending, Log, Run};
 use totem_names::{ConfId, MsgId, Place};
@@ -54,7 +54,7 @@ fn cut_off(
     log: &Log,
     conf: &ConfId,
 ) -> Result<Option<String>, AllocError> {
-    let (Some((last, _)), Some(place)) = (change_before(log, u32::MAX), last_of(log)) else {
+    let (Some((last, _)), Some(place)) = (last_change(log), last_of(log)) else {
         return Ok(None);
     };
     let came = change_in(log, conf).is_some();
