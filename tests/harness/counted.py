@@ -46,7 +46,7 @@ class Counting:
         failures = [entry.configuration for entry in log.entries if entry.word == 'fail']
         if com.intersection(failures):
             return 'failed'
-        is_there = set(self.changes(log)[-1:]) <= com
+        is_there = any(it in com for it in self.changes(log)[-1:])
         return 'open' if is_there and not failures and log.ending != 'quiet' else None
 
     def members(self, configuration):

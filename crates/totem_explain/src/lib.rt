@@ -4,7 +4,7 @@
 //! What may be relied on:
 //! - `explain_no` explains each fault that it is given, once and in their order (its contract compares the faults).
 //! - `line_of` returns the entry's line as in the run's text (`entry_text`, totem_evs specs/RunText).
-//! - `Size::of` counts the entries of each kind as they are (`IsSizeOf`, specs/Sizes).
+//! - `Counts::of` counts the entries of each kind as they are (`IsSizeOf`, specs/Sizes).
 //! - Every call returns, whatever run, faults and lists it is given, and fails only as out of memory: `explain_yes`,
 //!   `explain_message`, `explain_views`, `explain_refusal`, `rule_of`.
 //!
