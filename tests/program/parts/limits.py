@@ -30,6 +30,11 @@ def certified(lines):
     return of_logs(MOST_LOGS) + 'end\ntotem-cert 1\n' + lines
 
 
+def numbered(count):
+    """A run without logs with a certificate of one line, which has this many numbers."""
+    return 'totem-run 1\nend\ntotem-cert 1\npos 1%s\nend\n' % (' 7' * count)
+
+
 SEND = 'send r4.1 a 4.1#4000000\n'
 FAILURE = 'fail r4.1\n'
 POSITIONS = ''.join('pos %d %d\n' % (number, number) for number in range(1, MOST_LOGS + 1))
@@ -52,6 +57,8 @@ REFUSED = (
     ('a 33rd member', partial(members, *range(1, 33), ''), 'audit', 'run refused: 8 TooMany'),
     ('a 33rd line of positions', partial(certified, POSITIONS + 'pos 5 1\n'), 'check', 'certificate unreadable: 6 TooMany'),
     ('32 lines of positions, cut', partial(certified, POSITIONS), 'check', 'certificate unreadable: 5 Truncated'),
+    ('a million numbers', partial(numbered, MOST_ENTRIES), 'check', 'certificate refused: 1 Count'),
+    ('a million numbers and one', partial(numbered, MOST_ENTRIES + 1), 'check', 'certificate unreadable: 6 TooMany'),
 )
 # What the text is, the text, the arguments, and the statuses that it may have.
 TAKEN = (

@@ -33,6 +33,17 @@ BROKEN = (
     ('totem-script 1\nring 4.1 %s 33\nend\n' % OF_32, '9 TooMany', 2),
     ('totem-script 2\nring 4.1 %s\ncrash 7\nreturn 7\nend\n' % OF_32, '9 TooMany', 4),
 )
+# Lines whose first unexpected byte is where a number is expected, or takes one out of its range.
+NO_NUMBERS = ('run 0', 'run 01', 'run 100001', 'run ', 'timer 65536', 'return x', 'cut /', 'cut 1 / / 2', 'cut 1 x', 'ring x.1 1',
+              'ring 4.x y', 'ring 4294967296.1 1', 'ring 4.1  1', 'ring 4.1 1 a', 'submit x a y')
+LETTERS = 'submit 1 a 0123456789abcdef0123456789abcdef0123456789abcdef0123456789abcdef'
+# Lines whose first unexpected byte is any other one; the end of the line is such a byte too.
+NO_WORDS = ('', 'rings 4.1 1', ' ring 4.1 1', 'ring 4 1', 'ring 4.1', 'ring 4.1.2 1', 'run', 'run 1x', 'run 1 ', 'timer 1 2', 'return',
+            'return 1 2', 'join 1', 'end ', 'cut', 'cut 1 /', 'cut 1 /2', 'submit 1', 'submit 1 a', 'submit 1 b x', 'submit 1 a X',
+            'submit 1 a x y', 'repeats 1', LETTERS + 'g')
+# Lines at the limits of what a script may have, and a process that returns so often that it has 32 lives, or one more.
+TAKEN = (LETTERS, 'submit 2 s a1z', 'run 100000', 'cut 2 1', 'cut 2 / 1')
+RETURNS = 'crash 1\nreturn 1\n' * 31
 # 65,532 bytes: `join` in each line from the third on, 13,100 times.
 LONG = 'totem-script 1\nring 4.1 1 2 345\n' + 'join\n' * 13100
 
@@ -58,6 +69,14 @@ def scripts():
     """What is wrong with a script, and the limits of one."""
     for script, kind, line in BROKEN:
         yield '%s in line %d: %r' % (kind, line, script[:60]), partial(try_broken, script, kind, line)
+    for fault, lines in (('3 Number', NO_NUMBERS), ('2 Word', NO_WORDS)):
+        for line in lines:
+            yield '%s: %r' % (fault, line), partial(try_broken, 'totem-script 2\nring 4.1 1 2\n%s\nend\n' % line, fault, 3)
+    for line in TAKEN:
+        yield 'taken: %r' % line, partial(try_logs, 'totem-script 2\nring 4.1 1 2\n%s\nend\n' % line, 2)
+    yield '32 lives', partial(try_logs, 'totem-script 2\nring 4.1 1\n%send\n' % RETURNS, 32)
+    yield '33 lives', partial(
+        try_broken, 'totem-script 2\nring 4.1 1\n%scrash 1\nreturn 1\nend\n' % RETURNS, '9 TooMany', 66)
     yield '65,536 bytes and one', partial(try_broken, LONG + 'end\nx', '7 End', 13104)
     yield '65,537 bytes', partial(try_broken, LONG + 'join\n', '9 TooMany', 13103)
     yield '65,536 bytes', partial(try_logs, LONG + 'end\n', 3)
