@@ -1,10 +1,10 @@
 //! The audit and the first passes over small runs, with the faults that docs/SPECIFICATIONS.md gives for them.
-use crate::values::{is_told, push_faults};
+use crate::values::{is_told, push_faults, run_of};
 use std::alloc::{AllocError, Global};
-use totem_audit::{Verdict, Workers, audit, early};
-use totem_evs::{Run, read_run};
+use std::test::Fail;
+use totem_audit::{Verdict, audit, early};
+use totem_evs::Run;
 use totem_judge_run::{deliveries_are_once, sends_are_once};
-use totem_names::FromRead;
 use totem_pass_ab::pass_a_and_b;
 use totem_table::{Changes, Row as Numbers, Table, numbers_tell_confs, numbers_tell_messages};
 
@@ -89,14 +89,10 @@ fn push_judged(
     }
 }
 
-/// Returns what is reported of the run of these logs in this version, or why there is no such run.
-fn told(alloc: Global, version: u8, logs: &str, judge: &Judge) -> Result<String, AllocError> {
-    let bytes = format!(in alloc; "totem-run {version}\n{logs}end\n")?;
+/// Returns what is reported of the run of these logs in this version.
+fn told(alloc: Global, version: u8, logs: &str, judge: &Judge) -> Result<String, Fail> {
     let mut text = String::new(alloc);
-    match read_run(alloc, &mut FromRead::new(bytes.as_bytes())) {
-        Ok(run) => push_judged(alloc, &mut text, run, judge)?,
-        Err(fault) => text.push_str(fault.name())?,
-    }
+    push_judged(alloc, &mut text, run_of(alloc, version, logs)?, judge)?;
     Ok(text)
 }
 
@@ -108,7 +104,7 @@ struct Row {
     told: &'static str,
 }
 
-const RUNS: [Row; 15] = [
+const RUNS: [Row; 13] = [
     Row {
         rule: "changes stand where the logs have them",
         logs: "log 1\nconf r4.1 1 2\nsend r4.1 a 4.1#1\nconf t8.1/1 1\nconf r8.1 1\nfail r8.1\nfailed\n\
@@ -169,18 +165,6 @@ const RUNS: [Row; 15] = [
         told: "",
     },
     Row {
-        rule: "sent twice",
-        logs: "log 1\nconf r4.1 1\nsend r4.1 a 4.1#1\nsend r4.1 a 4.1#1\nconf t8.1/1 1\ndlv t8.1/1 4.1#1\nopen\n",
-        judge: Judge::Passes,
-        told: "; 1.4 1@2 1@3",
-    },
-    Row {
-        rule: "not sent",
-        logs: "log 1\nconf r4.1 1\nconf t8.1/1 1\ndlv t8.1/1 4.1#1\nopen\n",
-        judge: Judge::Passes,
-        told: "; 1.3 1@3",
-    },
-    Row {
         rule: "the first three passes stop at the first with a fault: pass A before pass B",
         logs: "log 1\nconf r4.1 1\nsend r4.1 a 4.1#1\nsend r4.1 a 4.1#1\ndlv r4.1 4.1#2\nopen\n",
         judge: Judge::Early,
@@ -209,7 +193,7 @@ const RUNS: [Row; 15] = [
 
 /// Small runs get the verdicts, faults and tables that are worked out by hand.
 #[test]
-fn small_runs_are_judged(rt: HostRuntime) -> Result<(), AllocError> {
+fn small_runs_are_judged(rt: HostRuntime) -> Result<(), Fail> {
     for row in &RUNS {
         let told = told(rt.alloc(), 1, row.logs, &row.judge)?;
         is_told(&rt, &told, row.told, row.rule);
@@ -217,7 +201,7 @@ fn small_runs_are_judged(rt: HostRuntime) -> Result<(), AllocError> {
     Ok(())
 }
 
-const QUIET_RUNS: [Row; 5] = [
+const QUIET_RUNS: [Row; 4] = [
     Row {
         rule: "all are quiet where all are",
         logs: "log 1:1\nconf r4.1 1:1 2:1\nsend r4.1 s 4.1#1\ndlv r4.1 4.1#1\nquiet\n\
@@ -231,13 +215,6 @@ const QUIET_RUNS: [Row; 5] = [
         log 2:1\nconf r4.1 1:1 2:1\nquiet\n",
         judge: Judge::AuditOfFirst,
         told: "no; 2.1 1@1",
-    },
-    Row {
-        rule: "a quiet log beside an open one that may still come",
-        logs: "log 1:1\nconf r4.1 1:1 2:1\nquiet\n\
-        log 2:1\nconf r1.2 2:1\nopen\n",
-        judge: Judge::Audit,
-        told: "yes",
     },
     Row {
         rule: "2.1 is asked whatever 2.2 says, and listed before it",
@@ -256,22 +233,10 @@ const QUIET_RUNS: [Row; 5] = [
 
 /// Runs of version 3 with quiet logs get the verdicts and faults that are worked out by hand.
 #[test]
-fn runs_with_quiet_logs_are_judged(rt: HostRuntime) -> Result<(), AllocError> {
+fn runs_with_quiet_logs_are_judged(rt: HostRuntime) -> Result<(), Fail> {
     for row in &QUIET_RUNS {
         let told = told(rt.alloc(), 3, row.logs, &row.judge)?;
         is_told(&rt, &told, row.told, row.rule);
     }
     Ok(())
-}
-
-fn counted(count: u32) -> Option<u32> {
-    Some(Workers::new(count)?.count())
-}
-
-/// `Workers` takes 1 to 64 and nothing else.
-#[test]
-fn workers_are_1_to_64(rt: HostRuntime) {
-    let counts = [counted(0), counted(1), counted(64), counted(65)];
-    assert_eq!(rt; counts, [None, Some(1), Some(64), None]);
-    assert_eq!(rt; Workers::new(1), Some(Workers::one()));
 }

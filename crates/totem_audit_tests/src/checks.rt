@@ -1,9 +1,10 @@
 //! Runs and certificates from their texts, and what the checker reports of them.
-use crate::values::{is_told, push_fault};
+use crate::values::{is_told, push_fault, run_of};
 use std::alloc::{AllocError, Global};
+use std::test::Fail;
 use totem_cert::{Certificate, read_cert};
 use totem_check::{Accepted, CertificateFault, CheckFault, certified, check};
-use totem_evs::{Run, read_run};
+use totem_evs::Run;
 use totem_names::FromRead;
 
 /// Adds what certification reports, and the check's fault for it.
@@ -71,28 +72,17 @@ fn push_both(
     push_checked(alloc, text, &check(alloc, run, certificate))
 }
 
-/// Adds what is reported of the run with a certificate of these lines.
-fn push_with_lines(
-    alloc: Global,
-    text: &mut String,
-    run: &Run,
-    lines: &str,
-) -> Result<(), AllocError> {
-    let bytes = format!(in alloc; "totem-cert 1\n{lines}end\n")?;
-    match read_cert(alloc, &mut FromRead::new(bytes.as_bytes())) {
-        Ok(certificate) => push_both(alloc, text, run, &certificate),
-        Err(fault) => text.push_str(fault.name()),
-    }
+/// Returns the certificate of these lines.
+fn certificate_of(alloc: Global, lines: &str) -> Result<Certificate, Fail> {
+    let text = format!(in alloc; "totem-cert 1\n{lines}end\n")?;
+    Ok(read_cert(alloc, &mut FromRead::new(text.as_bytes()))?)
 }
 
 /// Returns what certification and the check report of the run of these logs with a certificate of these lines.
-fn told(alloc: Global, logs: &str, lines: &str) -> Result<String, AllocError> {
-    let bytes = format!(in alloc; "totem-run 1\n{logs}end\n")?;
+fn told(alloc: Global, logs: &str, lines: &str) -> Result<String, Fail> {
+    let run = run_of(alloc, 1, logs)?;
     let mut text = String::new(alloc);
-    match read_run(alloc, &mut FromRead::new(bytes.as_bytes())) {
-        Ok(run) => push_with_lines(alloc, &mut text, &run, lines)?,
-        Err(fault) => text.push_str(fault.name())?,
-    }
+    push_both(alloc, &mut text, &run, &certificate_of(alloc, lines)?)?;
     Ok(text)
 }
 
@@ -105,9 +95,6 @@ const TWO_SENDS: &str = "log 1\nconf r4.1 1 2\nsend r4.1 a 4.1#1\nopen\n\
 const LEFT_OPEN: &str = "log 1\nconf r4.1 1 2\nsend r4.1 a 4.1#1\nfail r4.1\nfailed\n\
     log 2\nconf r4.1 1 2\nopen\n";
 
-const NOT_SENT: &str = "log 1\nconf r4.1 1 2\nopen\n\
-    log 2\nconf r4.1 1 2\ndlv r4.1 4.1#1\nopen\n";
-
 const NO_TURNS: &str = "log 1\nconf r4.1 1 2\nconf r8.1 1 2\nopen\n\
     log 2\nconf r4.1 1 2\nopen\n";
 
@@ -119,23 +106,11 @@ struct Row {
     told: &'static str,
 }
 
-const ROWS: [Row; 17] = [
+const ROWS: [Row; 10] = [
     Row {
         about: "a certificate",
         logs: DELIVERED,
         lines: "pos 1 1 2 3\npos 2 1 3\n",
-        told: "certified; yes",
-    },
-    Row {
-        about: "a certificate with gaps",
-        logs: DELIVERED,
-        lines: "pos 1 5 70 4294967295\npos 2 5 4294967295\n",
-        told: "certified; yes",
-    },
-    Row {
-        about: "no logs and no lines",
-        logs: "",
-        lines: "",
         told: "certified; yes",
     },
     Row {
@@ -151,24 +126,6 @@ const ROWS: [Row; 17] = [
         told: "Count Count 1; Count 1",
     },
     Row {
-        about: "a line of another process",
-        logs: DELIVERED,
-        lines: "pos 1 1 2 3\npos 3 1 3\n",
-        told: "Count Count 1; Count 1",
-    },
-    Row {
-        about: "no lines",
-        logs: DELIVERED,
-        lines: "",
-        told: "Count Count 1; Count 1",
-    },
-    Row {
-        about: "numbers that fall",
-        logs: DELIVERED,
-        lines: "pos 1 1 4 3\npos 2 1 3\n",
-        told: "NotRising NotRising 2; NotRising 2",
-    },
-    Row {
         about: "two numbers alike in a line",
         logs: DELIVERED,
         lines: "pos 1 1 2 2\npos 2 1 2\n",
@@ -179,12 +136,6 @@ const ROWS: [Row; 17] = [
         logs: DELIVERED,
         lines: "pos 1 1 2 3\npos 2 1 2\n",
         told: "SendNotBefore SendNotBefore 3; SendNotBefore 3",
-    },
-    Row {
-        about: "twin deliveries with two numbers",
-        logs: DELIVERED,
-        lines: "pos 1 1 2 3\npos 2 1 4\n",
-        told: "TwinsDiffer TwinsDiffer 4; TwinsDiffer 4",
     },
     Row {
         about: "twin changes with two numbers",
@@ -211,12 +162,6 @@ const ROWS: [Row; 17] = [
         told: "TwinsDiffer TwinsDiffer 4; TwinsDiffer 4",
     },
     Row {
-        about: "a delivery of what was not sent",
-        logs: NOT_SENT,
-        lines: "pos 1 1\npos 2 1 2\n",
-        told: "certified; Broken 6: 1.3 2@2",
-    },
-    Row {
         about: "a regular configuration after a regular one",
         logs: NO_TURNS,
         lines: "pos 1 1 2\npos 2 1\n",
@@ -226,40 +171,10 @@ const ROWS: [Row; 17] = [
 
 /// The checker accepts or refuses small runs with their certificates as worked out by hand.
 #[test]
-fn runs_are_checked_with_certificates(rt: HostRuntime) -> Result<(), AllocError> {
+fn runs_are_checked_with_certificates(rt: HostRuntime) -> Result<(), Fail> {
     for row in &ROWS {
         let told = told(rt.alloc(), row.logs, row.lines)?;
         is_told(&rt, &told, row.told, row.about);
     }
-    Ok(())
-}
-
-/// Returns all faults but that of a broken run.
-fn faults_told(alloc: Global) -> Result<String, AllocError> {
-    let faults = [
-        CheckFault::Count,
-        CheckFault::NotRising,
-        CheckFault::SendNotBefore,
-        CheckFault::TwinsDiffer,
-        CheckFault::SharedPosition,
-        CheckFault::Memory,
-    ];
-    let mut text = String::new(alloc);
-    for fault in &faults {
-        push_check_fault(&mut text, fault)?;
-        text.push_str("; ")?;
-    }
-    write!(text, "{}", CheckFault::SharedPosition)?;
-    Ok(text)
-}
-
-/// The faults of a check have their numbers, names and texts.
-#[test]
-fn faults_have_numbers_names_and_texts(rt: HostRuntime) -> Result<(), AllocError> {
-    let wanted =
-        "Count 1; NotRising 2; SendNotBefore 3; TwinsDiffer 4; SharedPosition 5; Memory 7; \
-        two entries of different classes share a number";
-    let told = faults_told(rt.alloc())?;
-    is_told(&rt, &told, wanted, "faults");
     Ok(())
 }

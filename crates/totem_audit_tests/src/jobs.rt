@@ -1,17 +1,17 @@
 //! The jobs of an audit as separate calls, and what is collected of their results.
 ghost use Rattle.totem_evs.specs.Answers.{MeetsPasses};
 
-use crate::values::{is_told, push_faults};
+use crate::values::{is_told, push_faults, run_of};
 use std::alloc::{AllocError, Global};
+use std::test::Fail;
 use totem_audit::{JobResult, collect, do_job, early};
-use totem_evs::{Fault, Run, read_run};
-use totem_names::FromRead;
+use totem_evs::{Fault, Run};
 
-/// Returns a run with 40 configurations of one process, in each of which it sends and delivers a message, but doesn't deliver in the
+/// Returns the log of one process with 40 configurations, in each of which it sends and delivers a message, but doesn't deliver in the
 /// 2nd, the 20th and the 39th.
 fn forty_configurations(alloc: Global) -> Result<String, AllocError> {
     let mut text = String::new(alloc);
-    text.push_str("totem-run 1\nlog 1\nconf r4.1 1\n")?;
+    text.push_str("log 1\nconf r4.1 1\n")?;
     for k in 1..41u32 {
         let (ring, next) = (4 * k, 4 * k + 4);
         write!(text, "send r{ring}.1 a {ring}.1#1\n")?;
@@ -22,23 +22,13 @@ fn forty_configurations(alloc: Global) -> Result<String, AllocError> {
             write!(text, "conf t{next}.1/1 1\nconf r{next}.1 1\n")?;
         }
     }
-    text.push_str("open\nend\n")?;
+    text.push_str("open\n")?;
     Ok(text)
 }
 
 /// Process 1 moves on without delivering what it sent.
-const SENT_AND_MOVED_ON: &str = "totem-run 1
-log 1
-conf r4.1 1 2
-send r4.1 a 4.1#1
-conf t8.1/1 1
-conf r8.1 1
-open
-log 2
-conf r4.1 1 2
-open
-end
-";
+const SENT_AND_MOVED_ON: &str =
+    "log 1\nconf r4.1 1 2\nsend r4.1 a 4.1#1\nconf t8.1/1 1\nconf r8.1 1\nopen\nlog 2\nconf r4.1 1 2\nopen\n";
 
 /// Adds a job's number, the number of logs of its run, and whether 3 is broken in its configuration; or that there is no such job.
 fn push_job(alloc: Global, text: &mut String, run: &Run, number: u32) -> Result<(), AllocError>
@@ -82,22 +72,17 @@ fn push_jobs(alloc: Global, text: &mut String, run: &Run, other: &Run) -> Result
     push_faults(text, &collected(alloc, run, other)?)
 }
 
-fn told(alloc: Global) -> Result<String, AllocError> {
+fn told(alloc: Global) -> Result<String, Fail> {
+    let run = run_of(alloc, 1, &forty_configurations(alloc)?)?;
+    let other = run_of(alloc, 1, SENT_AND_MOVED_ON)?;
     let mut text = String::new(alloc);
-    let many = forty_configurations(alloc)?;
-    match (
-        read_run(alloc, &mut FromRead::new(many.as_bytes())),
-        read_run(alloc, &mut FromRead::new(SENT_AND_MOVED_ON.as_bytes())),
-    ) {
-        (Ok(run), Ok(other)) => push_jobs(alloc, &mut text, &run, &other)?,
-        _ => text.push_str("no run")?,
-    }
+    push_jobs(alloc, &mut text, &run, &other)?;
     Ok(text)
 }
 
 /// All faults of a run are collected, even if results are of another run, repeated or missing.
 #[test]
-fn whatever_results_are_collected(rt: HostRuntime) -> Result<(), AllocError> {
+fn whatever_results_are_collected(rt: HostRuntime) -> Result<(), Fail> {
     is_told(
         &rt,
         &told(rt.alloc())?,

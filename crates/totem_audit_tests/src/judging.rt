@@ -1,12 +1,12 @@
 //! The judge and its rules: they report what a good run leaves open, and don't say yes to a run that breaks a specification.
-use crate::values::is_told;
+use crate::values::{is_told, run_of};
 use std::alloc::{AllocError, Global};
-use std::process::Abort;
+use std::test::Fail;
 use totem_cert::{Order, positions};
-use totem_evs::{Pending, Run, read_run};
+use totem_evs::{Pending, Run};
 use totem_judge::observe;
-use totem_judge_run::{in_order, walk_to_change};
-use totem_names::{FromRead, MsgId, Proc, ProcId, RingId};
+use totem_judge_run::in_order;
+use totem_names::{MsgId, Proc, ProcId, RingId};
 
 /// Adds the answer of the judge and its rules on a run, with the certificate that the auditor makes of it.
 fn push_judged(alloc: Global, text: &mut String, run: &Run) -> Result<(), AllocError> {
@@ -20,14 +20,10 @@ fn push_judged(alloc: Global, text: &mut String, run: &Run) -> Result<(), AllocE
     }
 }
 
-/// Returns their answer on a run of these logs, or why there is no such run.
-fn told(alloc: Global, logs: &str) -> Result<String, AllocError> {
-    let bytes = format!(in alloc; "totem-run 1\n{logs}end\n")?;
+/// Returns their answer on a run of these logs.
+fn told(alloc: Global, logs: &str) -> Result<String, Fail> {
     let mut text = String::new(alloc);
-    match read_run(alloc, &mut FromRead::new(bytes.as_bytes())) {
-        Ok(run) => push_judged(alloc, &mut text, &run)?,
-        Err(fault) => text.push_str(fault.name())?,
-    }
+    push_judged(alloc, &mut text, &run_of(alloc, 1, logs)?)?;
     Ok(text)
 }
 
@@ -102,7 +98,7 @@ const RUNS: [Row; 10] = [
 
 /// The rules say yes to good runs, with what they leave open, and no to the others.
 #[test]
-fn the_judge_says_yes_to_good_runs_alone(rt: HostRuntime) -> Result<(), AllocError> {
+fn the_judge_says_yes_to_good_runs_alone(rt: HostRuntime) -> Result<(), Fail> {
     for row in &RUNS {
         let told = told(rt.alloc(), row.logs)?;
         is_told(&rt, &told, row.told, row.shows);
@@ -135,29 +131,5 @@ fn a_list_is_put_in_order(rt: HostRuntime) -> Result<(), AllocError> {
     assert_eq!(rt; list.len(), 3);
     assert!(rt; list.first() == Some(&pending(first, 4)));
     assert!(rt; list.last() == Some(&pending(second, 4)));
-    Ok(())
-}
-
-/// Returns the index at which the next change is found from each entry of these logs.
-fn next_changes(alloc: Global, logs: &str) -> Result<String, AllocError> {
-    let bytes = format!(in alloc; "totem-run 1\n{logs}end\n")?;
-    let mut text = String::new(alloc);
-    if let Ok(run) = read_run(alloc, &mut FromRead::new(bytes.as_bytes())) {
-        for log in run.logs.as_slice() {
-            let entries = log.entries.as_slice();
-            for at in 0..entries.len() {
-                write!(text, "{} ", walk_to_change(entries, at))?;
-            }
-        }
-    }
-    Ok(text)
-}
-
-/// The next change of configuration is found from each entry of a log.
-#[test]
-fn the_next_change_is_found(rt: HostRuntime) -> Result<(), AllocError> {
-    let logs = "log 1\nconf r4.1 1\nsend r4.1 a 4.1#1\nconf t8.1/1 1\nopen\n";
-    let told = next_changes(rt.alloc(), logs)?;
-    is_told(&rt, &told, "2 2 3 ", "the next change");
     Ok(())
 }

@@ -1,4 +1,4 @@
-//! Tests of names, runs, certificates, the rules and the judge, passes, audits and checks, by public calls.
+//! Tests of runs, certificates, the rules and the judge, passes, audits and checks, by public calls.
 #![tactic(auto)]
 
 #[cfg(test)]
@@ -6,21 +6,11 @@ mod audits;
 #[cfg(test)]
 mod checks;
 #[cfg(test)]
+mod faults;
+#[cfg(test)]
 mod jobs;
 #[cfg(test)]
 mod judging;
-#[cfg(test)]
-mod lists;
-#[cfg(test)]
-mod lives;
-#[cfg(test)]
-mod logs;
-#[cfg(test)]
-mod made_lists;
-#[cfg(test)]
-mod made_texts;
-#[cfg(test)]
-mod names;
 #[cfg(test)]
 mod orders;
 #[cfg(test)]
@@ -37,3 +27,5 @@ mod texts;
 mod values;
 #[cfg(test)]
 mod walks;
+#[cfg(test)]
+mod writing;

@@ -1,10 +1,10 @@
 //! The rules of a whole run: each says yes to a good run and no to one that breaks it.
-use crate::values::is_told;
+use crate::values::{is_told, run_of};
 use std::alloc::{AllocError, Global};
+use std::test::Fail;
 use totem_cert::{Order, positions};
-use totem_evs::{Run, read_run};
+use totem_evs::Run;
 use totem_judge_run::{end_together, first_misplaced, is_orderly, sends_are_once, waiting};
-use totem_names::FromRead;
 
 /// Adds whether a run that has a certificate is orderly, and the number of waiting processes if it is.
 fn push_waiting(alloc: Global, text: &mut String, run: &Run) -> Result<(), AllocError> {
@@ -35,14 +35,10 @@ fn push_broken(alloc: Global, text: &mut String, run: &Run) -> Result<(), AllocE
     push_waiting(alloc, text, run)
 }
 
-/// Returns what the rules say about a run of these logs, or why there is no such run.
-fn told(alloc: Global, logs: &str) -> Result<String, AllocError> {
-    let bytes = format!(in alloc; "totem-run 3\n{logs}end\n")?;
+/// Returns what the rules say about a run of these logs.
+fn told(alloc: Global, logs: &str) -> Result<String, Fail> {
     let mut text = String::new(alloc);
-    match read_run(alloc, &mut FromRead::new(bytes.as_bytes())) {
-        Ok(run) => push_broken(alloc, &mut text, &run)?,
-        Err(fault) => text.push_str(fault.name())?,
-    }
+    push_broken(alloc, &mut text, &run_of(alloc, 3, logs)?)?;
     Ok(text)
 }
 
@@ -111,7 +107,7 @@ const RUNS: [Row; 10] = [
 
 /// The rules of a whole run accept orderly runs, and the broken rule refuses each other run.
 #[test]
-fn rules_say_which_runs_are_orderly(rt: HostRuntime) -> Result<(), AllocError> {
+fn rules_say_which_runs_are_orderly(rt: HostRuntime) -> Result<(), Fail> {
     for row in &RUNS {
         let told = told(rt.alloc(), row.logs)?;
         is_told(&rt, &told, row.told, row.rule);

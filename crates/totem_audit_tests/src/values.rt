@@ -1,13 +1,20 @@
-//! Values as text, and the comparison of a text with the expected one.
-use std::alloc::AllocError;
+//! Runs from their logs, values as text, and the comparison of a text with the expected one.
+use std::alloc::{AllocError, Global};
 use std::process::Abort;
+use std::test::Fail;
 use totem_cert::Line;
-use totem_evs::{Ending, Fault, Log};
-use totem_names::{Proc, WrittenProc};
+use totem_evs::{Ending, Fault, Log, Run, read_run};
+use totem_names::{FromRead, Proc, WrittenProc};
 
 /// Stops the test if the text is not the expected one.
 pub fn is_told(rt: &impl Abort, told: &str, wanted: &str, about: &str) {
     assert_eq!(rt; told, wanted, "{about}");
+}
+
+/// Returns the run of these logs in this version.
+pub fn run_of(alloc: Global, version: u8, logs: &str) -> Result<Run, Fail> {
+    let text = format!(in alloc; "totem-run {version}\n{logs}end\n")?;
+    Ok(read_run(alloc, &mut FromRead::new(text.as_bytes()))?)
 }
 
 /// Returns a process as the first version that can write it does.
@@ -15,30 +22,14 @@ fn named(proc: Proc) -> WrittenProc {
     proc.written(proc.first_version())
 }
 
-fn push_numbers(text: &mut String, numbers: &[u32]) -> Result<(), AllocError> {
-    for number in numbers {
-        write!(text, " {number}")?;
-    }
-    text.push_str(";")
-}
-
-/// Adds each line of a certificate with `;` after it, or only the count of its numbers if they are more than twenty.
+/// Adds each line of a certificate with `;` after it.
 pub fn push_lines(text: &mut String, lines: &[Line]) -> Result<(), AllocError> {
     for line in lines {
         write!(text, "pos {}", named(line.proc))?;
-        let numbers = line.numbers.as_slice();
-        match numbers.len() {
-            0..=20 => push_numbers(text, numbers)?,
-            count => write!(text, " {count} numbers;")?,
+        for number in line.numbers.as_slice() {
+            write!(text, " {number}")?;
         }
-    }
-    Ok(())
-}
-
-/// Adds each process with a space in front.
-pub fn push_processes(text: &mut String, procs: &[Proc]) -> Result<(), AllocError> {
-    for proc in procs {
-        write!(text, " {}", named(*proc))?;
+        text.push_str(";")?;
     }
     Ok(())
 }

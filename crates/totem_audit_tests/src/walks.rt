@@ -3,11 +3,12 @@ ghost use Rattle.std.specs.Prelude.{IfOk};
 ghost use Rattle.std.specs.Bool.{OnTrue};
 ghost use Rattle.totem_evs.specs.Answers.{MeetsPasses};
 
-use crate::values::is_told;
+use crate::values::{is_told, run_of};
 use std::alloc::{AllocError, Global};
+use std::test::Fail;
 use totem_audit::{Stitch, early, walk};
-use totem_evs::{Run, read_run};
-use totem_names::{FromRead, Proc, ProcId, RingId};
+use totem_evs::Run;
+use totem_names::{Proc, ProcId, RingId};
 use totem_walk::{causality_is_of_pairs, entries_of};
 
 /// The logs of a run: these lines, or those of a run in which 1 sends this many messages and 1 and 2 deliver them.
@@ -38,15 +39,13 @@ fn push_messages(text: &mut String, count: u32) -> Result<(), AllocError> {
     text.push_str("open\n")
 }
 
-/// Returns the text of a run.
+/// Returns the text of the logs of a run.
 fn text_of(alloc: Global, logs: &Logs) -> Result<String, AllocError> {
     let mut text = String::new(alloc);
-    text.push_str("totem-run 1\n")?;
     match logs {
         Logs::Lines(lines) => text.push_str(lines)?,
         Logs::Messages(count) => push_messages(&mut text, *count)?,
     }
-    text.push_str("end\n")?;
     Ok(text)
 }
 
@@ -80,14 +79,11 @@ fn push_walk(alloc: Global, text: &mut String, run: &Run, row: &Row) -> Result<(
     Ok(())
 }
 
-/// Returns what the walk reports of the run, or why there is no such run.
-fn told(alloc: Global, row: &Row) -> Result<String, AllocError> {
-    let bytes = text_of(alloc, &row.logs)?;
+/// Returns what the walk reports of the run.
+fn told(alloc: Global, row: &Row) -> Result<String, Fail> {
+    let run = run_of(alloc, 1, &text_of(alloc, &row.logs)?)?;
     let mut text = String::new(alloc);
-    match read_run(alloc, &mut FromRead::new(bytes.as_bytes())) {
-        Ok(run) => push_walk(alloc, &mut text, &run, row)?,
-        Err(fault) => text.push_str(fault.name())?,
-    }
+    push_walk(alloc, &mut text, &run, row)?;
     Ok(text)
 }
 
@@ -188,7 +184,7 @@ const ROWS: [Row; 9] = [
 
 /// A walk says whether causal delivery holds between two processes, and reads no more entries than it may.
 #[test]
-fn walks_tell_whether_order_is_kept(rt: HostRuntime) -> Result<(), AllocError> {
+fn walks_tell_whether_order_is_kept(rt: HostRuntime) -> Result<(), Fail> {
     causality_is_of_pairs();
     for row in &ROWS {
         let told = told(rt.alloc(), row)?;
