@@ -153,7 +153,7 @@ fn gathers_with_32(alloc: Global, me: u16) -> Result<String, AllocError> {
     let base = set(alloc, "1-32")?;
     match gather(alloc, me, &base) {
         Ok(gathering) => format!(in alloc; "{} gathers", gathering.me()),
-        Err(fault) => format!(in alloc; "{fault:?}"),
+        Err(fault) => fault.to_string(alloc),
     }
 }
 
@@ -249,32 +249,12 @@ fn agree_at_last(alloc: Global, all: &Processes) -> Result<String, AllocError> {
     agreed_at_last(alloc, &mut gathers, all)
 }
 
-const FAULTS: [MemberFault; 4] = [
-    MemberFault::Stranger,
-    MemberFault::Stale,
-    MemberFault::Range,
-    MemberFault::Memory,
-];
-
-/// Returns the numbers and the names of all faults.
-fn faults(alloc: Global) -> Result<String, AllocError> {
-    let mut text = String::new(alloc);
-    for fault in &FAULTS {
-        push(
-            &mut text,
-            format!(in alloc; "{} {} ", fault.number(), fault.name()),
-        )?;
-    }
-    Ok(text)
-}
-
 /// Returns what the words ask. The first word says what is done: a process gathers with 1 to 32, process 32 gets another's Join,
 /// some processes agree on one set, or 1 gathers with the processes that the word lists and does what the other words say.
 pub(crate) fn told(alloc: Global, words: &str) -> Result<String, AllocError> {
     let (first, rest) = words.split_once(' ').unwrap_or((words, ""));
     let number = rest.parse::<u16>().unwrap_or(0);
     match first {
-        "faults" => faults(alloc),
         "gathers" => gathers_with_32(alloc, number),
         "heard" => heard_by_32(alloc, number),
         "agree" => {
@@ -285,8 +265,7 @@ pub(crate) fn told(alloc: Global, words: &str) -> Result<String, AllocError> {
     }
 }
 
-pub(crate) const GATHERINGS: [Case; 11] = [
-    ("faults", "1 Stranger 2 Stale 3 Range 4 Memory "),
+pub(crate) const GATHERINGS: [Case; 10] = [
     // a gathering begins with the process itself
     (
         "2 me seq known failed gathered consensus join",
@@ -309,7 +288,7 @@ pub(crate) const GATHERINGS: [Case; 11] = [
         "2 4:2:1,2,7:1 again known failed members 4:2:1,2:",
         "again yes; known 1 2; failed 2; members 1; Stranger",
     ),
-    ("gathers 33", "TooMany"),
+    ("gathers 33", "there are more than 32 processes"),
     ("heard 33", "Stranger"),
     ("agree 1-2", "2 agree"),
     ("agree 1-3", "3 agree"),

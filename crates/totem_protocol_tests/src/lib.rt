@@ -14,15 +14,9 @@ mod names;
 #[cfg(test)]
 mod nodes;
 #[cfg(test)]
-mod old_rings;
-#[cfg(test)]
 mod packet_bytes;
 #[cfg(test)]
-mod packet_parts;
-#[cfg(test)]
 mod packet_sizes;
-#[cfg(test)]
-mod process_sets;
 #[cfg(test)]
 mod recoveries;
 #[cfg(test)]
@@ -31,10 +25,6 @@ mod recovery_samples;
 mod ring_samples;
 #[cfg(test)]
 mod rings;
-#[cfg(test)]
-mod schedules;
-#[cfg(test)]
-mod script_lines;
 #[cfg(test)]
 mod simulations;
 #[cfg(test)]

@@ -1,12 +1,11 @@
-//! Processes of a run and services: how they are made, read, written and ordered, and their laws.
+//! Processes of a run and services: how they are read and written.
 use crate::names::{Text, memory, message, told};
 use crate::streams::push_bytes;
-use crate::values::{Case, proc};
+use crate::values::Case;
 use std::alloc::{AllocError, Global};
 use totem_names::{
-    Failed, Pieces, Place, Proc, ReadError, Service, Sink, ToWrite, Version, life_fits, life_order,
-    life_spelling, read_place, read_process, read_process_to, read_service, service_spelling,
-    write_message, write_number, write_process,
+    Failed, Pieces, Place, Proc, ReadError, Service, Sink, ToWrite, Version, read_place,
+    read_process, read_process_to, read_service, write_message, write_number, write_process,
 };
 
 fn version(number: &str) -> Version {
@@ -17,50 +16,19 @@ fn version(number: &str) -> Version {
     }
 }
 
-fn small(digits: &str) -> u16 {
-    digits.parse::<u16>().unwrap_or(0)
-}
-
-/// Returns a process, its parts, its rank and its next life, as text.
-fn parts(alloc: Global, process: Proc) -> Result<String, AllocError> {
-    let (id, life, rank) = (process.id(), process.life(), process.rank());
-    match process.next_life() {
-        None => format!(in alloc; "{process} {id} {life} {rank} none"),
-        Some(next) => format!(in alloc; "{process} {id} {life} {rank} {next}"),
-    }
-}
-
-/// Makes the process of a text such as `2 3`, if there is one.
-fn made(alloc: Global, text: &str) -> Result<String, AllocError> {
-    let (id, life) = text.split_once(' ').unwrap_or((text, ""));
-    match Proc::new(proc(small(id)), small(life)) {
-        None => String::from_str(alloc, "none"),
-        Some(process) => parts(alloc, process),
-    }
-}
-
-/// Returns the first life of an identifier, and its third.
-fn first_and_third(alloc: Global, id: u16) -> Result<String, AllocError> {
-    let (first, third) = (Proc::first(proc(id)), Proc::of(proc(id), 3));
-    format!(in alloc; "{first} {third}")
-}
-
-fn write_lives(alloc: Global) -> Result<String, AllocError> {
-    let (one, two, three) = (Version::One, Version::Two, Version::Three);
-    format!(in alloc; "{} {} {}", one.lives(), two.lives(), three.lives())
-}
-
 /// Reads a process with the byte after it.
 fn process_then(alloc: Global, version: Version, text: &mut Text) -> Result<String, ReadError> {
     let (process, byte) = read_process(text, version)?;
     Ok(format!(in alloc; "{process} {byte}")?)
 }
 
-/// Returns whether the first process is below the second, and the second below the first.
-fn relation(alloc: Global, text: &mut Text) -> Result<String, ReadError> {
-    let left = read_process_to(text, Version::Two, b' ')?;
-    let right = read_process_to(text, Version::Two, b' ')?;
-    Ok(format!(in alloc; "{} {}", left.is_below(&right), right.is_below(&left))?)
+/// Reads a process of version 2, and returns its next life, if it has one.
+fn next_life(alloc: Global, text: &mut Text) -> Result<String, ReadError> {
+    let process = read_process_to(text, Version::Two, b' ')?;
+    match process.next_life() {
+        None => Ok(String::from_str(alloc, "none")?),
+        Some(next) => Ok(format!(in alloc; "{next}")?),
+    }
 }
 
 /// Puts the first line of a log, both services, and the log's entry 5.
@@ -128,26 +96,17 @@ fn versioned(alloc: Global, kind: &str, words: &str) -> Result<String, AllocErro
     }
 }
 
-/// Returns what is made, written or read, as text.
+/// Returns what is written or read, as text.
 pub(crate) fn answer(alloc: Global, words: &str) -> Result<String, AllocError> {
     let (kind, text) = words.split_once(' ').unwrap_or((words, ""));
     match kind {
-        "new" => made(alloc, text),
-        "lives" => first_and_third(alloc, small(text)),
-        "versions" => write_lives(alloc),
-        "below" => told(alloc, relation(alloc, &mut memory(text))),
+        "next" => told(alloc, next_life(alloc, &mut memory(text))),
         "service" => told(alloc, read_service(&mut memory(text))),
         _ => versioned(alloc, kind, text),
     }
 }
 
-pub(crate) const LIVES: [Case; 37] = [
-    ("new 2 0", "none"),
-    ("new 1 1", "1:1 1 1 65537 1:2"),
-    ("new 2 65535", "2:65535 2 65535 196607 none"),
-    ("new 65535 65535", "65535:65535 65535 65535 4294967295 none"),
-    ("lives 2", "2:1 2:3"),
-    ("versions", "false true true"),
+pub(crate) const LIVES: [Case; 30] = [
     // version 1 writes no lives
     ("to 1 2 ", "2:1"),
     ("to 1 2:1 ", "Text(Word)"),
@@ -176,21 +135,10 @@ pub(crate) const LIVES: [Case; 37] = [
     ("to 2 1:65536 ", "Text(Number)"),
     ("to 2 1:1:", "Text(Word)"),
     ("to 2 1:1", "Text(Truncated)"),
-    // whether the first is below the second, and the second below the first
-    ("below 1:2 2:1 ", "true false"),
-    ("below 1:2 1:3 ", "true false"),
-    ("below 1:2 1:2 ", "false false"),
+    ("next 2:65534 ", "2:65535"),
+    ("next 2:65535 ", "none"),
     ("service a", "a"),
     ("service s", "s"),
     ("service x", "Text(Word)"),
     ("service ", "Text(Truncated)"),
 ];
-
-/// The laws of lives and services can be called.
-#[test]
-fn laws_of_lives_are_called() {
-    service_spelling();
-    life_spelling();
-    life_fits(Version::Two, Proc::first(proc(1)));
-    life_order();
-}

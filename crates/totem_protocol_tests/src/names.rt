@@ -1,13 +1,11 @@
-//! Names: how they are made, written, read and ordered, and their laws.
+//! Names: how they are written and read.
 use crate::values::{Case, proc};
 use std::alloc::{AllocError, Global};
 use std::fmt::Display;
 use totem_names::{
-    ConfId, Failed, FromRead, MsgId, Place, Proc, ProcId, ReadError, RingId, Service, TextFault,
-    Version, conf_fits, conf_order, conf_spelling, message_fits, message_order, message_spelling,
-    next, number, number_spelling, number_to, number_within, place_fits, place_order,
-    place_spelling, process_fits, process_spelling, read_conf, read_message, read_place, read_proc,
-    read_ring, ring_fits, ring_order, ring_spelling, word,
+    ConfId, Failed, FromRead, MsgId, Place, Proc, ReadError, RingId, Service, TextFault, Version,
+    next, number, number_to, number_within, read_conf, read_message, read_place, read_proc,
+    read_ring, word,
 };
 
 pub(crate) fn ring(seq: u32, rep: u16) -> RingId {
@@ -35,30 +33,6 @@ pub(crate) fn place(number: u16, at: u32) -> Place {
     Place {
         proc: Proc::first(proc(number)),
         at: at.max(1),
-    }
-}
-
-/// Returns the name as it is written, if there is one.
-fn written<T: Display + Copy>(alloc: Global, name: Option<T>) -> Result<String, AllocError> {
-    match name {
-        None => String::from_str(alloc, "none"),
-        Some(name) => format!(in alloc; "{name}"),
-    }
-}
-
-/// Makes the name of a text such as `ring 4`, of this kind and with this number.
-fn made(alloc: Global, text: &str) -> Result<String, AllocError> {
-    let (kind, digits) = text.split_once(' ').unwrap_or((text, ""));
-    let number = digits.parse::<u32>().unwrap_or(0);
-    match kind {
-        "number" => {
-            let process = proc(u16::try_from(number).unwrap_or(0));
-            format!(in alloc; "{}", process.number())
-        }
-        "process" => written(alloc, ProcId::new(u16::try_from(number).unwrap_or(0))),
-        "ring" => written(alloc, RingId::new(number, proc(65535))),
-        "message" => written(alloc, MsgId::new(ring(4, 1), number)),
-        _ => written(alloc, Place::new(Proc::first(proc(1)), number)),
     }
 }
 
@@ -105,42 +79,6 @@ fn read_words(alloc: Global, text: &mut Text) -> Result<String, ReadError> {
     Ok(format!(in alloc; "{behind} {number} {end} {:?}", next(text))?)
 }
 
-/// Returns whether the first configuration is equal to the second, and whether it is below.
-fn conf_relation(alloc: Global, text: &mut Text) -> Result<String, ReadError> {
-    let left = read_conf(text, b' ')?;
-    let right = read_conf(text, b' ')?;
-    Ok(format!(in alloc; "{} {}", left.is(&right), left.is_below(&right))?)
-}
-
-/// Returns whether the first ring is below the second, and the second below the first.
-fn ring_relation(alloc: Global, text: &mut Text) -> Result<String, ReadError> {
-    let left = read_ring(text, b' ')?;
-    let right = read_ring(text, b' ')?;
-    Ok(format!(in alloc; "{} {}", left.is_below(&right), right.is_below(&left))?)
-}
-
-/// Returns whether the first message is below the second.
-fn message_relation(text: &mut Text) -> Result<bool, ReadError> {
-    let left = read_message(text, b' ')?;
-    Ok(left.is_below(&read_message(text, b' ')?))
-}
-
-/// Returns whether the first place is below the second.
-fn place_relation(text: &mut Text) -> Result<bool, ReadError> {
-    let left = read_place(text, Version::Two, b' ')?;
-    Ok(left.is_below(&read_place(text, Version::Two, b' ')?))
-}
-
-/// Returns how two names of this kind are related.
-fn related(alloc: Global, kind: &str, text: &mut Text) -> Result<String, AllocError> {
-    match kind {
-        "rings" => told(alloc, ring_relation(alloc, text)),
-        "messages" => told(alloc, message_relation(text)),
-        "places" => told(alloc, place_relation(text)),
-        _ => told(alloc, conf_relation(alloc, text)),
-    }
-}
-
 /// Returns what is read of this kind.
 fn read(alloc: Global, kind: &str, text: &mut Text) -> Result<String, AllocError> {
     match kind {
@@ -150,8 +88,7 @@ fn read(alloc: Global, kind: &str, text: &mut Text) -> Result<String, AllocError
         "message" => told(alloc, read_message(text, b' ')),
         "place" => told(alloc, read_place(text, Version::One, b' ')),
         "to_nine" => told(alloc, number_to(text, 9, b',')),
-        "words" => told(alloc, read_words(alloc, text)),
-        _ => related(alloc, kind, text),
+        _ => told(alloc, read_words(alloc, text)),
     }
 }
 
@@ -163,11 +100,10 @@ fn within(alloc: Global, text: &str) -> Result<String, AllocError> {
     }
 }
 
-/// Returns what is made, written or read, as text.
+/// Returns what is written or read, as text.
 pub(crate) fn answer(alloc: Global, words: &str) -> Result<String, AllocError> {
     let (kind, text) = words.split_once(' ').unwrap_or((words, ""));
     match kind {
-        "new" => made(alloc, text),
         "names" => written_names(alloc),
         "services" => written_words(alloc),
         "within" => within(alloc, text),
@@ -175,22 +111,7 @@ pub(crate) fn answer(alloc: Global, words: &str) -> Result<String, AllocError> {
     }
 }
 
-pub(crate) const NAMES: [Case; 66] = [
-    // a process gives its number
-    ("new number 1", "1"),
-    ("new number 7", "7"),
-    ("new number 65535", "65535"),
-    // no name has the number 0
-    ("new process 0", "none"),
-    ("new process 1", "1"),
-    ("new process 7", "7"),
-    ("new process 65535", "65535"),
-    ("new ring 0", "none"),
-    ("new ring 4294967295", "4294967295.65535"),
-    ("new message 0", "none"),
-    ("new message 4294967295", "4.1#4294967295"),
-    ("new place 0", "none"),
-    ("new place 4294967295", "1@4294967295"),
+pub(crate) const NAMES: [Case; 41] = [
     ("names", "4.1 r4.1 t8.1/12 4.1#7 2@50"),
     (
         "services",
@@ -240,38 +161,4 @@ pub(crate) const NAMES: [Case; 66] = [
     ("place 1@4294967296 ", "Text(Number)"),
     ("place 1@01 ", "Text(Number)"),
     ("place 1@", "Text(Truncated)"),
-    // whether the first configuration is equal to the second, and whether it is below
-    ("confs t4.1/1 t4.1/1 ", "true false"),
-    ("confs r4.1 r4.1 ", "true false"),
-    ("confs t4.1/1 t4.1/2 ", "false true"),
-    ("confs t4.1/1 r4.1 ", "false false"),
-    ("confs r4.1 t4.1/1 ", "false true"),
-    ("confs t4.1/2 t4.1/1 ", "false false"),
-    // whether the first is below the second; for rings also whether the second is below the first
-    ("rings 4.9 5.1 ", "true false"),
-    ("messages 4.9#3 4.9#4 ", "true"),
-    ("messages 4.9#3 5.1#1 ", "true"),
-    ("messages 4.9#3 4.9#3 ", "false"),
-    ("places 1:1@9 2:1@1 ", "true"),
-    ("places 1:2@9 1:2@9 ", "false"),
 ];
-
-/// The laws of names can be called.
-#[test]
-fn laws_are_called() {
-    number_spelling();
-    process_spelling();
-    ring_spelling();
-    conf_spelling();
-    message_spelling();
-    place_spelling();
-    process_fits(proc(1));
-    ring_fits(&ring(4, 1));
-    conf_fits(&transitional(8, 1, 12));
-    message_fits(&message(4, 1, 7));
-    place_fits(Version::One, &place(2, 50));
-    ring_order();
-    conf_order();
-    message_order();
-    place_order();
-}

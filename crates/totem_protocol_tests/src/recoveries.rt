@@ -8,9 +8,7 @@ use std::fmt::Display;
 use std::test::Fail;
 use totem_names::{ProcId, Service};
 use totem_packets::{Body, Packet};
-use totem_recover::{
-    Recovery, a_member_owes_itself, is_ready, members_leave_alike, owed_are_delivered,
-};
+use totem_recover::{Recovery, is_ready};
 use totem_ring::{RingOut, RingState, To};
 
 /// Returns ring 4.1 of 1, 2 and 3 as 1 sees it after it has taken these messages.
@@ -251,11 +249,3 @@ pub(crate) const RECOVERIES: [Case; 14] = [
     ("may_begin 1:4.1 1:4.1:0:0:2-32", "true"),
     ("may_begin 1:4.1 1:4.1:0:0:2-33", "false"),
 ];
-
-/// The laws of recoveries can be called, and do nothing.
-#[test]
-fn laws_do_nothing() {
-    members_leave_alike();
-    owed_are_delivered();
-    a_member_owes_itself();
-}

@@ -1,8 +1,8 @@
 //! Rings, tested by direct calls.
 use crate::ring_samples::life;
-use crate::values::{Case, is_shown_alike, proc, push, ring};
+use crate::values::{Case, is_shown_alike, proc, ring};
 use std::alloc::{AllocError, Global};
-use totem_ring::{Act, RingFault, RingMove, first_token, one_order};
+use totem_ring::{Act, RingFault, RingMove, first_token};
 
 /// Returns the move in which member 1 takes the first token.
 fn step(alloc: Global) -> RingMove {
@@ -27,42 +27,18 @@ fn copied_move(alloc: Global) -> Result<String, AllocError> {
     format!(in alloc; "{is_copied}")
 }
 
-const FAULTS: [RingFault; 5] = [
-    RingFault::OtherRing,
-    RingFault::Repeat,
-    RingFault::Range,
-    RingFault::Full,
-    RingFault::Memory,
-];
-
-/// Returns the text of one fault, the name of out of memory, and the numbers and names of all faults.
-fn faults(alloc: Global) -> Result<String, AllocError> {
-    let memory = RingFault::from(AllocError).name();
-    let mut text = format!(in alloc; "{}; {memory}; ", RingFault::Full)?;
-    for fault in &FAULTS {
-        push(
-            &mut text,
-            format!(in alloc; "{} {}; ", fault.number(), fault.name()),
-        )?;
-    }
-    Ok(text)
-}
-
 /// Returns what the members of ring 4.1 do.
 pub(crate) fn told(alloc: Global, words: &str) -> Result<String, AllocError> {
     let (members, steps) = words.split_once(' ').unwrap_or((words, ""));
     match members {
-        "faults" => faults(alloc),
+        "full" => RingFault::Full.to_string(alloc),
         "move" => copied_move(alloc),
         _ => life(alloc, members, steps),
     }
 }
 
 pub(crate) const RINGS: [Case; 16] = [
-    (
-        "faults",
-        "16 messages are already waiting; Memory; 1 OtherRing; 2 Repeat; 3 Range; 4 Full; 5 Memory; ",
-    ),
+    ("full", "16 messages are already waiting"),
     ("move", "true"),
     // a new member knows its ring, and the first token has no numbers
     ("1-3 who:2 fresh", "who:2 2 4 1 3; fresh 1 0 0 0 0; "),
@@ -120,9 +96,3 @@ pub(crate) const RINGS: [Case; 16] = [
     // the seventeenth body is refused
     ("1-2 fill:1 mark:1 waiting:1", "mark:1 Full; waiting:1 16; "),
 ];
-
-/// The law of rings can be called, and does nothing.
-#[test]
-fn laws_do_nothing() {
-    one_order();
-}

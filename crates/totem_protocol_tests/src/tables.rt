@@ -4,17 +4,11 @@ use crate::exchanges::EXCHANGES;
 use crate::gatherings::GATHERINGS;
 use crate::lives::LIVES;
 use crate::names::NAMES;
-use crate::old_rings::OLD_RINGS;
-use crate::packet_parts::PARTS;
-use crate::process_sets::SETS;
 use crate::recoveries::RECOVERIES;
 use crate::rings::RINGS;
 use crate::streams::STREAMS;
 use crate::values::Case;
-use crate::{
-    commits, exchanges, gatherings, lives, names, old_rings, packet_parts, process_sets,
-    recoveries, rings, streams,
-};
+use crate::{commits, exchanges, gatherings, lives, names, recoveries, rings, streams};
 use std::alloc::Global;
 use std::test::Fail;
 
@@ -24,9 +18,6 @@ fn told(alloc: Global, topic: &str, words: &str) -> Result<String, Fail> {
         "names" => Ok(names::answer(alloc, words)?),
         "lives" => Ok(lives::answer(alloc, words)?),
         "streams" => Ok(streams::told(alloc, words)?),
-        "parts" => Ok(packet_parts::told(alloc, words)?),
-        "sets" => Ok(process_sets::told(alloc, words)?),
-        "old rings" => Ok(old_rings::told(alloc, words)?),
         "rings" => Ok(rings::told(alloc, words)?),
         "gatherings" => Ok(gatherings::told(alloc, words)?),
         "commits" => Ok(commits::told(alloc, words)?),
@@ -35,13 +26,10 @@ fn told(alloc: Global, topic: &str, words: &str) -> Result<String, Fail> {
     }
 }
 
-const TABLES: [(&str, &[Case]); 11] = [
+const TABLES: [(&str, &[Case]); 8] = [
     ("names", &NAMES),
     ("lives", &LIVES),
     ("streams", &STREAMS),
-    ("parts", &PARTS),
-    ("sets", &SETS),
-    ("old rings", &OLD_RINGS),
     ("rings", &RINGS),
     ("gatherings", &GATHERINGS),
     ("commits", &COMMITS),

@@ -3,7 +3,7 @@ use bytes::Bytes;
 use std::alloc::{AllocError, Global};
 use std::fmt::Debug;
 use totem_names::{Proc, ProcId, RingId, Service};
-use totem_packets::{Body, Payload, Processes, TooMany};
+use totem_packets::{Body, Payload, Processes};
 use totem_ring::RingState;
 
 /// Steps and questions in words, and their expected results.
@@ -91,18 +91,6 @@ pub fn push_procs(alloc: Global, text: &mut String, procs: &[ProcId]) -> Result<
         push_number(alloc, text, u64::from(proc.number()))?;
     }
     Ok(())
-}
-
-/// Adds the processes of a set, or why there is none.
-pub fn push_made(
-    alloc: Global,
-    text: &mut String,
-    made: Result<Processes, TooMany>,
-) -> Result<(), AllocError> {
-    match made {
-        Ok(processes) => push_procs(alloc, text, processes.as_slice()),
-        Err(fault) => push(text, format!(in alloc; " {fault}")),
-    }
 }
 
 /// Adds these processes, each with its life if it is not the first.
