@@ -3,10 +3,7 @@ use std::alloc::{AllocError, Global};
 use std::fmt::Write;
 use std::test::Fail;
 use totem_names::{ProcId, Service};
-use totem_net::{
-    Address, Delivery, Drawn, Fate, Fates, Plan, Quiet, Start, Turns, Ways, copies_wait_their_time,
-    fate, no_copy_is_lost,
-};
+use totem_net::{Address, Delivery, Drawn, Fate, Fates, Plan, Turns, Ways, fate};
 
 fn of_three(fate: Fate) -> (u8, u8, u8) {
     (fate.copies, fate.first, fate.second)
@@ -91,21 +88,6 @@ fn carried(
     Ok((text, counts(ways.drawn())))
 }
 
-fn parts_of(plan: Option<Plan>) -> Option<(u8, u8, u8)> {
-    let plan = plan?;
-    Some((plan.lose, plan.repeat, plan.hold))
-}
-
-/// The percentages of a plan are at most 100 together.
-#[test]
-fn a_plan_loses_and_repeats_a_hundred_at_most(rt: HostRuntime) {
-    let parts = [
-        parts_of(Plan::new(60, 41, 0)),
-        parts_of(Plan::new(60, 40, 255)),
-    ];
-    assert_eq!(rt; parts, [None, Some((60, 40, 255))]);
-}
-
 /// A random word gives a packet's fate under a plan.
 #[test]
 fn words_give_fates(rt: HostRuntime) -> Result<(), Fail> {
@@ -186,18 +168,4 @@ fn every_eighth_tick_brings_a_turn(rt: HostRuntime) {
     assert_eq!(rt; eighth(&mut turns), Some((1, Service::Safe)));
     assert!(rt; turns.are_over());
     assert_eq!(rt; eighth(&mut turns), None);
-}
-
-/// `Quiet` does nothing when a node begins.
-#[test]
-fn quiet_does_nothing() -> Result<(), Fail> {
-    Quiet.begun(node(1)?);
-    Ok(())
-}
-
-/// The laws of networks can be called, and take no arguments.
-#[test]
-fn laws_take_nothing() {
-    copies_wait_their_time();
-    no_copy_is_lost();
 }

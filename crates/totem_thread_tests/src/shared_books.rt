@@ -313,11 +313,3 @@ fn a_call_answers_as_a_book_does(rt: HostRuntime) -> Result<(), Fail> {
     );
     Ok(())
 }
-
-/// A book is not closed without a seat that made no call.
-#[test]
-fn a_seat_without_calls_has_to_be_back(rt: HostRuntime) -> Result<(), Fail> {
-    let text = text(&rt, rt.alloc(), 2, "submit")?;
-    assert_eq!(rt; text.as_str(), "| SeatMissing 1| 1| ");
-    Ok(())
-}

@@ -78,59 +78,94 @@ fn woven_without<R: Wait>(
     told(alloc, &books, ring(), &procs(alloc, members)?)
 }
 
-/// Books of a ring in which a lost message was sent again are woven.
-#[test]
-fn a_lost_message_that_is_sent_again(rt: HostRuntime) -> Result<(), Fail> {
-    let alloc = rt.alloc();
-    assert_eq!(rt;
-        woven_without(&rt, alloc, &LOST, 0, &[1, 2, 3])?.as_str(),
-        "10 steps | 1: 4.1#1 4.1#2 | 2: 4.1#1 4.1#2 | 3: 4.1#1 4.1#2"
-    );
-    Ok(())
+/// A ring on which the first token arrives twice, and a timer sends the token again.
+const REPEATED: [(u16, &str); 2] = [
+    (1, "submit first submit first timer"),
+    (2, "1.2.0 1.2.1 1.5.0"),
+];
+
+/// The lines of books, the process whose book is left out (0 if none is), the members, and the result.
+struct Row {
+    shows: &'static str,
+    lines: &'static [(u16, &'static str)],
+    left_out: usize,
+    members: &'static [u16],
+    told: &'static str,
 }
 
-/// A message that no book sent makes the call that received it an orphan.
-#[test]
-fn a_message_that_nobody_sent(rt: HostRuntime) -> Result<(), Fail> {
-    let alloc = rt.alloc();
-    assert_eq!(rt;
-        woven_without(&rt, alloc, &LOST, 2, &[1, 2, 3])?.as_str(),
-        "2 Orphan 1@3"
-    );
-    Ok(())
-}
+const ROWS: [Row; 9] = [
+    Row {
+        shows: "a lost message is sent again",
+        lines: &LOST,
+        left_out: 0,
+        members: &[1, 2, 3],
+        told: "10 steps | 1: 4.1#1 4.1#2 | 2: 4.1#1 4.1#2 | 3: 4.1#1 4.1#2",
+    },
+    Row {
+        shows: "no book sent a message: the call that received it is an orphan",
+        lines: &LOST,
+        left_out: 2,
+        members: &[1, 2, 3],
+        told: "2 Orphan 1@3",
+    },
+    Row {
+        shows: "no book sent the token that 2 took, and so 2 did not send what 3 took: the orphan of 2, the least of them, is named",
+        lines: &LOST,
+        left_out: 1,
+        members: &[1, 2, 3],
+        told: "2 Orphan 2@2",
+    },
+    Row {
+        shows: "a repeated token, and a refused call between two steps: numbers are given once",
+        lines: &REPEATED,
+        left_out: 0,
+        members: &[1, 2, 3],
+        told: "5 steps | 1: 4.1#1 | 2: 4.1#1 | 3:",
+    },
+    Row {
+        shows: "a book with steps on the ring belongs to no member",
+        lines: &LOST,
+        left_out: 0,
+        members: &[2, 3],
+        told: "1 Members",
+    },
+    Row {
+        shows: "no member",
+        lines: &[],
+        left_out: 0,
+        members: &[],
+        told: "1 Members",
+    },
+    Row {
+        shows: "members that do not ascend",
+        lines: &[],
+        left_out: 0,
+        members: &[1, 3, 2],
+        told: "1 Members",
+    },
+    Row {
+        shows: "a member twice",
+        lines: &[],
+        left_out: 0,
+        members: &[1, 1],
+        told: "1 Members",
+    },
+    Row {
+        shows: "members need no books",
+        lines: &[],
+        left_out: 0,
+        members: &[1, 2],
+        told: "0 steps | 1: | 2:",
+    },
+];
 
-/// A book with steps on the ring that belongs to no member is refused.
+/// Books are woven, or refused with their least orphan, or for their members.
 #[test]
-fn a_book_of_no_member(rt: HostRuntime) -> Result<(), Fail> {
-    let alloc = rt.alloc();
-    assert_eq!(rt;
-        woven_without(&rt, alloc, &LOST, 0, &[2, 3])?.as_str(),
-        "1 Members"
-    );
-    Ok(())
-}
-
-/// Members must be at least one, ascending and different; they need no books.
-#[test]
-fn members_that_are_none(rt: HostRuntime) -> Result<(), Fail> {
-    let alloc = rt.alloc();
-    assert_eq!(rt;
-        woven_without(&rt, alloc, &[], 0, &[])?.as_str(),
-        "1 Members"
-    );
-    assert_eq!(rt;
-        woven_without(&rt, alloc, &[], 0, &[1, 3, 2])?.as_str(),
-        "1 Members"
-    );
-    assert_eq!(rt;
-        woven_without(&rt, alloc, &[], 0, &[1, 1])?.as_str(),
-        "1 Members"
-    );
-    assert_eq!(rt;
-        woven_without(&rt, alloc, &[], 0, &[1, 2])?.as_str(),
-        "0 steps | 1: | 2:"
-    );
+fn books_are_woven_or_refused(rt: HostRuntime) -> Result<(), Fail> {
+    for row in &ROWS {
+        let told = woven_without(&rt, rt.alloc(), row.lines, row.left_out, row.members)?;
+        assert_eq!(rt; told.as_str(), row.told, "{}", row.shows);
+    }
     Ok(())
 }
 
@@ -152,34 +187,6 @@ fn thirty_two_members_at_most(rt: HostRuntime) -> Result<(), Fail> {
     let alloc = rt.alloc();
     assert_eq!(rt; members_up_to(alloc, 32)?.as_str(), "32");
     assert_eq!(rt; members_up_to(alloc, 33)?.as_str(), "Members");
-    Ok(())
-}
-
-/// The first token arrives twice, a timer sends the token again, and there is a refused call between two steps: they are woven
-/// all the same, and numbers are given once.
-#[test]
-fn a_repeated_token_gives_no_numbers(rt: HostRuntime) -> Result<(), Fail> {
-    let alloc = rt.alloc();
-    let lines = [
-        (1, "submit first submit first timer"),
-        (2, "1.2.0 1.2.1 1.5.0"),
-    ];
-    assert_eq!(rt;
-        woven_without(&rt, alloc, &lines, 0, &[1, 2, 3])?.as_str(),
-        "5 steps | 1: 4.1#1 | 2: 4.1#1 | 3:"
-    );
-    Ok(())
-}
-
-/// Without 1's book no member sent the token that 2 took, and so 2 did not send what 3 took: the orphan of 2, the least of
-/// them, is named.
-#[test]
-fn the_least_orphan_is_named(rt: HostRuntime) -> Result<(), Fail> {
-    let alloc = rt.alloc();
-    assert_eq!(rt;
-        woven_without(&rt, alloc, &LOST, 1, &[1, 2, 3])?.as_str(),
-        "2 Orphan 2@2"
-    );
     Ok(())
 }
 
