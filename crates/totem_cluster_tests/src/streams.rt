@@ -1,11 +1,7 @@
-//! Streams that fail.
+//! Calls from stream to stream, and their faults. `tests/hostile` lets each stream of the program fail.
 use crate::texts::{lines, words};
 use std::alloc::Global;
-use std::io;
-use std::process::Abort;
-use std::sync::Wait;
 use std::test::Fail;
-use std::thread::Threads;
 use totem_cluster::{
     IoFault, Outcome, Unmade, Workers, audit_io, check_io, follow_io, program, sim_io,
 };
@@ -18,50 +14,6 @@ const GOOD: &str =
     "totem-run 1;log 1;conf r4.1 1 2;send r4.1 a 4.1#1;dlv r4.1 4.1#1;open;log 2;conf r4.1 1 2;dlv r4.1 4.1#1;open;end;";
 
 const SCRIPT: &str = "totem-script 1;ring 4.1 1;end;";
-
-// The program reports that reading failed, and writes nothing, wherever the source fails.
-fn fails_to_read<T: Threads + Wait + Abort + Sync>(
-    rt: &T,
-    alloc: Global,
-    asked: &str,
-    text: &str,
-) -> Result<(), Fail> {
-    let text = lines(alloc, text)?;
-    let words = words(alloc, asked)?;
-    for at in 0..=text.len() as u64 {
-        let mut input = Fused::new(FromRead::new(text.as_bytes()), at);
-        let mut output = ToWrite::new(Vec::new(alloc));
-        let mut errors = ToWrite::new(Vec::new(alloc));
-        let status = program(
-            rt,
-            alloc,
-            words.as_slice(),
-            &mut input,
-            &mut output,
-            &mut errors,
-        );
-        assert_eq!(rt; status, 4, "status at {at}");
-        assert_eq!(rt; output.into_inner().len(), 0, "output at {at}");
-        assert_eq!(rt;
-            errors.into_inner().as_slice(),
-            b"totem: read failed\n".as_slice(),
-            "errors at {at}"
-        );
-    }
-    Ok(())
-}
-
-/// An audit whose input fails at any byte ends with status 4 and writes no report.
-#[test]
-fn a_read_that_fails_leaves_no_report(rt: HostRuntime) -> Result<(), Fail> {
-    fails_to_read(&rt, rt.alloc(), "audit", GOOD)
-}
-
-/// A simulation whose input fails at any byte ends with status 4 and writes no run.
-#[test]
-fn a_read_that_fails_leaves_no_run(rt: HostRuntime) -> Result<(), Fail> {
-    fails_to_read(&rt, rt.alloc(), "sim", SCRIPT)
-}
 
 /// A fault in an earlier line takes precedence over a failure of the source.
 #[test]
@@ -95,71 +47,27 @@ fn an_earlier_line_comes_before_a_failed_read(rt: HostRuntime) -> Result<(), Fai
     Ok(())
 }
 
-/// A script that never ends is refused as too long.
+/// A run in threads whose output fails ends with status 4, and the program says why.
 #[test]
-fn a_script_without_an_end_is_refused(rt: HostRuntime) -> Result<(), Fail> {
+fn a_run_that_cannot_be_written_is_told(rt: HostRuntime) -> Result<(), Fail> {
     let alloc = rt.alloc();
-    let mut input = FromRead::new(io::repeat(b'x'));
-    let mut output = ToWrite::new(Vec::new(alloc));
-    let fault = sim_io(alloc, &mut input, &mut output);
-    assert!(rt; matches!(fault, Err(IoFault::Script(ScriptFault::TooMany))));
-    assert_eq!(rt; output.into_inner().len(), 0);
-    Ok(())
-}
-
-/// The program reports a failure of its output with status 4.
-#[test]
-fn a_write_that_fails_is_told(rt: HostRuntime) -> Result<(), Fail> {
-    let alloc = rt.alloc();
-    for (asked, text) in [
-        ("audit", GOOD),
-        ("sim", SCRIPT),
-        ("run --ticks 8", ""),
-        ("--help", ""),
-    ] {
-        let words = words(alloc, asked)?;
-        let text = lines(alloc, text)?;
-        let mut input = FromRead::new(text.as_bytes());
-        let mut output = Fused::new(ToWrite::new(Vec::new(alloc)), 0);
-        let mut errors = ToWrite::new(Vec::new(alloc));
-        let status = program(
-            &rt,
-            alloc,
-            words.as_slice(),
-            &mut input,
-            &mut output,
-            &mut errors,
-        );
-        assert_eq!(rt; status, 4, "status of {asked}");
-        assert_eq!(rt;
-            errors.into_inner().as_slice(),
-            b"totem: write failed\n".as_slice(),
-            "errors of {asked}"
-        );
-    }
-    Ok(())
-}
-
-/// The program ignores a failure of standard error.
-#[test]
-fn a_failure_of_the_errors_is_passed_over(rt: HostRuntime) -> Result<(), Fail> {
-    let alloc = rt.alloc();
-    for (asked, status) in [("audit", 2u8), ("adit", 64u8)] {
-        let words = words(alloc, asked)?;
-        let mut input = FromRead::new(b"totem-run 3".as_slice());
-        let mut output = ToWrite::new(Vec::new(alloc));
-        let mut errors = Fused::new(ToWrite::new(Vec::new(alloc)), 0);
-        let found = program(
-            &rt,
-            alloc,
-            words.as_slice(),
-            &mut input,
-            &mut output,
-            &mut errors,
-        );
-        assert_eq!(rt; found, status, "status of {asked}");
-        assert_eq!(rt; output.into_inner().len(), 0, "output of {asked}");
-    }
+    let words = words(alloc, "run --ticks 8")?;
+    let mut input = FromRead::new(b"".as_slice());
+    let mut output = Fused::new(ToWrite::new(Vec::new(alloc)), 0);
+    let mut errors = ToWrite::new(Vec::new(alloc));
+    let status = program(
+        &rt,
+        alloc,
+        words.as_slice(),
+        &mut input,
+        &mut output,
+        &mut errors,
+    );
+    assert_eq!(rt; status, 4);
+    assert_eq!(rt;
+        errors.into_inner().as_slice(),
+        b"totem: write failed\n".as_slice()
+    );
     Ok(())
 }
 

@@ -7,7 +7,7 @@ use std::test::Fail;
 use std::thread;
 use std::thread::Threads;
 use std::time::{Clock, Duration};
-use totem_audit::{Gate, OpenGate, Verdict, Workers, audit, audit_with};
+use totem_audit::{Gate, Verdict, Workers, audit_with};
 use totem_evs::{Run, read_run};
 use totem_names::FromRead;
 
@@ -199,17 +199,5 @@ fn a_gate_is_told_of_each_job_once(rt: HostRuntime) -> Result<(), Fail> {
         assert_eq!(rt; *gate.begun.lock(&rt), [0, 1, 1, 1, 1, 1]);
         assert_eq!(rt; *gate.ended.lock(&rt), [0, 1, 1, 1, 1, 1]);
     }
-    Ok(())
-}
-
-/// An audit with an open gate has the same verdict as one without a gate.
-#[test]
-fn an_open_gate_changes_nothing(rt: HostRuntime) -> Result<(), Fail> {
-    let alloc = rt.alloc();
-    let run = run_of(alloc, TWO_JOBS)?;
-    let alone = audit(alloc, &run)?;
-    let shared = audit_with(&rt, alloc, &run, Workers::one(), &OpenGate)?;
-    assert!(rt; matches!(alone, Verdict::Yes { .. }));
-    assert!(rt; matches!(shared, Verdict::Yes { .. }));
     Ok(())
 }
