@@ -5,6 +5,19 @@ use std::test::Fail;
 use totem_names::{ConfId, Proc, ProcId, RingId};
 use totem_stitch::Stitch;
 
+/// Returns the first life of this process.
+fn process(number: u16) -> Proc {
+    Proc::first(ProcId::of(number.max(1)))
+}
+
+/// Returns the ring with this number and the representative 1.
+fn ring(seq: u32) -> RingId {
+    RingId {
+        seq: seq.max(1),
+        rep: ProcId::of(1),
+    }
+}
+
 /// Returns the transitional configuration before the regular one of this ring, with 1 as its least member.
 fn toward(next: RingId) -> ConfId {
     ConfId::Transitional {
@@ -37,10 +50,8 @@ fn push_ring(
 fn answers(alloc: Global, stitch: &Stitch) -> Result<String, AllocError> {
     let mut text = String::new(alloc);
     for number in [1, 2, 3, 4] {
-        let proc = Proc::first(ProcId::of(number));
         for seq in [4, 8, 12, 16] {
-            let rep = ProcId::of(1);
-            push_ring(&mut text, stitch, proc, RingId { seq, rep })?;
+            push_ring(&mut text, stitch, process(number), ring(seq))?;
         }
     }
     Ok(text)
