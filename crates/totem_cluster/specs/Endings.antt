@@ -9,6 +9,7 @@ use Rattle.totem_script.specs.declared.script_fault.ScriptFault.TheVariants as s
 use Rattle.totem_script.specs.ScriptFaults.{fault_number as script_fault_number, fault_name as script_fault_name}
 use Rattle.totem_threads.specs.Faults.{trouble_number, trouble_name}
 use Rattle.totem_verdicts.specs.declared.outcome.Outcome.{Outcome}
+use Rattle.totem_verdicts.specs.declared.words.Asked.{Asked}
 use Rattle.totem_verdicts.specs.Endings.{Tells, Judges, Answers, outcome_status, refusal_text, run_line, cert_line, check_line, memory_line, write_line, run_status, cert_status}
 use Rattle.totem_cluster.specs.declared.weaving.Weave.{Weave}
 use Rattle.totem_cluster.specs.declared.io_fault.IoFault.{IoFault}
@@ -69,8 +70,8 @@ pub data Points (fault : IoFault) (quiet said : Held) : ℕ → Type 0 where
 
 -- what was read, what was written to the output and the errors, and the status
 pub data Ends (old new : Seen) (was is quiet said : Held) : ℕ → Type 0 where
-  -- the arguments ask for a verdict
-  asked : (status : ℕ) → Judges old new was is quiet said status → Ends old new was is quiet said status
+  -- the arguments ask for a verdict; the contract does not say which arguments ask for which
+  asked : (what : Asked) (status : ℕ) → Judges what old new was is quiet said status → Ends old new was is quiet said status
   -- a script was read, and its run written
   simulated : (outcome : Outcome) → Simulates old new was is (Ok outcome) → said ≡ quiet → Ends old new was is quiet said (outcome_status outcome)
   -- it was not, and the fault is reported

@@ -1,8 +1,9 @@
 -- The endings of the calls that answer a command line: the status, and what is printed (docs/PROGRAM.md).
-use Rattle.std.specs.Prelude.{◌≡◌, ◌⊎◌, ℕ, ◌+◌, ◌%◌, ◌^◌, List, [], ◌++◌, codes, decimal, Bool, true, false, Ok, Err}
+use Rattle.std.specs.Prelude.{◌≡◌, ◌⊎◌, ℕ, ◌+◌, ◌%◌, ◌^◌, List, [], ◌++◌, codes, decimal, Bool, true, false, Some, None, Ok, Err}
 use Rattle.std.specs.declared.option.Option.{Option}
 use Rattle.clap.specs.declared.error.kind.ErrorKind.{ErrorKind}
 use Rattle.clap.specs.declared.error.kind.ErrorKind.TheVariants as kinds
+use Rattle.totem_names.specs.declared.message.MsgId.{MsgId}
 use Rattle.totem_names.specs.Processes.{process_text}
 use Rattle.totem_names.specs.Sources.{Seen}
 use Rattle.totem_names.specs.Writing.{Held, Wrote}
@@ -20,6 +21,8 @@ use Rattle.totem_verdicts.specs.declared.outcome.Outcome.TheVariants as outcomes
 use Rattle.totem_verdicts.specs.declared.verdict_fault.VerdictFault.{VerdictFault}
 use Rattle.totem_verdicts.specs.declared.verdict_fault.VerdictFault.TheVariants as faults
 use Rattle.totem_verdicts.specs.declared.report.Form.{Form}
+use Rattle.totem_verdicts.specs.declared.words.Asked.{Asked}
+use Rattle.totem_verdicts.specs.declared.words.Asked.TheVariants as asks
 use Rattle.totem_verdicts.specs.declared.explain_stream.Explanation.{Explanation}
 use Rattle.totem_verdicts.specs.AuditIo.{Reports, Audits}
 use Rattle.totem_verdicts.specs.CheckIo.{ChecksText}
@@ -135,31 +138,48 @@ pub data Concludes (outcome : Outcome) (quiet said : Held) : ℕ → Type 0 wher
   faultless : (text : List ℕ) → Tells quiet said text → Concludes outcome quiet said 6
   untested : (text : List ℕ) → outcome ≡ outcomes.Yes → Tells quiet said text → Concludes outcome quiet said 5
 
--- the arguments ask for a verdict: what was read, what was written to the output and the errors, and the status
-pub data Judges (old new : Seen) (was is quiet said : Held) : ℕ → Type 0 where
-  -- a run was judged, and its report written in some form
-  judged : (form : Form) (outcome : Outcome) → Reports form old new was is (Ok outcome) → said ≡ quiet → Judges old new was is quiet said (outcome_status outcome)
-  -- it was not, and the fault is reported
-  failed : (form : Form) (fault : VerdictFault) → Reports form old new was is (Err fault) → Tells quiet said (fault_line fault) → Judges old new was is quiet said (fault_status fault)
-  -- a run was judged and explained
-  explained : (explanation : Explanation) (outcome : Outcome) (status : ℕ) → ExplainsRun explanation old new was is (Ok outcome) → Concludes outcome quiet said status → Judges old new was is quiet said status
-  -- a run was read, and a message looked for in it
-  traced : (found : Bool) → TracesRun old new was is (Ok found) → said ≡ quiet → Judges old new was is quiet said (found_status found)
-  -- neither was done, and the fault is reported with an explanation
-  unexplained : (fault : VerdictFault) (status : ℕ) → Audits old new was is (Err fault) → Points fault quiet said status → Judges old new was is quiet said status
-  -- nothing was read: the arguments ask for a message by what is no name of one
-  misnamed : (text : List ℕ) → new ≡ old → is ≡ was → Tells quiet said text → Judges old new was is quiet said 64
-  -- a run was checked with its certificate
-  checked : (outcome : Outcome) → ChecksText old new was is (Ok outcome) → said ≡ quiet → Judges old new was is quiet said (outcome_status outcome)
-  -- it was not, and the fault is reported
-  unchecked : (fault : VerdictFault) → ChecksText old new was is (Err fault) → Tells quiet said (fault_line fault) → Judges old new was is quiet said (fault_status fault)
+-- a run was judged, and its report written in this form; or it was not, and the fault is reported
+pub data GivesReport (form : Form) (old new : Seen) (was is quiet said : Held) : ℕ → Type 0 where
+  judged : (outcome : Outcome) → Reports form old new was is (Ok outcome) → said ≡ quiet → GivesReport form old new was is quiet said (outcome_status outcome)
+  failed : (fault : VerdictFault) → Reports form old new was is (Err fault) → Tells quiet said (fault_line fault) → GivesReport form old new was is quiet said (fault_status fault)
+
+-- a run was judged and explained; or it was not, and the fault is reported with an explanation
+pub data GivesExplanation (explanation : Explanation) (old new : Seen) (was is quiet said : Held) : ℕ → Type 0 where
+  explained : (outcome : Outcome) (status : ℕ) → ExplainsRun explanation old new was is (Ok outcome) → Concludes outcome quiet said status → GivesExplanation explanation old new was is quiet said status
+  unexplained : (fault : VerdictFault) (status : ℕ) → Audits old new was is (Err fault) → Points fault quiet said status → GivesExplanation explanation old new was is quiet said status
+
+-- a run was read, and a message looked for in it; or it was not, and the fault is reported with an explanation
+pub data GivesTrace (old new : Seen) (was is quiet said : Held) : ℕ → Type 0 where
+  traced : (found : Bool) → TracesRun old new was is (Ok found) → said ≡ quiet → GivesTrace old new was is quiet said (found_status found)
+  untraced : (fault : VerdictFault) (status : ℕ) → Audits old new was is (Err fault) → Points fault quiet said status → GivesTrace old new was is quiet said status
+
+-- nothing was read, and a text about what is no name of a message is reported
+pub data Misnames (old new : Seen) (was is quiet said : Held) : ℕ → Type 0 where
+  misnamed : (text : List ℕ) → new ≡ old → is ≡ was → Tells quiet said text → Misnames old new was is quiet said 64
+
+-- a run was checked with its certificate; or it was not, and the fault is reported
+pub data GivesCheck (old new : Seen) (was is quiet said : Held) : ℕ → Type 0 where
+  checked : (outcome : Outcome) → ChecksText old new was is (Ok outcome) → said ≡ quiet → GivesCheck old new was is quiet said (outcome_status outcome)
+  unchecked : (fault : VerdictFault) → ChecksText old new was is (Err fault) → Tells quiet said (fault_line fault) → GivesCheck old new was is quiet said (fault_status fault)
+
+-- a message was looked for, if what the arguments have is the name of one
+abbrev pub Traces : Option MsgId → Seen → Seen → Held → Held → Held → Held → ℕ → Type 0
+Traces (Some message) = GivesTrace
+Traces None = Misnames
+
+-- what was asked for was done: what was read, what was written to the output and the errors, and the status
+abbrev pub Judges : Asked → Seen → Seen → Held → Held → Held → Held → ℕ → Type 0
+Judges (asks.Audit workers form) = GivesReport form
+Judges (asks.Message message columns) = Traces message
+Judges (asks.Explain workers explanation required) = GivesExplanation explanation
+Judges (asks.Check checker) = GivesCheck
 
 -- ---- the auditor
 
 -- what was read, what was written to the output and the errors, and the status
 pub data Ends (old new : Seen) (was is quiet said : Held) : ℕ → Type 0 where
-  -- the arguments ask for a verdict
-  asked : (status : ℕ) → Judges old new was is quiet said status → Ends old new was is quiet said status
+  -- the arguments ask for a verdict; the contract does not say which arguments ask for which
+  asked : (what : Asked) (status : ℕ) → Judges what old new was is quiet said status → Ends old new was is quiet said status
   -- nothing was read, and the arguments are answered; the contract says neither with which text nor for which arguments
   answered : (kind : ErrorKind) (status : ℕ) → new ≡ old → Answers kind was is quiet said status → Ends old new was is quiet said status
   -- nothing was read, and the auditor reports that it makes no runs

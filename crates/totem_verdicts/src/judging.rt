@@ -2,7 +2,7 @@
 ghost use Rattle.std.specs.Prelude.{◌≡◌, []};
 ghost use Rattle.totem_names.specs.Sources.{seen};
 ghost use Rattle.totem_names.specs.Writing.{held};
-ghost use Rattle.totem_verdicts.specs.Endings.{Concludes, Judges, Points, bare};
+ghost use Rattle.totem_verdicts.specs.Endings.{Concludes, GivesExplanation, GivesTrace, Judges, Points, Traces, bare};
 
 use crate::audit_stream::report_io;
 use crate::check_stream::check_by;
@@ -81,7 +81,7 @@ fn explained<T: Threads + Wait + Sync, R: Source, W: Sink, E: Sink>(
     output: &mut W,
     errors: &mut E,
 ) -> u8
-    ensures { Judges (seen R.remaining R.failures input.old) (seen R.remaining R.failures input.new)
+    ensures { GivesExplanation explanation (seen R.remaining R.failures input.old) (seen R.remaining R.failures input.new)
         (held W.contents W.failures [] output.old) (held W.contents W.failures [] output.new)
         (bare E.contents E.failures errors.old) (bare E.contents E.failures errors.new) result }
 {
@@ -101,7 +101,7 @@ fn explain<T: Threads + Wait + Sync, R: Source, W: Sink, E: Sink>(
     output: &mut W,
     errors: &mut E,
 ) -> u8
-    ensures { Judges (seen R.remaining R.failures input.old) (seen R.remaining R.failures input.new)
+    ensures { GivesExplanation explanation (seen R.remaining R.failures input.old) (seen R.remaining R.failures input.new)
         (held W.contents W.failures [] output.old) (held W.contents W.failures [] output.new)
         (bare E.contents E.failures errors.old) (bare E.contents E.failures errors.new) result }
 {
@@ -119,6 +119,26 @@ fn explain<T: Threads + Wait + Sync, R: Source, W: Sink, E: Sink>(
 }
 
 /// Says what became of a message, and returns the status: 6 if no log names it.
+fn trace<R: Source, W: Sink, E: Sink>(
+    alloc: Global,
+    message: MsgId,
+    columns: usize,
+    input: &mut R,
+    output: &mut W,
+    errors: &mut E,
+) -> u8
+    ensures { GivesTrace (seen R.remaining R.failures input.old) (seen R.remaining R.failures input.new)
+        (held W.contents W.failures [] output.old) (held W.contents W.failures [] output.new)
+        (bare E.contents E.failures errors.old) (bare E.contents E.failures errors.new) result }
+{
+    match trace_io(alloc, input, output, message, columns) {
+        Ok(true) => 0,
+        Ok(false) => 6,
+        Err(fault) => point(alloc, &fault, input, errors),
+    }
+}
+
+/// Says what became of a message, unless what the arguments have is no name of one, and returns the status.
 fn traced<R: Source, W: Sink, E: Sink>(
     alloc: Global,
     message: Option<MsgId>,
@@ -127,18 +147,16 @@ fn traced<R: Source, W: Sink, E: Sink>(
     output: &mut W,
     errors: &mut E,
 ) -> u8
-    ensures { Judges (seen R.remaining R.failures input.old) (seen R.remaining R.failures input.new)
+    ensures { Traces message (seen R.remaining R.failures input.old) (seen R.remaining R.failures input.new)
         (held W.contents W.failures [] output.old) (held W.contents W.failures [] output.new)
         (bare E.contents E.failures errors.old) (bare E.contents E.failures errors.new) result }
 {
-    let Some(message) = message else {
-        tell(errors, NO_MESSAGE.as_bytes());
-        return 64;
-    };
-    match trace_io(alloc, input, output, message, columns) {
-        Ok(true) => 0,
-        Ok(false) => 6,
-        Err(fault) => point(alloc, &fault, input, errors),
+    match message {
+        Some(message) => trace(alloc, message, columns, input, output, errors),
+        None => {
+            tell(errors, NO_MESSAGE.as_bytes());
+            64
+        }
     }
 }
 
@@ -151,7 +169,7 @@ pub fn judge_io<T: Threads + Wait + Sync, R: Source, W: Sink, E: Sink>(
     output: &mut W,
     errors: &mut E,
 ) -> u8
-    ensures { Judges (seen R.remaining R.failures input.old) (seen R.remaining R.failures input.new)
+    ensures { Judges asked (seen R.remaining R.failures input.old) (seen R.remaining R.failures input.new)
         (held W.contents W.failures [] output.old) (held W.contents W.failures [] output.new)
         (bare E.contents E.failures errors.old) (bare E.contents E.failures errors.new) result }
 {

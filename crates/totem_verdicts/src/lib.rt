@@ -9,7 +9,8 @@
 //! - `explain_io`: the outcome is that of the run's answer; of what is written the contract says less (`ExplainsRun`, specs/ExplainIo).
 //!   `trace_io` judges nothing: what it writes, and whether it finds the message, no contract says (`TracesRun`).
 //! - At each fault except a failed write nothing was written, and the fault is that of the reader, the checker or a stream.
-//! - `judge_io`, `answer` and `auditor`: each status comes only with these streams (`Judges`, `Answers`, `Ends`, specs/Endings).
+//! - `judge_io` does what it is asked for, and each status comes only with these streams (`Judges`); for `answer` and `auditor` see `Answers`
+//!   and `Ends`, beside it in specs/Endings. Which arguments ask for what, no contract says.
 //!
 //! totem_cluster, the whole program, answers `audit`, `explain` and `check` by these calls.
 #![tactic(auto)]

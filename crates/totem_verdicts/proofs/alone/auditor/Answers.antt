@@ -6,7 +6,7 @@ pub returns-in-Err : goal.returns-in-Err
 returns-in-Err g c = answered _ _ refl c.answer.ensures
 
 pub returns-in-Ok-Verdict : goal.returns-in-Ok-Verdict
-returns-in-Ok-Verdict g c = asked _ c.judge_io.ensures
+returns-in-Ok-Verdict g c = asked _ _ c.judge_io.ensures
 
 pub returns-in-Ok : goal.returns-in-Ok
 returns-in-Ok g c = lacking _ refl refl c.tell.ensures

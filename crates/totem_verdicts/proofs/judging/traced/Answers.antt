@@ -1,15 +1,9 @@
-use Rattle.std.proofs.Common.{true, false, refl}
-use Rattle.totem_verdicts.specs.Endings.{traced, unexplained, misnamed}
+use Rattle.std.proofs.Common.{refl}
+use Rattle.totem_verdicts.specs.Endings.{misnamed}
 use Rattle.totem_verdicts.proofs.judging.traced.Goals as goal
 
-pub returns-in_default : goal.returns-in_default
-returns-in_default g c = misnamed _ refl refl c.tell.ensures
+pub returns-in-Some : goal.returns-in-Some
+returns-in-Some g c = rw c.in-Some.is c.trace.ensures
 
-pub returns-in-Ok-true : goal.returns-in-Ok-true
-returns-in-Ok-true g c = traced true c.in-Ok-true.ensures refl
-
-pub returns-in-Ok-false : goal.returns-in-Ok-false
-returns-in-Ok-false g c = traced false c.in-Ok-false.ensures refl
-
-pub returns-in-Err : goal.returns-in-Err
-returns-in-Err g c = unexplained _ _ c.in-Err.ensures c.point.ensures
+pub returns-in-None : goal.returns-in-None
+returns-in-None g c = rw c.in-None.is (misnamed _ refl refl c.tell.ensures)
