@@ -84,3 +84,11 @@ pub fn sink<W: Write + Drop>(inner: W, calls: u64) -> Fused<ToWrite<W>> {
 pub fn buffered<R: Read + Drop>(alloc: Global, inner: R) -> Result<Buffered<R>, AllocError> {
     Buffered::new(alloc, inner)
 }
+
+pub fn in_order(left: &RingId, right: &RingId) -> bool {
+    left.is_below(right)
+}
+
+pub fn rank(process: Proc) -> u32 {
+    process.rank()
+}

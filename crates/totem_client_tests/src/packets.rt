@@ -3,8 +3,8 @@ use bytes::Bytes;
 use std::alloc::{AllocError, Global};
 use totem_ids::{
     Body, CommitMember, CommitMembers, CommitToken, Join, Life, ListFault, Message, Number, Packet,
-    PacketFault, Payload, ProcId, Processes, Refused, Report, Requests, RingId, Round, Service,
-    Token, TokenSeq,
+    PacketFault, Payload, Proc, ProcId, Processes, Refused, Report, Requests, RingId, Round,
+    Service, Token, TokenSeq, TooMany, is_among,
 };
 
 pub fn encode(alloc: Global, packet: &Packet) -> Result<Vec<u8>, AllocError> {
@@ -130,4 +130,50 @@ pub fn copies(
     let _ = token.try_clone(alloc)?;
     let _ = commit.try_clone(alloc)?;
     Ok(())
+}
+
+pub fn union(left: &Processes, right: &Processes) -> Result<Processes, TooMany> {
+    left.union(right)
+}
+
+pub fn relation(left: &Processes, right: &Processes) -> (bool, bool) {
+    (left.is_within(right), left.is(right))
+}
+
+pub fn place_of(processes: &Processes, proc: ProcId) -> (bool, bool, ProcId) {
+    let is_there = is_among(processes.as_slice(), proc);
+    (
+        is_there,
+        processes.is_least(proc),
+        processes.next_after(proc),
+    )
+}
+
+pub fn marks(members: &CommitMembers, old: &RingId) -> (u32, u32) {
+    (members.least_aru(old), members.greatest_delivered(old))
+}
+
+pub fn together(members: &CommitMembers, old: &RingId, proc: ProcId) -> Option<Processes> {
+    members
+        .is_from(old, proc)
+        .then_some(members.transitional_set(old))
+}
+
+pub fn owed(members: &CommitMembers, old: &RingId) -> Result<Processes, TooMany> {
+    members.obligation_union(old)
+}
+
+pub fn lives(
+    alloc: Global,
+    members: &CommitMembers,
+    old: &RingId,
+) -> Result<Option<Vec<Proc>>, AllocError> {
+    if !members.has_later_life() {
+        return Ok(None);
+    }
+    Ok(Some(members.transitional_lives(alloc, old)?))
+}
+
+pub fn lists(members: CommitMembers, requests: Requests) -> (Vec<CommitMember>, Vec<Number>) {
+    (members.into_vec(), requests.into_vec())
 }
