@@ -105,7 +105,7 @@ class Watch:
             try:
                 if key not in self.works:
                     self.works[key] = work_of(key[0])
-            except OSError:
+            except (OSError, ValueError):  # (it has ended, or its files are being written)
                 continue
             self.seconds[key] = max(self.seconds[key], seconds)
 
