@@ -1,6 +1,6 @@
 -- The first entries of logs without a number, by the numbers of their classes.
 use Rattle.std.proofs.lemmas.Grind.{common_steps}
-use Rattle.std.proofs.Common.{◌≡◌, ℕ, suc, ◌<◌, List, [], length, get_or, slice_get, Some, None, Bool, IsTrue, ◌↔◌, refl, sym, ◌∙◌, ap, arith}
+use Rattle.std.proofs.Common.{◌≡◌, ℕ, suc, ◌<◌, List, [], length, get_or, slice_get, Option, Some, None, Bool, IsTrue, ◌↔◌, refl, sym, ◌∙◌, ap, arith}
 use Rattle.std.proofs.lemmas.Option.{slice_get_within, slice_get_read}
 use Rattle.totem_names.specs.declared.place.Place.{Place}
 use Rattle.totem_evs.specs.declared.entry.Entry.{Entry}
@@ -13,7 +13,7 @@ use Rattle.totem_table.specs.Tables.{IsTable, IsEntryAt, number_at}
 use Rattle.totem_cert.specs.declared.heads.Head.{Head}
 use Rattle.totem_cert.specs.declared.heads.Head.TheVariants.{End, Alone, Class}
 use Rattle.totem_cert.specs.Search.{place}
-use Rattle.totem_cert.specs.Counts.{class_at, class_fed, class_in, count_of, fed_by, given_at, Counts, HasHead}
+use Rattle.totem_cert.specs.Counts.{class_at, class_fed, class_in, count_of, fed_by, given_at, shared_by, Counts, HasHead}
 use Rattle.totem_cert.specs.Heads.{FeedsAlone, IsHead, IsWithin, IsUnkept}
 use Rattle.totem_cert.specs.Progress.{Fits, IsNext, IsNextHead, IsNextIn, IsReady}
 use Rattle.totem_cert.proofs.Lists.{at_index}
@@ -34,9 +34,15 @@ given_read run lines k log read numbers fits log_at read_is is =
     ap length is ∙ sym (ap count_of at)
 
 -- the head, as the code reads it
-pub head_entry : (run : List Log) (lines : List Numbering) (k : ℕ) (log : Log) (entries : List Entry) (head : ℕ) (x : Entry) → slice_get run k ≡ Some log → head ≡ given_at lines k → entries ≡ log.entries → head < length entries → x ≡ get_or entries head x
+pub head_entry : (run : List Log) (lines : List Numbering) (k : ℕ) (log : Log) (entries : List Entry) (head : ℕ) (x : Entry) → slice_get run k ≡ Some log → head ≡ given_at lines k → entries ≡ log.entries → slice_get entries head ≡ Some x
     → IsEntryAt run k (given_at lines k) x
-head_entry run lines k log entries head x log_at head_is entries_is lt read = record { log = log; is_log = log_at; is_entry = rw (entries_is, head_is) at (slice_get_read entries _ head x refl lt read) }
+head_entry run lines k log entries head x log_at head_is entries_is at = record { log = log; is_log = log_at; is_entry = rw (entries_is, head_is) at at }
+
+-- the class of a head
+pub next_class : (read messages : ℕ) (entries : List Entry) (given_row row : List ℕ) (head given : ℕ) (x : Entry) (class : Option ℕ) → class ≡ shared_by read (slice_get entries head) (get_or given_row head 0) → slice_get entries head ≡ Some x
+    → read ≡ messages → given_row ≡ row → head ≡ given → class ≡ class_in messages x (get_or row given 0)
+next_class read messages entries given_row row head given x class is at read_is row_is head_is =
+    let here : class ≡ class_in read x (get_or given_row head 0) = rw at at is in rw (← read_is, ← row_is, ← head_is) here
 
 pub head_is : (run : List Log) (table : Table) (lines : List Numbering) (k c : ℕ) (h : Head) (y : Entry) → IsHead run table lines k h → IsEntryAt run k (given_at lines k) y → class_at table k (given_at lines k) y ≡ Some c → h ≡ Class c
 head_is run table lines k c End y is b in_c = absurd (let lt = is (given_at lines k) y b in omega arith)

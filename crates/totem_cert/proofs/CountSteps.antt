@@ -5,6 +5,7 @@ use Rattle.std.proofs.Math.ListN.{set, drop_of_length-le}
 use Rattle.std.proofs.lemmas.Option.{slice_get_within, slice_get_read, get_or_from_slice_get}
 use Rattle.std.proofs.lemmas.List.{get_or_past}
 use Rattle.totem_evs.specs.declared.entry.Entry.{Entry}
+use Rattle.totem_evs.specs.declared.entry.Entry.TheVariants.{Conf, Send, Deliver, Fail}
 use Rattle.totem_evs.specs.declared.log.Log.{Log}
 use Rattle.totem_evs.specs.Certificates.{Numbering}
 use Rattle.totem_evs.specs.Runs.{IsRun, IsLog}
@@ -12,7 +13,7 @@ use Rattle.totem_table.specs.Tables.{IsTable}
 use Rattle.totem_table.specs.declared.table.Table.{Table}
 use Rattle.totem_evs.proofs.LogOf.{less_or_not}
 use Rattle.totem_cert.specs.Progress.{empty_line}
-use Rattle.totem_cert.specs.Counts.{count_of, given_at, sum_to, class_in, class_fed, one, kept_behind, kept_in, kept_at, kept_by, Counts, CountsTo, shared_by, passed, Adds, Takes, AtMost, Pushes}
+use Rattle.totem_cert.specs.Counts.{count_of, given_at, sum_to, class_in, class_fed, class_kept, one, kept_behind, kept_in, kept_at, kept_by, Counts, CountsTo, shared_by, passed, Adds, Takes, AtMost, Pushes}
 use Rattle.totem_cert.proofs.Lists.{set_here, set_other}
 use Rattle.totem_cert.proofs.Sums.{sum_change, sum_millions}
 
@@ -84,6 +85,31 @@ behind_few messages entries row old new i few short so_far = record { each = λ 
     each : (c : ℕ) → (c < length new) ⊎ ((length new < c) ⊎ (c ≡ length new)) → get_or new c 0 ≤ 90000000
     each c (inl within) = let a = so_far.each c within in let b = few.each c in let m = behind_most messages entries row c in omega arith
     each c (inr past) = (let p : get_or new c 0 ≡ 0 = get_or_past new c 0 (grind arith) in omega arith)
+
+kept_cases : (messages : ℕ) (x : Entry) (n c : ℕ) → one (class_fed x n) c + one (class_in messages x n) c ≡ one (class_kept messages x n) c
+kept_cases messages (Conf x ms) n c = omega arith
+kept_cases messages (Send m x s) n c = omega arith
+kept_cases messages (Deliver m x) n c = omega arith
+kept_cases messages (Fail x) n c = omega arith
+
+kept_drop : (messages : ℕ) (es : List Entry) (ns : List ℕ) (i : ℕ) (x : Entry) (c : ℕ) → slice_get es i ≡ Some x → length es ≡ length ns
+    → kept_behind messages (drop i es) (drop i ns) c ≡ one (class_kept messages x (get_or ns i 0)) c + kept_behind messages (drop (suc i) es) (drop (suc i) ns) c
+kept_drop messages [] ns i x c at long = cc
+kept_drop messages (y ∷ ys) [] i x c at long = absurd (omega arith)
+kept_drop messages (y ∷ ys) (n ∷ ns) zero x c at long = let one : y ≡ x = cc in let cases = kept_cases messages y n c in rw (← one) (omega arith)
+kept_drop messages (y ∷ ys) (n ∷ ns) (suc i) x c at long = kept_drop messages ys ns i x c at (omega arith)
+
+-- one more entry is counted
+pub behind_more : (messages : ℕ) (entries : List Entry) (row old mid new : List ℕ) (i : ℕ) (x : Entry) (class : Option ℕ) → slice_get entries i ≡ Some x → length entries ≡ length row → class ≡ class_kept messages x (get_or row i 0)
+    → CountsBehind messages entries row old mid i → Adds mid new (one class) → CountsBehind messages entries row old new (i + 1)
+behind_more messages entries row old mid new i x class at long is so_far adds = record {
+  long = adds.long ∙ so_far.long;
+  each = λ c within.
+      let step = kept_drop messages entries row i x c at long in
+      let added : get_or new c 0 ≡ get_or mid c 0 + one (class_kept messages x (get_or row i 0)) c = rw is at (adds.each c within) in
+      let before = so_far.each c (rw adds.long at within) in
+      let next : i + 1 ≡ suc i = omega arith in rw next (omega arith);
+}
 
 -- the head keeps no class of which it is an entry
 pub behind_all : (messages : ℕ) (entries : List Entry) (row old mid new : List ℕ) (i : ℕ) → length entries ≤ i → length entries ≡ length row → CountsBehind messages entries row old mid i

@@ -3,6 +3,7 @@ pub mod Classmates
 pub mod Classes
 pub mod FirstPlaces
 pub mod Sound
+pub mod KindFacts
 pub mod LineFacts
 pub mod LogHeads
 pub mod Next

@@ -6,7 +6,6 @@ use Rattle.std.specs.declared.cmp.Ordering.TheVariants.{Equal}
 use Rattle.std.specs.BTreeMap.{BTreeMap, get, Updates}
 use Rattle.std.proofs.lemmas.Option.{slice_get_within}
 use Rattle.totem_names.specs.declared.place.Place.{Place}
-use Rattle.totem_names.specs.contracts.life.ProcOrd.TheImpl as processes
 use Rattle.totem_names.proofs.Exact.{equal_at, apart_or_at}
 use Rattle.totem_evs.specs.ClosedLists.{Step}
 use Rattle.totem_evs.proofs.Pushing.{before_push, stands_last}

@@ -4,6 +4,8 @@ use Rattle.totem_evs.specs.declared.entry.Entry.{Entry}
 use Rattle.totem_evs.specs.declared.entry.Entry.TheVariants.{Conf, Send, Deliver, Fail}
 use Rattle.totem_evs.specs.declared.log.Log.{Log}
 use Rattle.totem_evs.specs.Certificates.{Numbering}
+use Rattle.totem_table.specs.declared.kind.Kind.{Kind}
+use Rattle.totem_table.specs.declared.kind.Kind.TheVariants.{Change, Sending, Delivery, Failure}
 use Rattle.totem_table.specs.declared.table.Table.{Table}
 use Rattle.totem_table.specs.Tables.{number_at}
 
@@ -38,6 +40,13 @@ class_fed (Conf x ms) n = None
 class_fed (Send m x s) n = Some n
 class_fed (Deliver m x) n = None
 class_fed (Fail x) n = None
+
+-- the class that an entry of this kind feeds
+abbrev pub class_fed_by : Kind → ℕ → Option ℕ
+class_fed_by Change n = None
+class_fed_by Sending n = Some n
+class_fed_by Delivery n = None
+class_fed_by Failure n = None
 
 -- the class that an entry behind the head of its log keeps: the one that a send feeds, or its own
 abbrev pub class_kept : ℕ → Entry → ℕ → Option ℕ

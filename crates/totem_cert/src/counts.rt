@@ -1,16 +1,16 @@
 //! Counts the entries that keep each class of a run from being ready: entries of the class after the first entry of their log without a
 //! number, and sends without a number. The classes are numbered as in a table, those of messages before those of configurations.
 ghost use Rattle.std.specs.Prelude.{◌≡◌, ◌+◌, ◌<◌, ◌≤◌, ◌^◌, IfOk, OnOk, Some, length, map, slice_get, slice_index_or};
-ghost use Rattle.totem_table.specs.Tables.{IsTable};
+ghost use Rattle.totem_table.specs.Tables.{IsTable, kind_of};
 ghost use Rattle.totem_cert.specs.Progress.{empty_line};
-ghost use Rattle.totem_cert.specs.Counts.{Adds, AtMost, Counts, CountsTo, HasHead, Pushes, Takes, class_fed, class_in, class_kept, fed_by, kept_in, one, passed, shared_by};
+ghost use Rattle.totem_cert.specs.Counts.{Adds, AtMost, Counts, CountsTo, HasHead, Pushes, Takes, class_fed, class_fed_by, class_in, class_kept, fed_by, kept_in, one, passed, shared_by};
 ghost use Rattle.totem_cert.specs.Heads.{FeedsAlone, IsHead};
 
 use crate::heads::Head;
 use std::alloc::{AllocError, Global};
 use totem_certificate::OpenLine;
 use totem_evs::{Entry, Log, Run};
-use totem_table::Table;
+use totem_table::{Kind, Table};
 
 /// Returns the class that a send feeds, or `None` for any other entry.
 pub fn class_fed(entry: &Entry, number: u32) -> Option<usize>
@@ -34,33 +34,28 @@ pub fn class_in(messages: usize, entry: &Entry, number: u32) -> Option<usize>
     }
 }
 
-/// Returns the class of an entry whose number stands at an index of a row. Reads the number only of an entry that has a class.
-pub fn class_by_row(messages: usize, entry: &Entry, row: &[u32], at: usize) -> Option<usize>
+/// Returns the class of an entry of this kind whose number stands at an index of a row. Reads the number only of an entry that has a class.
+pub fn class_by_row(messages: usize, kind: Kind, row: &[u32], at: usize) -> Option<usize>
     requires messages { messages < 2 ^ 63 }
     requires within { at < length row.now }
-    ensures { result ≡ class_in messages entry.now (slice_index_or row.now at 0) }
+    ensures { (entry : Entry) → kind ≡ kind_of entry → result ≡ class_in messages entry (slice_index_or row.now at 0) }
 {
-    if let Entry::Deliver(_, _) = entry {
-        return Some(row[at] as usize);
-    }
-    match entry {
-        Entry::Conf(_, _) => Some(messages + row[at] as usize),
-        _ => None,
+    match kind {
+        Kind::Delivery => Some(row[at] as usize),
+        Kind::Change => Some(messages + row[at] as usize),
+        Kind::Sending | Kind::Failure => None,
     }
 }
 
-/// Returns the class that an entry behind the head of its log keeps from being ready: the one that a send feeds, or its own.
-fn class_kept(messages: usize, entry: &Entry, row: &[u32], at: usize) -> Option<usize>
-    requires messages { messages < 2 ^ 63 }
-    requires within { at < length row.now }
-    ensures { result ≡ class_kept messages entry.now (slice_index_or row.now at 0) }
+/// Returns the class that an entry of this kind behind the head of its log keeps from being ready: the one that a send feeds, or its own.
+fn class_kept(messages: usize, kind: Kind, number: u32) -> Option<usize>
+    requires { messages < 2 ^ 63 }
+    ensures { (entry : Entry) → kind ≡ kind_of entry → result ≡ class_kept messages entry number }
 {
-    if let Entry::Send(_, _, _) | Entry::Deliver(_, _) = entry {
-        return Some(row[at] as usize);
-    }
-    match entry {
-        Entry::Conf(_, _) => Some(messages + row[at] as usize),
-        _ => None,
+    match kind {
+        Kind::Sending | Kind::Delivery => Some(number as usize),
+        Kind::Change => Some(messages + number as usize),
+        Kind::Failure => None,
     }
 }
 
@@ -92,30 +87,38 @@ fn take(counts: &mut [u32], class: Option<usize>)
 }
 
 /// Returns the class of the entry at an index, or `None` if there is no entry or it is alone in its class.
-pub fn class_next(messages: usize, entries: &[Entry], row: &[u32], next: usize) -> Option<usize>
+pub fn class_next(
+    messages: usize,
+    entries: &[Entry],
+    kinds: &[Kind],
+    row: &[u32],
+    next: usize,
+) -> Option<usize>
     requires messages { messages < 2 ^ 63 }
     requires long { length entries.now ≡ length row.now }
+    requires kinds { kinds.now ≡ map kind_of entries.now }
     ensures { result ≡ shared_by messages (slice_get entries.now next) (slice_index_or row.now next 0) }
 {
     if next < entries.len() {
-        class_by_row(messages, &entries[next], row, next)
+        class_by_row(messages, kinds[next], row, next)
     } else {
         None
     }
 }
 
 /// Counts the classes that the entries of a log keep from being ready. None of the entries has a number.
-fn count_log(counts: &mut [u32], messages: usize, entries: &[Entry], row: &[u32])
+fn count_log(counts: &mut [u32], messages: usize, entries: &[Entry], kinds: &[Kind], row: &[u32])
     requires messages { messages < 2 ^ 63 }
     requires few { AtMost counts.old 62000000 }
     requires short { length entries.now ≤ 1000000 }
     requires long { length entries.now ≡ length row.now }
+    requires kinds { kinds.now ≡ map kind_of entries.now }
     ensures { Adds counts.old counts.new (kept_in messages 0 entries.now row.now) }
 {
-    for (at, entry) in entries.iter().enumerate() {
-        add(counts, class_kept(messages, entry, row, at));
+    for (at, kind) in kinds.iter().enumerate() {
+        add(counts, class_kept(messages, *kind, row[at]));
     }
-    take(counts, class_next(messages, entries, row, 0));
+    take(counts, class_next(messages, entries, kinds, row, 0));
 }
 
 /// Counts the classes that the entries of each log keep from being ready. None of the entries has a number.
@@ -127,7 +130,8 @@ fn count_logs(counts: &mut [u32], run: &Run, table: &Table)
     let messages = table.messages.len();
     for (k, log) in run.logs.as_slice().iter().enumerate() {
         let row = table.rows[k].as_slice();
-        count_log(counts, messages, log.entries.as_slice(), row);
+        let kinds = table.kinds[k].as_slice();
+        count_log(counts, messages, log.entries.as_slice(), kinds, row);
     }
 }
 
@@ -144,13 +148,13 @@ pub fn count_all(alloc: Global, run: &Run, table: &Table) -> Result<Vec<u32>, Al
 
 /// Takes one from the count of the class that the entry feeds, a log's head. A head that is in a class with others feeds none.
 #[tactic(auto, using(crate::proofs::CountingOne::takes_nothing))]
-fn take_fed(counts: &mut [u32], head: Head, entry: &Entry, number: u32)
-    requires { FeedsAlone head (class_fed entry.now number) }
-    ensures { Takes counts.old counts.new (one (class_fed entry.now number)) }
+fn take_fed(counts: &mut [u32], head: Head, kind: Kind, number: u32)
+    requires { FeedsAlone head (class_fed_by kind number) }
+    ensures { Takes counts.old counts.new (one (class_fed_by kind number)) }
 {
-    match head {
-        Head::Class(_) => {}
-        _ => take(counts, class_fed(entry, number)),
+    match (head, kind) {
+        (Head::Alone | Head::End, Kind::Sending) => take(counts, Some(number as usize)),
+        _ => {}
     }
 }
 
@@ -159,6 +163,7 @@ fn advance(
     counts: &mut [u32],
     messages: usize,
     entries: &[Entry],
+    kinds: &[Kind],
     row: &[u32],
     head: Head,
     at: usize,
@@ -166,11 +171,12 @@ fn advance(
     requires messages { messages < 2 ^ 63 }
     requires within { at < length entries.now }
     requires long { length entries.now ≡ length row.now }
+    requires kinds { kinds.now ≡ map kind_of entries.now }
     requires feeds { FeedsAlone head (fed_by (slice_get entries.now at) (slice_index_or row.now at 0)) }
     ensures { Takes counts.old counts.new (passed messages entries.now row.now at) }
 {
-    take_fed(counts, head, &entries[at], row[at]);
-    take(counts, class_next(messages, entries, row, at + 1));
+    take_fed(counts, head, kinds[at], row[at]);
+    take(counts, class_next(messages, entries, kinds, row, at + 1));
 }
 
 /// Gives the head of the k-th log its number.
@@ -193,15 +199,10 @@ pub fn number_head(
     ensures counts { OnOk result (Counts run.now.logs table.now lines.new.items counts.new) }
 {
     let entries = log.entries.as_slice();
+    let row = table.rows[k].as_slice();
+    let kinds = table.kinds[k].as_slice();
     let at = lines[k].numbers().len();
     lines[k].push(number)?;
-    advance(
-        counts,
-        table.messages.len(),
-        entries,
-        table.rows[k].as_slice(),
-        head,
-        at,
-    );
+    advance(counts, table.messages.len(), entries, kinds, row, head, at);
     Ok(())
 }

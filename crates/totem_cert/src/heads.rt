@@ -4,7 +4,7 @@ ghost use Rattle.totem_table.specs.Tables.{IsTable};
 ghost use Rattle.totem_cert.specs.Heads.{IsHead, IsUnkept, IsWithin};
 ghost use Rattle.totem_cert.specs.Progress.{Fits};
 
-use crate::counts::class_by_row;
+use crate::counts::class_next;
 use totem_certificate::OpenLine;
 use totem_evs::{Log, Run};
 use totem_table::Table;
@@ -33,7 +33,8 @@ pub fn head_of(run: &Run, table: &Table, lines: &[OpenLine], k: usize, log: &Log
         return Head::End;
     }
     let row = table.rows[k].as_slice();
-    match class_by_row(table.messages.len(), &entries[head], row, head) {
+    let kinds = table.kinds[k].as_slice();
+    match class_next(table.messages.len(), entries, kinds, row, head) {
         None => Head::Alone,
         Some(class) => Head::Class(class),
     }

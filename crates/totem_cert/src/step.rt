@@ -77,7 +77,8 @@ fn class_of(run: &Run, table: &Table, e: &Place) -> Option<usize>
     let log = &run.logs.as_slice()[k];
     let entries = log.entries.as_slice();
     let row = table.rows[k].as_slice();
-    class_next(table.messages.len(), entries, row, at)
+    let kinds = table.kinds[k].as_slice();
+    class_next(table.messages.len(), entries, kinds, row, at)
 }
 
 /// Returns how many entries of a process's log have a number.

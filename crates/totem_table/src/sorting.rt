@@ -1,13 +1,14 @@
 //! Makes a table by sorting what the entries name.
-ghost use Rattle.std.specs.Prelude.{IfOk, option_to_list};
+ghost use Rattle.std.specs.Prelude.{◌≡◌, map, IfOk, option_to_list};
 ghost use Rattle.totem_table.specs.Names.{ListsNames, message_of, conf_of, names_in};
-ghost use Rattle.totem_table.specs.Tables.{NamedBy, RowNames, IsTable};
+ghost use Rattle.totem_table.specs.Tables.{NamedBy, RowNames, IsTable, kinds_in};
 
+use crate::kind::Kinds;
 use crate::names::{index_of, names_of};
 use crate::row::Row;
 use crate::table::Table;
 use std::alloc::{AllocError, Global};
-use totem_evs::{Entry, Run};
+use totem_evs::{Entry, Log, Run};
 use totem_names::{ConfId, MsgId};
 
 /// Returns the number of what an entry names.
@@ -41,6 +42,17 @@ fn row_of(
     Ok(Row::of(numbers))
 }
 
+/// Returns the kinds of the entries of all logs.
+fn kinds_of_all(alloc: Global, logs: &[Log]) -> Result<Vec<Kinds>, AllocError>
+    ensures { IfOk result (λ kinds. kinds.items ≡ map kinds_in logs.now) }
+{
+    let mut kinds = Vec::with_capacity(alloc, logs.len())?;
+    for log in logs {
+        kinds.push(Kinds::of(alloc, log.entries.as_slice())?)?;
+    }
+    Ok(kinds)
+}
+
 /// Makes the table of a run by sorting, which takes longer than a guess.
 pub fn sorted(alloc: Global, run: &Run) -> Result<Table, AllocError>
     ensures { IfOk result (IsTable run.now.logs) }
@@ -56,5 +68,6 @@ pub fn sorted(alloc: Global, run: &Run) -> Result<Table, AllocError>
         messages,
         confs,
         rows,
+        kinds: kinds_of_all(alloc, logs)?,
     })
 }

@@ -3,6 +3,7 @@ use Rattle.totem_names.specs.declared.place.Place.{Place}
 use Rattle.totem_evs.specs.LogRecord.{LogRecord}
 use Rattle.totem_evs.specs.RunRecord.{RunRecord}
 use Rattle.totem_cert.proofs.LineFacts.{read_log, class_read}
+use Rattle.totem_cert.proofs.KindFacts.{table_kinds}
 use Rattle.totem_cert.proofs.CountSteps.{table_row}
 use Rattle.totem_cert.proofs.step.class_of.Goals as goal
 
@@ -12,6 +13,13 @@ class_next-requires-clause-long c =
     let log = read_log _ _ _ _ c.index-as_slice-k.result c.in-Some.ensures.log (c.as_slice.ensures.value ∙ runs) c.index-as_slice-k.is in
     let entries = c.as_slice-entries.ensures.value ∙ ap (λ (l : LogRecord). l.entries) c.log.view_is in
     (table_row c.args.run.now.logs c.args.table.now _ _ c.as_slice-entries.result.now c.as_slice-row.result.now c.index.result.now c.requires log.0 entries c.index.ensures c.as_slice-row.ensures).1
+
+pub class_next-requires-clause-kinds : goal.class_next-requires-clause-kinds
+class_next-requires-clause-kinds c =
+    let runs = ap (λ (r : RunRecord). r.logs) c.run.view_is in
+    let log = read_log _ _ _ _ c.index-as_slice-k.result c.in-Some.ensures.log (c.as_slice.ensures.value ∙ runs) c.index-as_slice-k.is in
+    let entries = c.as_slice-entries.ensures.value ∙ ap (λ (l : LogRecord). l.entries) c.log.view_is in
+    table_kinds c.args.run.now.logs c.args.table.now _ _ c.as_slice-entries.result.now c.as_slice-kinds.result.now c.index-2.result.now c.requires log.0 entries c.index-2.ensures c.as_slice-kinds.ensures
 
 pub returns-clause-class : goal.returns-clause-class
 returns-clause-class c =

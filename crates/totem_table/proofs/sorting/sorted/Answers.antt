@@ -33,4 +33,5 @@ returns c =
       messages = rising _ _ c.in_ok-messages.ensures.sorted;
       confs = rising _ _ c.in_ok-confs.ensures.sorted;
       rows = rw runs at (let rows : RowsName c.in_ok-messages.messages.items c.in_ok-confs.confs.items c.as_slice-logs.result.now c.loop-log.rows.items = record { long = whole.0; each = whole.1 } in rows);
+      kinds = rw runs at c.in_ok-kinds_of_all.ensures;
     }

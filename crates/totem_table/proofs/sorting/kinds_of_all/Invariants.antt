@@ -1,0 +1,6 @@
+use Rattle.std.proofs.Common.{◌≡◌, take, map}
+use Rattle.totem_table.specs.Tables.{kinds_in}
+use Rattle.totem_table.proofs.sorting.kinds_of_all.Given as goal
+
+abbrev pub invariant-loop-log : goal.invariant-loop-log
+invariant-loop-log l = l.kinds.items ≡ map kinds_in (take l.log-index l.logs)
