@@ -12,37 +12,25 @@ use totem_certificate::OpenLine;
 use totem_evs::{Entry, Log, Run};
 use totem_table::{Kind, Table};
 
-/// Returns the class that a send feeds, or `None` for any other entry.
-pub fn class_fed(entry: &Entry, number: u32) -> Option<usize>
-    ensures { result ≡ class_fed entry.now number }
-{
-    match entry {
-        Entry::Send(_, _, _) => Some(number as usize),
-        _ => None,
-    }
-}
-
-/// Returns the class of an entry, or `None` if it is alone in its class. The table has the given number of `messages`.
-pub fn class_in(messages: usize, entry: &Entry, number: u32) -> Option<usize>
-    requires { messages < 2 ^ 63 }
-    ensures { result ≡ class_in messages entry.now number }
-{
-    match entry {
-        Entry::Conf(_, _) => Some(messages + number as usize),
-        Entry::Deliver(_, _) => Some(number as usize),
-        _ => None,
-    }
-}
-
-/// Returns the class of an entry of this kind whose number stands at an index of a row. Reads the number only of an entry that has a class.
-pub fn class_by_row(messages: usize, kind: Kind, row: &[u32], at: usize) -> Option<usize>
-    requires messages { messages < 2 ^ 63 }
-    requires within { at < length row.now }
-    ensures { (entry : Entry) → kind ≡ kind_of entry → result ≡ class_in messages entry (slice_index_or row.now at 0) }
+/// Returns the class that an entry of this kind feeds if it is a send, or `None` for any other kind.
+pub fn class_fed(kind: Kind, number: u32) -> Option<usize>
+    ensures kind { result ≡ class_fed_by kind number }
+    ensures entry { (entry : Entry) → kind ≡ kind_of entry → result ≡ class_fed entry number }
 {
     match kind {
-        Kind::Delivery => Some(row[at] as usize),
-        Kind::Change => Some(messages + row[at] as usize),
+        Kind::Sending => Some(number as usize),
+        _ => None,
+    }
+}
+
+/// Returns the class of an entry of this kind, or `None` if it is alone in its class. The table has the given number of `messages`.
+pub fn class_in(messages: usize, kind: Kind, number: u32) -> Option<usize>
+    requires { messages < 2 ^ 63 }
+    ensures { (entry : Entry) → kind ≡ kind_of entry → result ≡ class_in messages entry number }
+{
+    match kind {
+        Kind::Delivery => Some(number as usize),
+        Kind::Change => Some(messages + number as usize),
         Kind::Sending | Kind::Failure => None,
     }
 }
@@ -100,7 +88,7 @@ pub fn class_next(
     ensures { result ≡ shared_by messages (slice_get entries.now next) (slice_index_or row.now next 0) }
 {
     if next < entries.len() {
-        class_by_row(messages, kinds[next], row, next)
+        class_in(messages, kinds[next], row[next])
     } else {
         None
     }
@@ -152,9 +140,9 @@ fn take_fed(counts: &mut [u32], head: Head, kind: Kind, number: u32)
     requires { FeedsAlone head (class_fed_by kind number) }
     ensures { Takes counts.old counts.new (one (class_fed_by kind number)) }
 {
-    match (head, kind) {
-        (Head::Alone | Head::End, Kind::Sending) => take(counts, Some(number as usize)),
-        _ => {}
+    match head {
+        Head::Class(_) => {}
+        _ => take(counts, class_fed(kind, number)),
     }
 }
 

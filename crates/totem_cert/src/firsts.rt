@@ -1,6 +1,6 @@
 //! Finds the first entries and sends of each class that have no number, in three passes over the run.
 ghost use Rattle.std.specs.Prelude.{◌≡◌, ◌+◌, ◌<◌, ◌^◌, IfOk, Some, slice_get};
-ghost use Rattle.totem_table.specs.Tables.{IsTable};
+ghost use Rattle.totem_table.specs.Tables.{IsTable, kind_of};
 ghost use Rattle.totem_cert.specs.Counts.{given_at};
 ghost use Rattle.totem_cert.specs.Firsts.{AreFirsts, AreFirstsOf, AreFirstsTo, Notes, class_wanted};
 
@@ -9,7 +9,7 @@ use std::alloc::{AllocError, Global};
 use totem_certificate::OpenLine;
 use totem_evs::{Entry, Log, Run};
 use totem_names::Place;
-use totem_table::Table;
+use totem_table::{Kind, Table};
 
 /// Which entries are looked for.
 #[derive(Clone, Copy)]
@@ -49,16 +49,16 @@ fn class_wanted(
     messages: usize,
     given: usize,
     at: usize,
-    entry: &Entry,
+    kind: Kind,
     number: u32,
 ) -> Option<usize>
     requires { messages < 2 ^ 63 }
-    ensures { result ≡ class_wanted wanted messages given at entry.now number }
+    ensures { (entry : Entry) → kind ≡ kind_of entry → result ≡ class_wanted wanted messages given at entry number }
 {
     match wanted {
-        Wanted::Sends if given <= at => class_fed(entry, number),
-        Wanted::Members if given <= at => class_in(messages, entry, number),
-        Wanted::Followers if given < at => class_in(messages, entry, number),
+        Wanted::Sends if given <= at => class_fed(kind, number),
+        Wanted::Members if given <= at => class_in(messages, kind, number),
+        Wanted::Followers if given < at => class_in(messages, kind, number),
         _ => None,
     }
 }
@@ -97,8 +97,10 @@ fn note_log(
     let messages = table.messages.len();
     let row = table.rows[k].as_slice();
     let given = given_at(lines, k);
-    for (at, entry) in log.entries.as_slice().iter().enumerate() {
-        let class = class_wanted(wanted, messages, given, at, entry, row[at]);
+    let kinds = table.kinds[k].as_slice();
+    let entries = log.entries.as_slice();
+    for at in 0..entries.len() {
+        let class = class_wanted(wanted, messages, given, at, kinds[at], row[at]);
         let place = Place {
             proc: log.proc,
             at: (at + 1) as u32,
