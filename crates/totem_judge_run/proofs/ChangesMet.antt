@@ -1,6 +1,6 @@
 -- Entering the changes of a run, one after the other.
-use Rattle.std.proofs.Common.{below_more, ◌≡◌, ℕ, ◌+◌, ◌<◌, ◌≤◌, inl, inr, List, [], ◌∷◌, ◌++◌, length, slice_get, Option, Some, None, Result, Ok, Err, IfOk, Bool, true, false, refl, sym, ◌∙◌, ap, arith}
-use Rattle.std.specs.Prelude.{Contains}
+use Rattle.std.proofs.Common.{below_more, ◌≡◌, ℕ, ◌+◌, ◌<◌, ◌≤◌, inl, inr, List, [], ◌∷◌, ◌++◌, length, slice_get, Option, Some, None, Result, Ok, Err, IfOk, Bool, true, false, cond, refl, sym, ◌∙◌, ap, arith}
+use Rattle.std.specs.Prelude.{Contains, IsTrue}
 use Rattle.std.specs.Bool.{OnTrue}
 use Rattle.std.specs.BTreeMap as tree
 use Rattle.std.proofs.lemmas.Option.{slice_get_within}
@@ -14,12 +14,13 @@ use Rattle.totem_evs.specs.declared.log.Log.{Log}
 use Rattle.totem_evs.specs.Events.{ChangesWith, log_of}
 use Rattle.totem_evs.specs.Changes.{ChangesNext, TakesTurns, HasOneOrigin}
 use Rattle.totem_evs.proofs.LogOf.{log_of_cases}
-use Rattle.totem_evs.proofs.Pushing.{stands_before, stands_last}
+use Rattle.totem_evs.proofs.Pushing.{before_push, stands_before, stands_last}
 use Rattle.totem_judge_run.specs.declared.changes_2_3.FirstChange.{FirstChange}
-use Rattle.totem_judge_run.specs.declared.changes_2_3.FirstChanges.{FirstChanges}
+use Rattle.totem_judge_run.specs.declared.first_changes.FirstChanges.{FirstChanges}
+use Rattle.totem_judge_run.specs.Indexed.{conf_order, AreIndexed}
 use Rattle.totem_judge_run.specs.Orderly.{ChangesAgree}
 use Rattle.totem_judge_run.specs.Succession.{IsWrongSuccession}
-use Rattle.totem_judge_run.specs.FirstChanges.{conf_order, first_to, IsLastBefore, ComesFrom, IsMet, Keeps, Meets, IsRight, Enters, AreRight, EntersLog}
+use Rattle.totem_judge_run.specs.FirstChanges.{first_to, IsLastBefore, ComesFrom, IsMet, Keeps, Meets, IsRight, Enters, AreRight, EntersLog}
 use Rattle.totem_judge_run.proofs.Behind.{same_entry, regular_first, turns_right, one_origin, right_kinds, right_from, right_to, right_name}
 
 -- ---- one change
@@ -31,18 +32,49 @@ still_first old new y change f (Some i) was is list at =
     let there : slice_get old.list.items i ≡ Some f = rw was at at in
     rw (is, list) (stands_before old.list.items change i f there)
 
+none_first : (firsts : FirstChanges) (x : ConfId) (o : Option ℕ) (f : FirstChange) → o ≡ tree.get conf_order firsts.index x → ((i : ℕ) → o ≡ Some i → ⊥) → first_to firsts x ≡ Some f → ⊥
+none_first firsts x None f is none at = (let nowhere : first_to firsts x ≡ None = rw (← is) refl in cc)
+none_first firsts x (Some i) f is none at = none i refl
+
 -- it is the first one
-pub met_first : (old new : FirstChanges) (x : ConfId) (o : Option FirstChange) (change : FirstChange) (n : ℕ) → o ≡ first_to old x → ((f : FirstChange) → o ≡ Some f → ⊥) → new.list.items ≡ old.list.items ++ change ∷ []
+pub met_first : (old new : FirstChanges) (x : ConfId) (o : Option ℕ) (change : FirstChange) (n : ℕ) → o ≡ tree.get conf_order old.index x → ((i : ℕ) → o ≡ Some i → ⊥) → new.list.items ≡ old.list.items ++ change ∷ []
     → n ≡ length old.list.items → tree.Updates conf_order old.index new.index x (Some n) → Meets old new x change.members.now change.from.now
 met_first old new x o change n is none list last updates = record {
   kept = record {
     each = λ y f at. elim (apart_or_at conf_order x y) [
-      | inl here ↦ (let same : x ≡ y = exact_conf x y (equal_at (conf_order x y) here) in absurd (none f (is ∙ rw same at)))
+      | inl here ↦ (let same : x ≡ y = exact_conf x y (equal_at (conf_order x y) here) in absurd (none_first old x o f is none (rw same at)))
       | inr apart ↦ still_first old new y change f (tree.get conf_order old.index y) refl (updates.2 y apart) list at
     ];
   };
   met = record { change = change; is = rw (updates.1, list, last) (stands_last old.list.items change); members = refl; from = refl };
 }
+
+-- it is not the first one, which is at i
+pub met_again : (old new : FirstChanges) (x : ConfId) (ms : List ℕ) (c : RingId) (i : ℕ) (first : FirstChange) (ok : Bool) → new.list ≡ old.list → new.index ≡ old.index → tree.get conf_order old.index x ≡ Some i
+    → slice_get old.list.items i ≡ Some first → first.from.now ≡ c → (IsTrue ok → first.members.now ≡ ms) → OnTrue ok (Meets old new x ms c)
+met_again old new x ms c i first false list index at is from members = tt
+met_again old new x ms c i first true list index at is from members = record {
+  kept = record { each = λ y f there. rw (list, index) there };
+  met = record { change = first; is = rw (list, index, at) is; members = members refl; from = from };
+}
+
+-- the index has the place of the new change, if it is appended
+pub indexed_more : (list more : List FirstChange) (old new : tree.BTreeMap ConfId ℕ) (o : Option ℕ) (change : FirstChange) (n : ℕ) (ok : Bool) → o ≡ tree.get conf_order old change.conf.now → ((i : ℕ) → o ≡ Some i → ⊥) → n ≡ length list
+    → tree.Updates conf_order old new change.conf.now (Some n) → more ≡ cond ok (list ++ change ∷ []) list → AreIndexed list old → AreIndexed more new
+indexed_more list more old new o change n ok is none last updates items so = record { each = λ k f at. here ok k f (rw items at at) }
+  where
+    kept : (k : ℕ) (f : FirstChange) → slice_get list k ≡ Some f → tree.get conf_order new f.conf.now ≡ Some k
+    kept k f at = elim (apart_or_at conf_order change.conf.now f.conf.now) [
+      | inl here ↦ (let same : change.conf.now ≡ f.conf.now = exact_conf change.conf.now f.conf.now (equal_at (conf_order change.conf.now f.conf.now) here) in absurd (none k (is ∙ rw same (so.each k f at))))
+      | inr apart ↦ updates.2 f.conf.now apart ∙ so.each k f at
+    ]
+
+    here : (ok : Bool) (k : ℕ) (f : FirstChange) → slice_get (cond ok (list ++ change ∷ []) list) k ≡ Some f → tree.get conf_order new f.conf.now ≡ Some k
+    here false k f at = kept k f at
+    here true k f at = elim (before_push list change k f at) [
+      | inl before ↦ kept k f before
+      | inr (level, same) ↦ rw (← same, level, ← last) updates.1
+    ]
 
 -- if the result is `true`, what follows from P holds
 pub where_met : {E : Type 0} (r : Result Bool E) (P Q : Type 0) → (P → Q) → IfOk r (λ ok. OnTrue ok P) → IfOk r (λ ok. OnTrue ok Q)

@@ -13,7 +13,7 @@ use Rattle.totem_evs.specs.declared.entry.Entry.{Entry}
 use Rattle.totem_evs.specs.declared.entry.Entry.TheVariants.{Conf, Send, Deliver, Fail}
 use Rattle.totem_evs.specs.declared.log.Log.{Log}
 use Rattle.totem_evs.specs.Runs.{IsFailure}
-use Rattle.totem_judge_run.specs.declared.changes_2_3.FirstChanges.{FirstChanges}
+use Rattle.totem_judge_run.specs.declared.first_changes.FirstChanges.{FirstChanges}
 use Rattle.totem_judge_run.specs.declared.once_1_4.Once.TheVariants as once
 use Rattle.totem_judge_run.specs.FirstChanges.{AreRight, Enters, IsLastBefore, Keeps}
 use Rattle.totem_judge_run.specs.Misplaced.{Fits, standing_after}

@@ -1,6 +1,5 @@
 -- The first change to each configuration so far (docs/SPECIFICATIONS.md, "2 Changes of configuration").
 use Rattle.std.specs.Prelude.{◌≡◌, ℕ, ◌<◌, List, length, slice_get, Option, None, Some, option_and_then, Contains}
-use Rattle.std.specs.declared.cmp.Ordering.{Ordering}
 use Rattle.std.specs.BTreeMap as tree
 use Rattle.totem_names.specs.declared.ring.RingId.{RingId}
 use Rattle.totem_names.specs.declared.conf.ConfId.{ConfId}
@@ -10,12 +9,9 @@ use Rattle.totem_evs.specs.declared.log.Log.{Log}
 use Rattle.totem_evs.specs.Events.{ChangesWith, IsChange, IsRegular, IsTransitional}
 use Rattle.totem_evs.specs.Changes.{ChangesNext}
 use Rattle.totem_judge_run.specs.declared.changes_2_3.FirstChange.{FirstChange}
-use Rattle.totem_judge_run.specs.declared.changes_2_3.FirstChanges.{FirstChanges}
+use Rattle.totem_judge_run.specs.declared.first_changes.FirstChanges.{FirstChanges}
+use Rattle.totem_judge_run.specs.Indexed.{conf_order}
 use Rattle.totem_judge_run.specs.Succession.{IsWrongSuccession}
-
--- the order of configurations
-abbrev pub conf_order : ConfId → ConfId → Ordering
-conf_order = (Rattle.totem_names.specs.contracts.conf.ConfIdOrd.TheImpl.cmp-value).it
 
 abbrev pub first_to : FirstChanges → ConfId → Option FirstChange
 first_to firsts x = option_and_then (slice_get firsts.list.items) (tree.get conf_order firsts.index x)

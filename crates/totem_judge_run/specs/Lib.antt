@@ -4,6 +4,7 @@ pub mod Misplaced
 pub mod Succession
 pub mod Walked
 pub mod FirstChanges
+pub mod Indexed
 pub mod Ends
 pub mod Endings
 pub mod Stays

@@ -5,7 +5,7 @@ use Rattle.totem_evs.specs.declared.entry.Entry.{Entry}
 use Rattle.totem_evs.specs.declared.entry.Entry.TheVariants.{Conf, Send, Deliver, Fail}
 use Rattle.totem_evs.specs.declared.log.Log.{Log}
 use Rattle.totem_evs.specs.Changes.{StaysInPlace}
-use Rattle.totem_judge_run.specs.declared.changes_2_3.FirstChanges.{FirstChanges}
+use Rattle.totem_judge_run.specs.declared.first_changes.FirstChanges.{FirstChanges}
 use Rattle.totem_judge_run.specs.Once.{AddsSends}
 use Rattle.totem_judge_run.specs.FirstChanges.{EntersLog}
 

@@ -1,60 +1,58 @@
 //! 2.3: each configuration has one list of members, in which each process that changes to it is; and 2.4, by `succession_2_4`, on the same
 //! walk along the changes (docs/SPECIFICATIONS.md, "2 Changes of configuration"). This is the rule, which says yes. The search, which names
 //! what breaks it, is totem_pass_ab `configuration_2_3`.
-ghost use Rattle.std.specs.Prelude.{◌≡◌, ◌<◌, IfOk, length};
+ghost use Rattle.std.specs.Prelude.{◌≡◌, ◌<◌, IfOk, length, slice_get};
 ghost use Rattle.std.specs.Bool.{OnTrue};
-ghost use Rattle.totem_judge_run.specs.FirstChanges.{first_to, IsLastBefore, Meets, Enters};
+ghost use Rattle.std.specs.BTreeMap.{get};
+ghost use Rattle.totem_judge_run.specs.FirstChanges.{IsLastBefore, Meets, Enters};
+ghost use Rattle.totem_judge_run.specs.Indexed.{conf_order};
 
+use crate::first_changes::FirstChanges;
 use crate::succession_2_4::came_from;
-use std::alloc::{AllocError, Global};
-use std::collections::BTreeMap;
+use std::alloc::AllocError;
 use totem_evs::{Entry, Log, Members};
 use totem_names::{ConfId, RingId};
 
 /// The first change to a configuration, in the order in which changes are entered.
 #[derive(Clone, Copy)]
 pub struct FirstChange<'a> {
+    conf: &'a ConfId,
     members: &'a Members,
     /// The ring from which the log comes to the configuration; for a regular configuration, its own ring.
     from: &'a RingId,
 }
 
-/// The first changes so far, and the index of the one to each configuration.
-#[derive(Drop)]
-pub struct FirstChanges<'a> {
-    list: Vec<FirstChange<'a>>,
-    index: BTreeMap<ConfId, usize>,
-}
-
-impl<'a> FirstChanges<'a> {
-    pub fn new(alloc: Global) -> FirstChanges<'a> {
-        FirstChanges {
-            list: Vec::new(alloc),
-            index: BTreeMap::new(alloc),
-        }
-    }
-}
-
-fn first_to<'a>(firsts: &FirstChanges<'a>, conf: &ConfId) -> Option<FirstChange<'a>>
-    ensures { result ≡ first_to firsts.now conf.now }
+/// Returns the index of the first change to this configuration.
+fn index_of(firsts: &FirstChanges<'_>, conf: &ConfId) -> Option<usize>
+    ensures { result ≡ get conf_order firsts.now.index conf.now }
 {
-    let index = *firsts.index.get(conf)?;
+    if let Some(change) = firsts.list.as_slice().get(firsts.next)
+        && change.conf.is(conf)
+    {
+        return Some(firsts.next);
+    }
+    firsts.index.get(conf).copied()
+}
+
+fn first_at<'a>(firsts: &FirstChanges<'a>, index: usize) -> Option<FirstChange<'a>>
+    ensures { result ≡ slice_get firsts.now.list.items index }
+{
     firsts.list.as_slice().get(index).copied()
 }
 
 /// Compares a change with the first one to its configuration, or notes it as the first. Returns whether members and origin agree.
-fn meet<'a>(
-    firsts: &mut FirstChanges<'a>,
-    conf: &ConfId,
-    change: FirstChange<'a>,
-) -> Result<bool, AllocError>
-    ensures { IfOk result (λ ok. OnTrue ok (Meets firsts.old firsts.new conf.now change.entry.members.now change.entry.from.now)) }
+fn meet<'a>(firsts: &mut FirstChanges<'a>, change: FirstChange<'a>) -> Result<bool, AllocError>
+    ensures { IfOk result (λ ok. OnTrue ok (Meets firsts.old firsts.new change.entry.conf.now change.entry.members.now change.entry.from.now)) }
 {
-    let Some(first) = first_to(firsts, conf) else {
+    let Some(index) = index_of(firsts, change.conf) else {
         let index = firsts.list.len();
+        firsts.index.insert(*change.conf, index)?;
         firsts.list.push(change)?;
-        firsts.index.insert(*conf, index)?;
         return Ok(true);
+    };
+    firsts.next = index.saturating_add(1);
+    let Some(first) = first_at(firsts, index) else {
+        return Ok(false);
     };
     Ok(*first.from == *change.from && first.members.is(change.members))
 }
@@ -81,5 +79,12 @@ pub fn enter<'a>(
     let Some(from) = came_from(entries, before, conf, members) else {
         return Ok(false);
     };
-    meet(firsts, conf, FirstChange { members, from })
+    meet(
+        firsts,
+        FirstChange {
+            conf,
+            members,
+            from,
+        },
+    )
 }

@@ -14,6 +14,7 @@
 
 mod changes_2_3;
 mod ends_2_1;
+mod first_changes;
 mod misplaced_2_2;
 mod once_1_4;
 mod orderly;

@@ -5,7 +5,8 @@ ghost use Rattle.totem_evs.specs.Answers.{HasCertificate};
 ghost use Rattle.totem_judge_run.specs.Orderly.{IsOrderly};
 ghost use Rattle.totem_judge_run.specs.Walked.{IsWalked, last_after};
 
-use crate::changes_2_3::{FirstChanges, enter};
+use crate::changes_2_3::enter;
+use crate::first_changes::FirstChanges;
 use crate::misplaced_2_2::{fits, go_past};
 use crate::once_1_4::{add_send, are_distinct};
 use std::alloc::{AllocError, Global};
