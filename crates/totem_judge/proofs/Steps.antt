@@ -1,6 +1,8 @@
 -- Steps of the loops over stays, logs and members.
-use Rattle.std.proofs.Common.{◌≡◌, ◌≢◌, ◌⊎◌, inl, inr, ℕ, zero, suc, ◌+◌, ◌<◌, ◌≤◌, List, [], ◌∷◌, ◌++◌, length, slice_get, Some, refl, sym, ◌∙◌, ap, subst, arith, append-nil}
-use Rattle.std.specs.Prelude.{◌↔◌, Contains}
+use Rattle.std.proofs.Common.{◌≡◌, ◌≢◌, ◌⊎◌, inl, inr, ℕ, zero, suc, ◌+◌, ◌<◌, ◌≤◌, List, [], ◌∷◌, ◌++◌, length, length-set, replicate, slice_get, slice_set, Some, refl, sym, ◌∙◌, ap, subst, arith, append-nil}
+use Rattle.std.specs.Prelude.{◌↔◌, slice_index, Contains}
+use Rattle.std.proofs.lemmas.Grind.{get_or-set_at}
+use Rattle.std.proofs.lemmas.List.{get_or-replicate, get_or-set_other, length-replicate}
 use Rattle.std.proofs.lemmas.Option.{slice_get_within}
 use Rattle.totem_names.specs.declared.ring.RingId.{RingId}
 use Rattle.totem_names.specs.declared.conf.ConfId.{ConfId}
@@ -19,7 +21,7 @@ use Rattle.totem_judge.specs.declared.gathered.Stay.{Stay}
 use Rattle.totem_judge.specs.Ends.{HasSuch, Selects}
 use Rattle.totem_judge.specs.Members.{IsLogOfMember, AreLogsOfMembers}
 use Rattle.totem_judge.specs.Turns.{TurnsTo, IsFollowing, HasFollowingOf, HasFollowings}
-use Rattle.totem_judge.specs.Covered.{IsCoveredTo}
+use Rattle.totem_judge.specs.Covered.{IsCoveredTo, AreCoveredTo, AreCovered}
 use Rattle.totem_judge.specs.Pending.{IsPendingTo, AddsAll}
 use Rattle.totem_names.specs.declared.message.MsgId.{MsgId}
 use Rattle.totem_evs.specs.declared.entry.Entry.{Entry}
@@ -197,6 +199,31 @@ covered_more list l n k j g stay at stands log from so_far = record {
   each = λ i lt. elim (below_or_not i n) [
     | inl under ↦ so_far.each i under
     | inr behind ↦ record { at = k; gathered = g; stands = at; place = j; stay = stay; stay_is = stands; log_is = log; from = omega (arith, from, behind); until = lt }
+  ];
+}
+
+pub covered_none : (list : List Gathered) → AreCoveredTo list (replicate 32 0)
+covered_none list = record {
+  long = length-replicate {A = ℕ} 32 0;
+  each = λ l lt. record { each = λ i below. absurd (let none : slice_index (replicate 32 0) l ≡ 0 = get_or-replicate {A = ℕ} 32 l 0 0 lt in omega (arith, below, none)) };
+}
+
+pub all_covered_more : (list : List Gathered) (ends : List ℕ) (k j : ℕ) (g : Gathered) (stay : Stay) → slice_get list k ≡ Some g → slice_get g.stays.items j ≡ Some stay → stay.from ≡ slice_index ends stay.log → AreCoveredTo list ends → AreCoveredTo list (slice_set ends stay.log stay.end)
+all_covered_more list ends k j g stay at stands from so_far = record {
+  long = rw (length-set {A = ℕ}) so_far.long;
+  each = λ l lt. elim (same_or_not l stay.log) [
+    | inl same ↦
+        let here : slice_index (slice_set ends stay.log stay.end) l ≡ stay.end = get_or-set_at ends stay.log l stay.end 0 same (let few = stay.in_range in let long = so_far.long in omega arith) in
+        rw (here, same) (covered_more list stay.log (slice_index ends stay.log) k j g stay at stands refl from (so_far.each stay.log stay.in_range))
+    | inr apart ↦ subst (IsCoveredTo list l) (sym (get_or-set_other ends stay.log l stay.end 0 apart)) (so_far.each l lt)
+  ];
+}
+
+pub log_covered : (run : List Log) (list : List Gathered) (ends : List ℕ) (n : ℕ) (log : Log) → slice_get run n ≡ Some log → n < 32 → slice_index ends n ≡ length log.entries → AreCoveredTo list ends → AreCovered run list n → AreCovered run list (n + 1)
+log_covered run list ends n log at few end all so_far = record {
+  each = λ l other lt stands. elim (before_or_at l n lt) [
+    | inl under ↦ so_far.each l other under stands
+    | inr level ↦ (let same : other ≡ log = one_at run n other log (rw level at stands) at in rw (level, same, ← end) (all.each n few))
   ];
 }
 

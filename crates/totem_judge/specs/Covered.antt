@@ -1,5 +1,5 @@
 -- The stays that are gathered: which entries of a run are in them.
-use Rattle.std.specs.Prelude.{◌≡◌, ℕ, ◌<◌, ◌≤◌, List, length, slice_get, Some}
+use Rattle.std.specs.Prelude.{◌≡◌, ℕ, ◌<◌, ◌≤◌, List, length, slice_get, slice_index, Some}
 use Rattle.totem_evs.specs.declared.log.Log.{Log}
 use Rattle.totem_judge.specs.declared.gathered.Gathered.{Gathered}
 use Rattle.totem_judge.specs.declared.gathered.Stay.{Stay}
@@ -19,6 +19,11 @@ pub record IsCovered (list : List Gathered) (l i : ℕ) : Type 0 where
 -- so are the first n entries of the log at index l
 pub record IsCoveredTo (list : List Gathered) (l n : ℕ) : Type 0 where
   pub each : (i : ℕ) → i < n → IsCovered list l i
+
+-- so are the entries of each log before its end
+pub record AreCoveredTo (list : List Gathered) (ends : List ℕ) : Type 0 where
+  pub long : length ends ≡ 32
+  pub each : (l : ℕ) → l < 32 → IsCoveredTo list l (slice_index ends l)
 
 -- so are all entries of the first n logs
 pub record AreCovered (run : List Log) (list : List Gathered) (n : ℕ) : Type 0 where

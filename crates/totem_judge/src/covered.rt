@@ -1,45 +1,40 @@
 //! Whether each entry of a run is in a stay that is gathered.
-ghost use Rattle.std.specs.Prelude.{IfSome, length};
+ghost use Rattle.std.specs.Prelude.{◌≤◌, IfSome, length};
 ghost use Rattle.std.specs.Bool.{OnTrue};
-ghost use Rattle.totem_judge.specs.Covered.{IsCoveredTo, AreCovered, AreRisingTo};
+ghost use Rattle.totem_judge.specs.Covered.{AreCoveredTo, AreCovered, AreRisingTo};
 
 use crate::gathered::Gathered;
 use totem_evs::Log;
 
-/// Returns where the last stay of the log ends, or `None` unless the first begins where the log does, and each other one where the
+/// Returns where the last stay of each log ends, or `None` unless the first begins where the log does, and each other one where the
 /// one before it ends.
-fn covered_to(list: &[Gathered], log: usize) -> Option<usize>
-    ensures { IfSome result (IsCoveredTo list.now log) }
+fn covered_to(list: &[Gathered]) -> Option<[usize; 32]>
+    ensures { IfSome result (AreCoveredTo list.now) }
 {
-    let mut end = 0;
+    let mut ends = [0; 32];
     for gathered in list {
         for stay in &gathered.stays {
-            if stay.log as usize == log {
-                if stay.from != end {
-                    return None;
-                }
-                end = stay.end;
+            let log = stay.log as usize;
+            if stay.from != ends[log] {
+                return None;
             }
+            ends[log] = stay.end;
         }
     }
-    Some(end)
-}
-
-fn is_covered(list: &[Gathered], index: usize, log: &Log) -> bool
-    ensures { OnTrue result (IsCoveredTo list.now index (length log.now.entries)) }
-{
-    match covered_to(list, index) {
-        Some(end) => end == log.entries.as_slice().len(),
-        None => false,
-    }
+    Some(ends)
 }
 
 /// Returns whether each log is made up of stays.
 pub fn are_covered(logs: &[Log], list: &[Gathered]) -> bool
+    requires { length logs.now ≤ 32 }
     ensures { OnTrue result (AreCovered logs.now list.now (length logs.now)) }
 {
+    let Some(ends) = covered_to(list) else {
+        return false;
+    };
     for index in 0..logs.len() {
-        if !is_covered(list, index, &logs[index]) {
+        let log = &logs[index];
+        if ends[index] != log.entries.as_slice().len() {
             return false;
         }
     }

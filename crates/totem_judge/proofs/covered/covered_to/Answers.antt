@@ -1,8 +1,10 @@
 use Rattle.std.proofs.Common.{◌≡◌, slice_get, Some, arith}
 use Rattle.totem_judge_traffic.proofs.Rowing.{read_at}
-use Rattle.totem_judge.proofs.Steps.{covered_more}
-use Rattle.totem_judge.proofs.covered.covered_to.Goals.{then-stay-log+else-stay-end, else-stay-log}
+use Rattle.totem_judge.proofs.Steps.{all_covered_more, covered_none}
 use Rattle.totem_judge.proofs.covered.covered_to.Goals as goal
+
+pub loop-gathered-init : goal.loop-gathered-init
+loop-gathered-init c = covered_none c.args.list.now
 
 pub loop-stay-preserved : goal.loop-stay-preserved
 loop-stay-preserved c =
@@ -11,7 +13,4 @@ loop-stay-preserved c =
     let stay = c.stay-item.result in
     let at : slice_get list c.loop-gathered.gathered-index ≡ Some gathered = read_at list c.loop-gathered.gathered-index gathered c.loop-gathered-test.true c.gathered-item.is in
     let stands : slice_get gathered.stays.items c.loop-stay.stay-index ≡ Some stay = rw c.deref-stay-items.ensures.value at (read_at c.deref-stay-items.result.now c.loop-stay.stay-index stay c.loop-stay-test.true c.stay-item.is) in
-    elim c.if-stay-log.branch [
-      | then-stay-log+else-stay-end w ↦ rw w.end-is (covered_more list c.args.log c.loop-stay.end c.loop-gathered.gathered-index c.loop-stay.stay-index gathered stay at stands (omega (arith, w.if-stay-log.true)) (omega (arith, w.if-stay-end.false)) c.loop-stay.invariant)
-      | else-stay-log w ↦ rw w.end-is c.loop-stay.invariant
-    ]
+    all_covered_more list c.loop-stay.ends c.loop-gathered.gathered-index c.loop-stay.stay-index gathered stay at stands (omega (arith, c.if-stay-ends.false)) c.loop-stay.invariant
