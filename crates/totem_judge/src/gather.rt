@@ -21,14 +21,10 @@ struct Spot {
 /// Where the sent messages are listed.
 #[derive(Drop)]
 struct Spots {
-    /// The configurations of the rings, by index.
-    rings: BTreeMap<RingId, usize>,
     /// For each configuration, the indices of the messages named by its ring, by their numbers; `ABSENT` for a number that was not sent.
     numbered: Vec<Vec<u32>>,
     /// Messages named by other rings, and those whose numbers are too high for a list by number.
     others: BTreeMap<MsgId, Spot>,
-    /// The ring that was looked up last, and its configuration.
-    last: Option<(RingId, usize)>,
 }
 
 const ABSENT: u32 = u32::MAX;
@@ -38,12 +34,20 @@ const LEFT_OUT: usize = 16;
 
 const LEFT_OUT_EACH: usize = 3;
 
-/// The next events of all logs that share a number: the first log that has one, and the set of all that do.
+/// The next events of all logs that share a number: the first log that has one, and the set of all that do, also as bits.
 #[derive(Clone, Copy)]
 struct Next {
     log: u32,
     number: u32,
+    bits: u32,
     logs: LogSet,
+}
+
+/// Where a log stands: the index of the configuration, and that of its stay there.
+#[derive(Clone, Copy)]
+struct Standing {
+    configuration: usize,
+    stay: usize,
 }
 
 /// What has been gathered so far.
@@ -51,20 +55,27 @@ struct Next {
 struct Gatherer {
     list: Vec<Gathered>,
     spots: Spots,
-    /// For each log, the index of the configuration that it is in.
-    standing: Vec<usize>,
+    /// For each log, where it stands.
+    standing: Vec<Standing>,
     /// The logs that are in a transitional configuration.
     behind: LogSet,
+}
+
+/// Where the walk is in a log.
+#[derive(Clone, Copy)]
+struct Cursor<'a> {
+    entries: &'a [Entry],
+    numbers: &'a [u32],
+    /// How many entries have been passed.
+    passed: usize,
+    /// The number of the next entry, or `NONE`.
+    next: u32,
 }
 
 /// The walk along the numbers of a certificate.
 #[derive(Drop)]
 struct Walk<'a> {
-    lines: &'a [Line],
-    /// For each log, how many entries have been passed.
-    passed: Vec<usize>,
-    /// For each log, the number of its next entry, or `NONE`.
-    next: Vec<u32>,
+    cursors: Vec<Cursor<'a>>,
     /// The number that was passed last.
     last: u32,
 }
@@ -73,21 +84,24 @@ struct Walk<'a> {
 const NONE: u32 = 0;
 
 /// Returns the number of the entry at this index, or `NONE` if there is no such entry.
-fn number_at(line: &Line, at: usize) -> u32 {
-    line.numbers.as_slice().get(at).copied().unwrap_or(NONE)
+fn number_at(numbers: &[u32], at: usize) -> u32 {
+    numbers.get(at).copied().unwrap_or(NONE)
 }
 
 impl<'a> Walk<'a> {
-    fn new(alloc: Global, lines: &'a [Line]) -> Result<Walk<'a>, AllocError> {
-        let passed = vec![in alloc; 0usize; lines.len()]?;
-        let mut next = Vec::with_capacity(alloc, lines.len())?;
-        for line in lines {
-            next.push(number_at(line, 0))?;
+    fn new(alloc: Global, logs: &'a [Log], lines: &'a [Line]) -> Result<Walk<'a>, AllocError> {
+        let mut cursors = Vec::with_capacity(alloc, lines.len())?;
+        for (log, line) in logs.iter().zip(lines) {
+            let numbers = line.numbers.as_slice();
+            cursors.push(Cursor {
+                entries: log.entries.as_slice(),
+                numbers,
+                passed: 0,
+                next: number_at(numbers, 0),
+            })?;
         }
         Ok(Walk {
-            lines,
-            passed,
-            next,
+            cursors,
             last: NONE,
         })
     }
@@ -95,38 +109,32 @@ impl<'a> Walk<'a> {
     /// Returns the logs whose next entries have this number: bit i stands for the log at index i.
     fn bits_at(&self, number: u32) -> u32 {
         let mut bits = 0u32;
-        let mut bit = 1u32;
-        for next in self.next.iter() {
-            bits |= if *next == number { bit } else { 0 };
-            bit <<= 1;
+        for cursor in self.cursors.iter().rev() {
+            bits = (bits << 1) | u32::from(cursor.next == number);
         }
         bits
-    }
-
-    /// Moves past the next entry of this log.
-    fn pass(&mut self, log: usize) {
-        if log < self.lines.len() && log < self.passed.len() && log < self.next.len() {
-            let passed = self.passed[log].saturating_add(1);
-            self.passed[log] = passed;
-            self.next[log] = number_at(&self.lines[log], passed);
-        }
     }
 
     /// Moves past the next entries of these logs.
     fn pass_all(&mut self, bits: u32) {
         let mut left = bits;
         for _ in 0..bits.count_ones() {
-            self.pass(left.trailing_zeros() as usize);
+            let log = left.trailing_zeros() as usize;
             left &= left.wrapping_sub(1);
+            if log < self.cursors.len() {
+                let cursor = &mut self.cursors[log];
+                cursor.passed = cursor.passed.saturating_add(1);
+                cursor.next = number_at(cursor.numbers, cursor.passed);
+            }
         }
     }
 
     /// Returns the least number that is left, or `None` if there is none.
     fn least(&self) -> Option<u32> {
         let mut least = None;
-        for next in self.next.iter() {
-            if *next != NONE {
-                least = Some(least.unwrap_or(u32::MAX).min(*next));
+        for cursor in self.cursors.iter() {
+            if cursor.next != NONE {
+                least = Some(least.unwrap_or(u32::MAX).min(cursor.next));
             }
         }
         least
@@ -145,7 +153,12 @@ impl<'a> Walk<'a> {
         self.last = number;
         let logs = LogSet::from_bits(bits);
         let log = logs.least()?;
-        Some(Next { log, number, logs })
+        Some(Next {
+            log,
+            number,
+            bits,
+            logs,
+        })
     }
 }
 
@@ -156,43 +169,25 @@ fn index_of(at: usize) -> u32 {
 impl Spots {
     fn new(alloc: Global) -> Spots {
         Spots {
-            rings: BTreeMap::new(alloc),
             numbered: Vec::new(alloc),
             others: BTreeMap::new(alloc),
-            last: None,
         }
     }
 
     /// Enters the next configuration, in which about this many messages are sent.
-    fn begin(&mut self, alloc: Global, ring: RingId, messages: usize) -> Result<(), AllocError> {
-        let indices = Vec::with_capacity(alloc, messages.saturating_add(1))?;
-        self.rings.insert(ring, self.numbered.len())?;
-        self.numbered.push(indices)?;
+    fn begin(&mut self, alloc: Global, messages: usize) -> Result<(), AllocError> {
+        self.numbered
+            .push(Vec::with_capacity(alloc, messages.saturating_add(1))?)?;
         Ok(())
     }
 
-    /// Returns the configuration of a ring.
-    fn configuration(&mut self, ring: RingId) -> Option<usize> {
-        if let Some((last, configuration)) = self.last
-            && last == ring
-        {
-            return Some(configuration);
-        }
-        let configuration = self.rings.get(&ring).copied()?;
-        self.last = Some((ring, configuration));
-        Some(configuration)
-    }
-
-    /// Enters a message that was sent.
-    fn insert(&mut self, message: MsgId, spot: Spot) -> Result<(), AllocError> {
+    /// Enters a message that was sent, in the configuration of this ring.
+    fn insert(&mut self, message: MsgId, ring: RingId, spot: Spot) -> Result<(), AllocError> {
         let number = message.number as usize;
         let most = LEFT_OUT_EACH
             .saturating_mul(spot.index as usize)
             .saturating_add(LEFT_OUT);
-        if self.configuration(message.ring) != Some(spot.configuration)
-            || number > most
-            || spot.configuration >= self.numbered.len()
-        {
+        if message.ring != ring || number > most || spot.configuration >= self.numbered.len() {
             self.others.insert(message, spot)?;
             return Ok(());
         }
@@ -206,101 +201,124 @@ impl Spots {
         Ok(())
     }
 
-    /// Returns where a message is listed.
-    fn get(&mut self, message: &MsgId) -> Option<Spot> {
-        if let Some(configuration) = self.configuration(message.ring)
+    /// Returns the index at which a message is listed in this configuration, which is that of the ring.
+    fn get(&self, message: &MsgId, ring: RingId, configuration: usize) -> Option<u32> {
+        if message.ring == ring
             && let Some(indices) = self.numbered.get(configuration)
             && let Some(index) = indices.get(message.number as usize).copied()
             && index != ABSENT
         {
-            return Some(Spot {
-                configuration,
-                index,
-            });
+            return Some(index);
         }
-        self.others.get(message).copied()
+        let spot = self.others.get(message).copied()?;
+        if spot.configuration == configuration {
+            Some(spot.index)
+        } else {
+            None
+        }
     }
 }
 
 impl Gatherer {
     fn new(alloc: Global) -> Result<Gatherer, AllocError> {
+        let nowhere = Standing {
+            configuration: usize::MAX,
+            stay: 0,
+        };
         Ok(Gatherer {
             list: Vec::new(alloc),
             spots: Spots::new(alloc),
-            standing: vec![in alloc; usize::MAX; 32]?,
+            standing: vec![in alloc; nowhere; 32]?,
             behind: LogSet::none(),
         })
     }
 
-    /// Enters that these logs change here, in the stays that they are in.
-    fn move_on(&mut self, next: &Next, passed: &[usize]) {
-        for log in 0..32u32 {
-            let index = log as usize;
-            if next.logs.contains(log)
-                && index < passed.len()
-                && index < self.standing.len()
-                && self.standing[index] < self.list.len()
-            {
-                let at = passed[index].saturating_sub(1);
-                let gathered = &mut self.list[self.standing[index]];
-                for stay in gathered.stays.iter_mut() {
-                    if stay.log == log {
-                        if stay.turn == stay.end {
-                            stay.turn = at;
-                        } else {
-                            stay.end = at;
-                        }
-                    }
+    /// Enters that this log changes at this index, in the stay that it is in.
+    fn move_on(&mut self, log: usize, at: usize) {
+        if log < self.standing.len() {
+            let Standing {
+                configuration,
+                stay,
+            } = self.standing[log];
+            if configuration < self.list.len() && stay < self.list[configuration].stays.len() {
+                let stay = &mut self.list[configuration].stays[stay];
+                if stay.turn == stay.end {
+                    stay.turn = at;
+                } else {
+                    stay.end = at;
                 }
             }
         }
     }
 
-    /// Enters the changes of these logs to a regular configuration, in which about this many messages are sent. `passed` has the number of
-    /// entries passed in each log, with this one.
+    /// Enters the changes of these logs, in the stays that they are in.
+    fn move_all(&mut self, next: &Next, walk: &Walk<'_>) {
+        let mut left = next.bits;
+        for _ in 0..next.bits.count_ones() {
+            let log = left.trailing_zeros() as usize;
+            left &= left.wrapping_sub(1);
+            if log < walk.cursors.len() {
+                self.move_on(log, walk.cursors[log].passed.saturating_sub(1));
+            }
+        }
+    }
+
+    /// Enters the changes of these logs to a regular configuration, in which about this many messages are sent.
     fn change(
         &mut self,
         alloc: Global,
-        logs: &[Log],
         ring: RingId,
         messages: usize,
         next: &Next,
-        passed: &[usize],
+        walk: &Walk<'_>,
     ) -> Result<(), AllocError> {
-        self.move_on(next, passed);
-        let mut gathered = Gathered::new(alloc, ring, next.number, messages)?;
-        for log in 0..32u32 {
+        self.move_all(next, walk);
+        let count = next.bits.count_ones();
+        let mut gathered = Gathered::new(alloc, ring, next.number, count as usize, messages)?;
+        let mut left = next.bits;
+        for stay in 0..count as usize {
+            let log = left.trailing_zeros();
             let index = log as usize;
-            if next.logs.contains(log)
-                && index < logs.len()
-                && index < passed.len()
-                && index < self.standing.len()
-            {
-                let recorded = &logs[index];
-                let from = passed[index].saturating_sub(1);
-                let end = recorded.entries.as_slice().len();
+            left &= left.wrapping_sub(1);
+            if log < 32 && index < walk.cursors.len() && index < self.standing.len() {
+                let from = walk.cursors[index].passed.saturating_sub(1);
+                let end = walk.cursors[index].entries.len();
                 gathered.stays.push(Stay {
                     log,
                     from,
                     turn: end,
                     end,
                 })?;
-                self.standing[index] = self.list.len();
+                self.standing[index] = Standing {
+                    configuration: self.list.len(),
+                    stay,
+                };
             }
         }
         self.behind = self.behind.minus(next.logs);
-        self.spots.begin(alloc, ring, messages)?;
+        self.spots.begin(alloc, messages)?;
         self.list.push(gathered)?;
         Ok(())
     }
 
+    /// Returns the index of the configuration that this log is in.
+    fn configuration_of(&self, log: u32) -> Option<usize> {
+        let standing = self.standing.get(log as usize).copied()?;
+        if standing.configuration < self.list.len() {
+            Some(standing.configuration)
+        } else {
+            None
+        }
+    }
+
     fn send(&mut self, message: MsgId, service: Service, next: &Next) -> Result<(), AllocError> {
         let sender = next.log;
-        let log = sender as usize;
-        if sender >= 32 || log >= self.standing.len() || self.standing[log] >= self.list.len() {
+        let Some(configuration) = self.configuration_of(sender) else {
+            return Ok(());
+        };
+        if sender >= 32 || configuration >= self.list.len() {
             return Ok(());
         }
-        let configuration = self.standing[log];
         let gathered = &mut self.list[configuration];
         let index = index_of(gathered.sent.len());
         gathered.sent.push(Sent {
@@ -311,8 +329,10 @@ impl Gatherer {
         })?;
         gathered.origins.push(Origin { service, got: None })?;
         gathered.sent_numbers.push(next.number)?;
+        let ring = gathered.ring;
         self.spots.insert(
             message,
+            ring,
             Spot {
                 configuration,
                 index,
@@ -321,14 +341,17 @@ impl Gatherer {
     }
 
     fn deliver(&mut self, message: MsgId, next: &Next) -> Result<(), AllocError> {
-        let Some(spot) = self.spots.get(&message) else {
+        let Some(configuration) = self.configuration_of(next.log) else {
             return Ok(());
         };
-        if spot.configuration >= self.list.len() {
+        if configuration >= self.list.len() {
             return Ok(());
         }
-        let gathered = &mut self.list[spot.configuration];
-        let index = spot.index as usize;
+        let gathered = &mut self.list[configuration];
+        let Some(sent) = self.spots.get(&message, gathered.ring, configuration) else {
+            return Ok(());
+        };
+        let index = sent as usize;
         if index >= gathered.sent.len() || index >= gathered.origins.len() {
             return Ok(());
         }
@@ -336,7 +359,7 @@ impl Gatherer {
         gathered.sent[index].by = next.logs;
         gathered.origins[index].got = Some(got);
         gathered.got.push(Got {
-            sent: spot.index,
+            sent,
             sender: gathered.sent[index].sender,
             safe: gathered.origins[index].is_safe(),
             regular: next.logs.minus(self.behind),
@@ -350,18 +373,17 @@ impl Gatherer {
     fn enter(
         &mut self,
         alloc: Global,
-        logs: &[Log],
         entry: &Entry,
         next: &Next,
         walk: &Walk<'_>,
     ) -> Result<(), AllocError> {
         match entry {
             Entry::Conf(ConfId::Regular(ring), _) => {
-                let messages = messages_from(logs, walk, next.log as usize);
-                self.change(alloc, logs, *ring, messages, next, &walk.passed)
+                let messages = messages_from(walk, next.log as usize);
+                self.change(alloc, *ring, messages, next, walk)
             }
             Entry::Conf(ConfId::Transitional { .. }, _) => {
-                self.move_on(next, &walk.passed);
+                self.move_all(next, walk);
                 self.behind = self.behind.union(next.logs);
                 Ok(())
             }
@@ -384,19 +406,18 @@ fn stay_length(entries: &[Entry]) -> usize {
 
 /// Returns about how many messages are sent until this log changes to a regular configuration again, and at most how many entries it has
 /// until then. The walk has passed the entry before that. Most messages take two numbers, for the send and for the deliveries.
-fn messages_from(logs: &[Log], walk: &Walk<'_>, log: usize) -> usize {
-    let (Some(log), Some(line), Some(passed)) = (
-        logs.get(log),
-        walk.lines.get(log),
-        walk.passed.get(log),
-    ) else {
+fn messages_from(walk: &Walk<'_>, log: usize) -> usize {
+    let Some(cursor) = walk.cursors.get(log) else {
         return 0;
     };
-    let Some(entries) = log.entries.as_slice().get(*passed..) else {
+    let Some(entries) = cursor.entries.get(cursor.passed..) else {
         return 0;
     };
     let length = stay_length(entries);
-    let last = number_at(line, passed.saturating_add(length).saturating_sub(1));
+    let last = number_at(
+        cursor.numbers,
+        cursor.passed.saturating_add(length).saturating_sub(1),
+    );
     let events = last.saturating_sub(walk.last) as usize;
     (events / 2).min(length)
 }
@@ -415,20 +436,18 @@ pub fn gather(alloc: Global, logs: &[Log], lines: &[Line]) -> Result<Vec<Gathere
     requires few { length lines.now ≤ 32 }
 {
     let mut gatherer = Gatherer::new(alloc)?;
-    let mut walk = Walk::new(alloc, lines)?;
+    let mut walk = Walk::new(alloc, logs, lines)?;
     for _ in 0..entries_of(logs) {
         let Some(next) = walk.go_on() else {
             break;
         };
-        let index = next.log as usize;
-        let (Some(log), Some(passed)) = (logs.get(index), walk.passed.get(index)) else {
+        let Some(cursor) = walk.cursors.get(next.log as usize) else {
             break;
         };
-        let at = passed.saturating_sub(1);
-        let Some(entry) = log.entries.as_slice().get(at) else {
+        let Some(entry) = cursor.entries.get(cursor.passed.saturating_sub(1)) else {
             break;
         };
-        gatherer.enter(alloc, logs, entry, &next, &walk)?;
+        gatherer.enter(alloc, entry, &next, &walk)?;
     }
     Ok(gatherer.list)
 }

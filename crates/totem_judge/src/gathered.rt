@@ -58,17 +58,18 @@ impl Origin {
 impl Gathered {
     ghost use Rattle.std.specs.Prelude.{◌≡◌, slice_get};
 
-    /// Returns what is gathered at first, with room for this many messages.
+    /// Returns what is gathered at first, with room for this many stays and messages.
     pub fn new(
         alloc: Global,
         ring: RingId,
         number: u32,
+        stays: usize,
         messages: usize,
     ) -> Result<Gathered, AllocError> {
         Ok(Gathered {
             ring,
             number,
-            stays: Vec::new(alloc),
+            stays: Vec::with_capacity(alloc, stays)?,
             sent: Vec::with_capacity(alloc, messages)?,
             origins: Vec::with_capacity(alloc, messages)?,
             sent_numbers: Vec::with_capacity(alloc, messages)?,
