@@ -1,6 +1,7 @@
 //! 2.2: each entry is where it is allowed (docs/SPECIFICATIONS.md, "2 Changes of configuration"). This is the rule, which says yes. The
 //! search, which names what breaks it, is totem_pass_ab `misplaced_2_2`.
-ghost use Rattle.std.specs.Prelude.{◌≡◌, ℕ, ◌<◌, ◌↔◌, IsTrue, IfSome, IfNone, Some};
+ghost use Rattle.std.specs.Prelude.{◌≡◌, ℕ, ◌<◌, ◌↔◌, IsTrue, IfSome, IfNone, Option, Some};
+ghost use Rattle.totem_names.specs.declared.conf.ConfId.{ConfId};
 ghost use Rattle.totem_evs.specs.Changes.{StaysInPlace};
 ghost use Rattle.totem_evs.specs.ChangeFaults.{IsMisplaced};
 ghost use Rattle.totem_judge_run.specs.Misplaced.{Fits, standing_after};
@@ -14,15 +15,26 @@ fn is_in(standing: &Option<ConfId>, conf: &ConfId) -> bool
     matches!(standing, Some(here) if here.is(conf))
 }
 
+/// Returns the configuration that an entry names, or `None` for a change.
+fn conf_of(entry: &Entry) -> Option<&ConfId>
+    ensures some { IfSome result (λ conf. (standing : Option ConfId) → Fits standing entry.now ↔ (standing ≡ Some conf.now)) }
+    ensures none { IfNone result ((standing : Option ConfId) → Fits standing entry.now) }
+{
+    match entry {
+        Entry::Conf(_, _) => None,
+        Entry::Send(_, conf, _) => Some(conf),
+        Entry::Deliver(_, conf) => Some(conf),
+        Entry::Fail(conf) => Some(conf),
+    }
+}
+
 #[inline(always)]
 pub fn fits(standing: &Option<ConfId>, entry: &Entry) -> bool
     ensures { IsTrue result ↔ Fits standing.now entry.now }
 {
-    match entry {
-        Entry::Conf(_, _) => true,
-        Entry::Send(_, conf, _) => is_in(standing, conf),
-        Entry::Deliver(_, conf) => is_in(standing, conf),
-        Entry::Fail(conf) => is_in(standing, conf),
+    match conf_of(entry) {
+        Some(conf) => is_in(standing, conf),
+        None => true,
     }
 }
 
