@@ -7,7 +7,7 @@ use crate::lookup::last_change;
 use crate::sites::{Site, Sites, is_regular, logs_of};
 use crate::size::Size;
 use crate::survey::Survey;
-use crate::traffic::{Sent, Traffic};
+use crate::traffic::{Late, Sent, Traffic};
 use std::alloc::{AllocError, Global};
 use totem_evs::{Ending, Log, Run};
 
@@ -64,25 +64,30 @@ impl Counts {
             mut sites,
             messages,
         } = Survey::of(alloc, run)?;
-        let traffic = Traffic::of(alloc, run, &mut sites, &messages)?;
-        let mut counts = Counts {
+        let is_late = size.transitional_deliveries > 0;
+        let mut traffic = Traffic::of(alloc, run, &mut sites, &messages, is_late)?;
+        let mut counts = Counts::default();
+        for (index, one) in traffic.sent.iter().enumerate() {
+            counts.add_message(one);
+            if let Some(site) = sites.list.get_mut(one.site as usize) {
+                let late = traffic.late.get(index);
+                counts.add_at(one, late.map_or(Late::none(), |late| *late), site);
+                site.add_past(one.delivered);
+            }
+        }
+        traffic.find_gaps(alloc, run, &sites, &messages)?;
+        counts.add_sites(&sites);
+        counts.add_logs(run, &sites, &traffic);
+        Ok(Counts {
+            size,
             moves: sites.moves(),
             agreed: traffic.agreed,
             pairs: traffic.pairs,
             larger: traffic.larger,
             past: traffic.past,
             past_no_member: traffic.lacking,
-            ..Counts::default()
-        };
-        counts.add_sites(&sites);
-        counts.add_logs(run, &sites, &traffic);
-        for one in &traffic.sent {
-            counts.add_message(one);
-            if let Some(site) = sites.list.get(one.site as usize) {
-                counts.add_excuses(one, site);
-            }
-        }
-        Ok(Counts { size, ..counts })
+            ..counts
+        })
     }
 
     fn add_sites(&mut self, sites: &Sites) {
@@ -114,14 +119,12 @@ impl Counts {
 
     fn add_message(&mut self, one: &Sent) {
         let count = one.delivered.count_ones();
-        let own = u32::from(one.delivered & one.sender != 0);
+        let own = u32::from(one.delivered & one.sender() != 0);
         self.received = self.received.saturating_add(count.saturating_sub(own));
         self.own = self.own.saturating_add(own);
         self.common = self.common.saturating_add(u32::from(count >= 2));
         if one.is_safe {
             self.safe_delivered = self.safe_delivered.saturating_add(u32::from(count > 0));
-            self.installed = self.installed.saturating_add(one.regular.count_ones());
-            self.obliged = self.obliged.saturating_add(one.obliged.count_ones());
         }
         if one.is_later {
             self.effects = self.effects.saturating_add(count);
@@ -129,14 +132,18 @@ impl Counts {
         }
     }
 
-    /// Adds the processes that need not deliver a message, since they ended where they could have done so.
-    fn add_excuses(&mut self, one: &Sent, site: &Site) {
-        let own = one.sender & !one.delivered;
-        let lacking = if one.is_safe {
-            one.obliged & !one.delivered
-        } else {
-            0
-        };
+    /// Adds who had to deliver a message, if it is safe, that was sent at this site, and the processes that need not deliver it, since they
+    /// ended where they could have done so.
+    fn add_at(&mut self, one: &Sent, late: Late, site: &Site) {
+        let own = one.sender() & !one.delivered;
+        let mut lacking = 0;
+        if one.is_safe {
+            let regular = one.delivered & !late.logs;
+            let obliged = late.others | site.members_but(regular);
+            self.installed = self.installed.saturating_add(regular.count_ones());
+            self.obliged = self.obliged.saturating_add(obliged.count_ones());
+            lacking = obliged & !one.delivered;
+        }
         if own | lacking == 0 {
             return;
         }

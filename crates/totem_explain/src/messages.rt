@@ -110,13 +110,13 @@ pub struct Finder<'a> {
 
 impl Finder<'_> {
     /// Returns the index of a message, or `None` if it is not sent.
+    #[inline(always)]
     pub fn find(&mut self, message: &MsgId) -> Option<usize> {
         let names = Names::of(message);
-        let found = self.block;
-        let block = match found {
-            Some(block) if block.names == names => block,
-            _ => self.go_to(&names)?,
-        };
+        if !self.block.is_some_and(|block| block.names == names) {
+            self.go_to(message);
+        }
+        let block = self.block?;
         let at = message.number % SPAN;
         if block.sent >> at & 1 == 0 {
             return None;
@@ -125,14 +125,16 @@ impl Finder<'_> {
         Some(block.before.saturating_add(below.count_ones() as usize))
     }
 
-    /// Returns the block of these names, or `None` if none of them is sent.
-    fn go_to(&mut self, names: &Names) -> Option<Block> {
+    /// Goes to the block of a message, or to none if no message of that block is sent.
+    #[inline(never)]
+    fn go_to(&mut self, message: &MsgId) {
+        let names = Names::of(message);
         self.at = self.at.saturating_add(1);
         self.block = self.blocks.get(self.at).copied();
-        if !self.block.is_some_and(|block| block.names == *names) {
-            self.at = self.blocks.partition_point(|block| block.names < *names);
+        if !self.block.is_some_and(|block| block.names == names) {
+            self.at = self.blocks.partition_point(|block| block.names < names);
             self.block = self.blocks.get(self.at).copied();
         }
-        self.block.filter(|block| block.names == *names)
+        self.block = self.block.filter(|block| block.names == names);
     }
 }

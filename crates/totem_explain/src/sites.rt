@@ -37,8 +37,8 @@ pub struct Site {
     pub failed: u32,
     /// The logs that are open in it, or in what follows it.
     pub open: u32,
-    /// Of a regular one: whether a log lacks a message that was sent there and that another one delivers.
-    pub is_lacking: bool,
+    /// Of a regular one: the logs that deliver a message that was sent there and that another one lacks.
+    pub past: u32,
     before: Beside,
     behind: Beside,
 }
@@ -60,9 +60,25 @@ impl Site {
             left: 0,
             failed: 0,
             open: 0,
-            is_lacking: false,
+            past: 0,
             before: Beside::None,
             behind: Beside::None,
+        }
+    }
+
+    /// Returns the members for each of which one of these logs is that of another process.
+    pub fn members_but(&self, logs: u32) -> u32 {
+        match logs.count_ones() {
+            0 => 0,
+            1 => self.members & !logs,
+            _ => self.members,
+        }
+    }
+
+    /// Notes the logs that deliver a message that was sent there.
+    pub fn add_past(&mut self, delivered: u32) {
+        if self.logs & !delivered != 0 {
+            self.past |= delivered;
         }
     }
 
@@ -106,8 +122,8 @@ pub struct Stay {
     pub is_regular: bool,
     /// The index of the site of the regular configuration, `NOWHERE` before the first one.
     pub site: u32,
-    /// The logs of the members.
-    pub members: u32,
+    /// The logs of the other members.
+    pub others: u32,
     /// The logs that go on to the same next configuration, if there are several.
     pub group: u32,
 }
@@ -122,7 +138,7 @@ impl Stay {
             log,
             is_regular: false,
             site: NOWHERE,
-            members: 0,
+            others: 0,
             group: 0,
         }
     }
@@ -210,7 +226,7 @@ impl Sites {
             log: change.log,
             is_regular,
             site: if is_regular { change.site } else { before.site },
-            members: site.members,
+            others: site.members & !change.log,
             group: if group.count_ones() < 2 { 0 } else { group },
         }
     }
@@ -283,10 +299,12 @@ fn rank_of(conf: &ConfId) -> Rank {
 /// Returns where a configuration is in the list, or would be. In most logs that is behind the one found before it.
 fn site_near(list: &[Site], conf: &ConfId, before: usize) -> usize {
     let next = before.saturating_add(1);
-    for at in [next, before] {
-        if list.get(at).is_some_and(|site| site.conf.is(conf)) {
-            return at;
-        }
+    let is_at = |at: usize| list.get(at).is_some_and(|site| site.conf.is(conf));
+    if is_at(next) {
+        return next;
+    }
+    if is_at(before) {
+        return before;
     }
     let rank = rank_of(conf);
     list.partition_point(|site| rank_of(&site.conf) < rank)

@@ -5,71 +5,80 @@ use std::alloc::{AllocError, Global};
 use totem_evs::{Ending, Entry, Log, Run};
 use totem_names::Service;
 
-/// A message that was sent.
+/// A message that was sent. There are many, so it is small.
 #[derive(Clone, Copy)]
 pub struct Sent {
+    /// The logs that deliver it.
+    pub delivered: u32,
+    /// The index of the configuration's site.
+    pub site: u32,
+    /// The index of the log that sends it, `NOBODY` if none does.
+    sender: u8,
     pub is_safe: bool,
     /// Whether its sender had sent or delivered a message in the same configuration before.
     pub is_later: bool,
-    /// The index of the configuration's site.
-    pub site: u32,
-    pub sender: u32,
-    /// The logs that deliver it.
-    pub delivered: u32,
-    /// The logs that deliver it in a regular configuration.
-    pub regular: u32,
-    /// The members that the delivery of another process obliges to deliver it, if it is safe.
-    pub obliged: u32,
-    /// The logs that change to the configuration in which it was sent, and don't deliver it though another one does.
-    lacking: u32,
+}
+
+const NOBODY: u8 = 32;
+
+/// The deliveries of a message in transitional configurations.
+#[derive(Clone, Copy)]
+pub struct Late {
+    pub logs: u32,
+    /// The other members there.
+    pub others: u32,
+}
+
+impl Late {
+    pub fn none() -> Late {
+        Late { logs: 0, others: 0 }
+    }
+
+    /// Notes a delivery. Returns the logs of those before it.
+    fn deliver(&mut self, stay: &Stay) -> u32 {
+        let before = self.logs;
+        self.logs |= stay.log;
+        self.others |= stay.others;
+        before
+    }
 }
 
 impl Sent {
     fn none() -> Sent {
         Sent {
+            delivered: 0,
+            site: 0,
+            sender: NOBODY,
             is_safe: false,
             is_later: false,
-            site: 0,
-            sender: 0,
-            delivered: 0,
-            regular: 0,
-            obliged: 0,
-            lacking: 0,
         }
+    }
+
+    /// Returns the bit of the log that sends it.
+    pub fn sender(&self) -> u32 {
+        1u32.checked_shl(u32::from(self.sender)).unwrap_or(0)
     }
 
     fn send(&mut self, stay: &Stay, is_later: bool, service: Service) {
         self.is_safe |= service == Service::Safe;
-        if self.sender == 0 {
-            self.sender = stay.log;
+        if self.sender == NOBODY {
+            self.sender = u8::try_from(stay.log.trailing_zeros()).unwrap_or(NOBODY);
             self.site = stay.site;
             self.is_later = is_later;
         }
     }
 
     /// Notes a delivery. Returns whether it is the first one in a group of processes that go on together.
-    fn deliver(&mut self, stay: &Stay) -> bool {
-        let there = if stay.is_regular {
-            self.regular
-        } else {
-            self.delivered & !self.regular
-        };
-        if stay.is_regular {
-            self.regular |= stay.log;
-        }
+    #[inline(always)]
+    fn deliver(&mut self, stay: &Stay, late: Option<&mut Late>) -> bool {
+        let before = self.delivered;
         self.delivered |= stay.log;
-        self.obliged |= stay.members & !stay.log;
-        stay.group != 0 && there & stay.group == 0
-    }
-
-    /// Finds the logs that lack it.
-    fn find_lacking(&mut self, sites: &mut Sites) {
-        if let Some(site) = sites.list.get_mut(self.site as usize)
-            && self.delivered != 0
-        {
-            self.lacking = site.logs & !self.delivered;
-            site.is_lacking |= self.lacking != 0;
-        }
+        let there = match late {
+            None => before,
+            Some(late) if stay.is_regular => before & !late.logs,
+            Some(late) => late.deliver(stay),
+        };
+        (stay.group != 0) & (there & stay.group == 0)
     }
 }
 
@@ -77,6 +86,8 @@ impl Sent {
 #[derive(Drop)]
 pub struct Traffic {
     pub sent: Vec<Sent>,
+    /// As many, or none if the run has no deliveries in transitional configurations.
+    pub late: Vec<Late>,
     /// The logs that have a failure.
     pub failed: u32,
     /// The groups of two processes that go on together from one configuration to the next, and the larger ones.
@@ -97,9 +108,12 @@ impl Traffic {
         run: &Run,
         sites: &mut Sites,
         names: &Messages,
+        is_late: bool,
     ) -> Result<Traffic, AllocError> {
+        let count = names.len();
         let mut traffic = Traffic {
-            sent: vec![in alloc; Sent::none(); names.len()]?,
+            sent: vec![in alloc; Sent::none(); count]?,
+            late: vec![in alloc; Late::none(); if is_late { count } else { 0 }]?,
             failed: 0,
             pairs: 0,
             larger: 0,
@@ -112,12 +126,6 @@ impl Traffic {
         for log in run.logs.as_slice() {
             changes = traffic.add_log(bit, log, sites, names, changes);
             bit <<= 1;
-        }
-        for one in traffic.sent.iter_mut() {
-            one.find_lacking(sites);
-        }
-        if sites.list.iter().any(|site| site.is_lacking) {
-            traffic.find_gaps(alloc, run, sites, names)?;
         }
         Ok(traffic)
     }
@@ -133,8 +141,10 @@ impl Traffic {
     ) -> usize {
         let mut stay = Stay::before(bit);
         let mut is_later = false;
+        let mut agreed = 0u32;
         let mut changes = before;
-        let mut finder = names.finder();
+        let mut sends = names.finder();
+        let mut deliveries = names.finder();
         for entry in log.entries.as_slice() {
             match entry {
                 Entry::Conf(_, _) => {
@@ -144,23 +154,25 @@ impl Traffic {
                     changes = changes.saturating_add(1);
                 }
                 Entry::Send(message, _, service) => {
-                    let index = finder.find(message);
+                    let index = sends.find(message);
                     if let Some(one) = index.and_then(|index| self.sent.get_mut(index)) {
                         one.send(&stay, is_later, *service);
                     }
                     is_later = true;
                 }
                 Entry::Deliver(message, _) => {
-                    let index = finder.find(message);
-                    if let Some(one) = index.and_then(|index| self.sent.get_mut(index)) {
-                        let is_first = one.deliver(&stay);
-                        self.agreed = self.agreed.saturating_add(u32::from(is_first));
+                    if let Some(index) = deliveries.find(message)
+                        && let Some(one) = self.sent.get_mut(index)
+                    {
+                        let is_first = one.deliver(&stay, self.late.get_mut(index));
+                        agreed = agreed.saturating_add(u32::from(is_first));
                     }
                     is_later |= stay.is_regular;
                 }
                 Entry::Fail(_) => self.failed |= bit,
             }
         }
+        self.agreed = self.agreed.saturating_add(agreed);
         sites.end(&stay, log.ending);
         changes
     }
@@ -177,18 +189,29 @@ impl Traffic {
         }
     }
 
-    /// Finds the deliveries past a message that another process lacks.
-    fn find_gaps(
+    /// Finds the deliveries past a message that another process lacks, once the sites know which logs deliver such a message.
+    pub fn find_gaps(
         &mut self,
         alloc: Global,
         run: &Run,
         sites: &Sites,
         names: &Messages,
     ) -> Result<(), AllocError> {
-        // For each message, the logs that deliver it and lack one that a log delivers before it.
-        let mut lacking = vec![in alloc; 0u32; self.sent.len()]?;
+        let mut past = 0u32;
+        for site in &sites.list {
+            past |= site.past;
+        }
+        if past == 0 {
+            return Ok(());
+        }
+        // For each message, the logs that deliver it and lack one that a log delivers before it; empty if there are none.
+        let mut lacking = Vec::new(alloc);
+        let mut bit = 1u32;
         for log in run.logs.as_slice() {
-            self.find_gaps_of(log.entries.as_slice(), sites, names, &mut lacking);
+            if past & bit != 0 {
+                self.find_gaps_of(bit, log.entries.as_slice(), sites, names, &mut lacking)?;
+            }
+            bit <<= 1;
         }
         for logs in &lacking {
             self.lacking = self.lacking.saturating_add(logs.count_ones());
@@ -198,13 +221,14 @@ impl Traffic {
 
     fn find_gaps_of(
         &mut self,
+        bit: u32,
         entries: &[Entry],
         sites: &Sites,
         names: &Messages,
         lacking: &mut Vec<u32>,
-    ) {
+    ) -> Result<(), AllocError> {
         let mut lacked = 0u32;
-        let mut is_lacking = false;
+        let mut logs = 0u32;
         let mut near = 0;
         let mut finder = names.finder();
         for entry in entries {
@@ -212,10 +236,10 @@ impl Traffic {
                 Entry::Conf(conf, _) if is_regular(conf) => {
                     lacked = 0;
                     near = sites.find(conf, near);
-                    let site = sites.list.get(near);
-                    is_lacking = site.is_some_and(|site| site.is_lacking);
+                    let site = sites.list.get(near).filter(|site| site.past & bit != 0);
+                    logs = site.map_or(0, |site| site.logs);
                 }
-                Entry::Deliver(message, _) if is_lacking => {
+                Entry::Deliver(message, _) if logs != 0 => {
                     let Some(index) = finder.find(message) else {
                         continue;
                     };
@@ -224,20 +248,27 @@ impl Traffic {
                     };
                     if lacked != 0 {
                         self.past = self.past.saturating_add(1);
-                        add_logs(lacking, index, one.delivered & lacked);
+                        add_logs(lacking, self.sent.len(), index, one.delivered & lacked)?;
                     }
-                    lacked |= one.lacking;
+                    lacked |= logs & !one.delivered;
                 }
                 _ => {}
             }
         }
+        Ok(())
     }
 }
 
-fn add_logs(list: &mut Vec<u32>, index: usize, logs: u32) {
-    if logs != 0
-        && let Some(all) = list.get_mut(index)
-    {
+/// Adds these logs to those of an element, in a list that gets this length with the first ones.
+fn add_logs(list: &mut Vec<u32>, len: usize, index: usize, logs: u32) -> Result<(), AllocError> {
+    if logs == 0 {
+        return Ok(());
+    }
+    if list.is_empty() {
+        list.resize(len, 0)?;
+    }
+    if let Some(all) = list.get_mut(index) {
         *all |= logs;
     }
+    Ok(())
 }
