@@ -1,7 +1,8 @@
 #!/usr/bin/env python3
 """Measures where the gate's processor time goes: runs `rt ci` and sums up the time of its checks, by crate and by kind of check.
 
-    bench/gate.py                     # runs `rt ci` from nothing here, and prints the table when it has ended
+    bench/gate.py                     # runs `rt ci` here, and prints the table when it has ended
+    bench/gate.py --anew              # the same from nothing, even if the kit has kept what an earlier run on this machine proved
     bench/gate.py --each              # the table, and after it a line for each edit
     bench/gate.py rt ci totem_ids     # the same for another command
     bench/gate.py --watch             # only watches a run that somebody else began; ends with Ctrl-C
@@ -22,6 +23,7 @@ import time
 
 TICKS = os.sysconf("SC_CLK_TCK")
 PROVER = "rattle"
+GATE = ["rt", "ci"]
 COLUMNS = ("proof", "tests", "begin", "edits")
 
 Process = collections.namedtuple("Process", "name parent started seconds")
@@ -132,21 +134,16 @@ def tell(crates, edits, each):
             print("%8.2f  %s %s" % (minutes, crate, edit))
 
 
-def gate():
-    """The command that proves everything from nothing: a kit that keeps what it proved has an option not to use it."""
-    told = subprocess.run(["rt", "help"], capture_output=True, text=True, check=False)
-    return ["rt", "ci"] + ["--anew"] * ("--anew" in told.stdout + told.stderr)
-
-
 def main():
     """Watches until the command has ended, and prints the table."""
     parser = argparse.ArgumentParser(description=__doc__, formatter_class=argparse.RawDescriptionHelpFormatter)
+    parser.add_argument("--anew", action="store_true", help="take nothing that an earlier run has kept")
     parser.add_argument("--each", action="store_true", help="also print a line for each edit")
     parser.add_argument("--watch", action="store_true", help="start nothing, only watch")
     parser.add_argument("command", nargs="*")
     asked = parser.parse_args()
     signal.signal(signal.SIGTERM, signal.default_int_handler)
-    running = None if asked.watch else subprocess.Popen(asked.command or gate())
+    running = None if asked.watch else subprocess.Popen(asked.command or GATE + ["--anew"] * asked.anew)
     watch, begun = Watch(running.pid if running else None), time.monotonic()
     try:
         while not running or running.poll() is None:
