@@ -1,10 +1,11 @@
 #!/usr/bin/env python3
-"""Measures the time of `totem audit` on families of runs, and of `totem check` on the certificates that it gives.
+"""Measures the time of `totem audit` and `totem explain` on families of runs, and of `totem check` on the certificates that they give.
 
 For each family and each size it makes a run, lets the program judge it, and prints a line: the number of entries, the verdict, the
 shortest wall time of a few tries, the peak memory, the peak memory per entry, and by which factors the time and the entries grew since the
-size before. If the verdict is yes, the line also has the time and the memory of the check of its certificate, and of the check of the
-same certificate with its last number changed. If the time of a family grows much faster than its entries, that is a defect.
+size before; then the time of the explanation, and how many times that of the audit it is. If the verdict is yes, the line also has the time
+and the memory of the check of its certificate, and of the check of the same certificate with its last number changed. If the time of a
+family grows much faster than its entries, that is a defect.
 
     ./totem prove                                  # proves and builds the program, once
     bench/audit.py                                 # the table
@@ -287,19 +288,21 @@ def lines_of(name, arguments):
             entries = sum(len(body) for _, body, _ in logs)
             run.write(text_of(logs).encode())
             words = [str(arguments.program), "audit", "--workers", str(arguments.workers)]
-            tries = []
+            tries, explained = [], []
             for _ in range(arguments.tries):
                 tries.append(judged(words, run, arguments.limit))
+                explained.append(judged([words[0], "explain", *words[2:]], run, arguments.limit)[1])
                 if tries[-1][0] is None or tries[-1][1] > 5:
                     break
             checks = checks_of(run, arguments) if tries[-1][0] == "yes" else ["", ""]
         verdict, took, _ = min(tries, key=lambda it: it[1])
         if verdict is None:
-            yield f"| {what} | {entries:,} | - | above {arguments.limit} s | | | | | |"
+            yield f"| {what} | {entries:,} | - | above {arguments.limit} s | | | | | | |"
             return
         memory = max(it[2] for it in tries)
         growth = f"{took / before[1]:.1f} for {entries / before[0]:.1f}" if before else ""
-        yield f"| {what} | {entries:,} | {verdict} | {took:.3f} s | {memory:.0f} MiB | {memory * 2**20 / entries:.0f} | {growth} | {' | '.join(checks)} |"
+        told = f"{took:.3f} s | {memory:.0f} MiB | {memory * 2**20 / entries:.0f} | {growth} | {min(explained):.3f} s, {min(explained) / took:.2f}"
+        yield f"| {what} | {entries:,} | {verdict} | {told} | {' | '.join(checks)} |"
         before = entries, took
 
 
@@ -327,8 +330,8 @@ def main():
         return
     if not os.access(arguments.program, os.X_OK):
         parser.error(f"{arguments.program} is not built: ./totem prove builds it")
-    print("| Run | Entries | Verdict | Time | Peak memory | Bytes per entry | Growth of time, for that of entries | Check | Refusal |")
-    print("|---|---|---|---|---|---|---|---|---|")
+    print("| Run | Entries | Verdict | Time | Peak memory | Bytes per entry | Growth of time, for that of entries | Explanation, times the audit | Check | Refusal |")
+    print("|---|---|---|---|---|---|---|---|---|---|")
     for name in names:
         for line in lines_of(name, arguments):
             print(line, flush=True)
