@@ -93,17 +93,18 @@ impl<'a> Choice<'a> {
         is_followed
     }
 
-    /// Returns for each entry of a log whether it is drawn.
-    fn shown_of(&mut self, alloc: Global, log: &Log) -> Result<Vec<bool>, AllocError> {
-        let entries = log.entries.as_slice();
-        let mut shown = Vec::with_capacity(alloc, entries.len())?;
+    /// Returns the numbers of a log's entries that are drawn.
+    fn drawn_of(&mut self, alloc: Global, log: &Log) -> Result<Vec<u32>, AllocError> {
+        let mut drawn = Vec::new(alloc);
         let mut at = 0u32;
-        for entry in entries {
+        for entry in log.entries.as_slice() {
             at = at.saturating_add(1);
             let place = Place { proc: log.proc, at };
-            shown.push(self.is_whole || self.is_near(place) || self.is_followed(entry))?;
+            if self.is_whole || self.is_near(place) || self.is_followed(entry) {
+                drawn.push(at)?;
+            }
         }
-        Ok(shown)
+        Ok(drawn)
     }
 }
 
@@ -120,13 +121,13 @@ pub fn lanes_of(alloc: Global, subject: &Subject<'_>) -> Result<Vec<Lane>, Alloc
     };
     let mut lanes = Vec::new(alloc);
     for log in run.logs.as_slice() {
-        let shown = choice.shown_of(alloc, log)?;
-        if shown.contains(&true) {
+        let drawn = choice.drawn_of(alloc, log)?;
+        if !drawn.is_empty() {
             lanes.push(Lane::of(
                 alloc,
                 Excerpt {
                     log,
-                    entries: shown.as_slice(),
+                    entries: drawn.as_slice(),
                     absences: subject.absences,
                 },
             )?)?;

@@ -10,7 +10,7 @@ use crate::subject::Subject;
 use crate::words::wrapped;
 use std::alloc::{AllocError, Global};
 use totem_evs::{Fault, Pending, Run};
-use totem_explain::{Lane, absences, lay_out, reason_of, rule_of};
+use totem_explain::{Lane, Reason, lay_out, rule_of};
 use totem_names::Place;
 
 /// The text below a picture that says how to read it.
@@ -127,8 +127,10 @@ pub fn draw_no(
     };
     let title = title_of(alloc, fault, number, faults.len())?;
     let places = fault.places.as_slice();
-    let absences = absences(alloc, run, fault)?;
-    let why = reason_of(alloc, run, fault)?;
+    let Reason {
+        text: why,
+        absences,
+    } = Reason::of(alloc, run, fault)?;
     let text = draw(
         alloc,
         &Subject {

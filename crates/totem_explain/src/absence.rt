@@ -67,7 +67,7 @@ impl Lack {
     }
 
     /// Returns the absence of the event in the log of each member that has one.
-    fn absences(&self, alloc: Global, run: &Run) -> Result<Vec<Absence>, AllocError> {
+    pub fn absences(&self, alloc: Global, run: &Run) -> Result<Vec<Absence>, AllocError> {
         let mut list = Vec::new(alloc);
         for member in &self.members {
             if log_of(run, member.proc).is_none() {
@@ -172,25 +172,4 @@ pub fn lack_of(alloc: Global, run: &Run, fault: &Fault) -> Result<Option<Lack>, 
         (SpecNo::End, [change, ..]) => end(alloc, run, *change),
         _ => Ok(None),
     }
-}
-
-/// Returns the events whose absence is this fault of the run, in ascending order of the logs that lack them. There are none if the fault is
-/// something that happened.
-pub fn absences(alloc: Global, run: &Run, fault: &Fault) -> Result<Vec<Absence>, AllocError> {
-    let mut list = match lack_of(alloc, run, fault)? {
-        Some(lack) => lack.absences(alloc, run)?,
-        None => Vec::new(alloc),
-    };
-    if let (SpecNo::Atomicity | SpecNo::Causality | SpecNo::Gap, [known, _, due, ..]) = (
-        fault.spec,
-        fault.places.as_slice(),
-    )
-        && let Some(message) = message_at(run, *known)
-    {
-        list.push(Absence {
-            event: Lacked::Delivery(message),
-            due: *due,
-        })?;
-    }
-    Ok(list)
 }

@@ -18,31 +18,14 @@ const INDENT: usize = 2;
 /// How many spaces are between two columns at least.
 const BETWEEN: usize = 4;
 
-/// Whether an entry is shown.
-#[derive(Clone, Copy, PartialEq, Eq)]
-enum Shown {
-    LeftOut,
-    Near,
-    Marked,
-}
-
-/// Shows the entries of a log from one to another, counted from 1, if it has them.
-fn show(shown: &mut Vec<Shown>, from: u32, to: u32) {
-    for near in from.max(1)..=to {
-        if let Some(one) = shown.get_mut(near.saturating_sub(1) as usize) {
-            if *one == Shown::LeftOut {
-                *one = Shown::Near;
-            }
+/// Adds the numbers of the entries of a log from one to another, counted from 1, if it has them.
+fn add_entries(shown: &mut Vec<u32>, log: &Log, from: u32, to: u32) -> Result<(), AllocError> {
+    for at in from.max(1)..=to {
+        if entry_of(log, at).is_some() {
+            shown.push(at)?;
         }
     }
-}
-
-/// Marks entry `at`, counted from 1, and shows those around it.
-fn mark(shown: &mut Vec<Shown>, at: u32) {
-    show(shown, at.saturating_sub(AROUND), at.saturating_add(AROUND));
-    if let Some(one) = shown.get_mut(at.saturating_sub(1) as usize) {
-        *one = Shown::Marked;
-    }
+    Ok(())
 }
 
 /// What the columns are about.
@@ -64,42 +47,43 @@ impl Focus<'_> {
             || absences.any(|absence| absence.due.proc == log.proc)
     }
 
-    /// Returns for each entry of a log whether it is shown.
-    fn shown_of(&self, alloc: Global, log: &Log) -> Result<Vec<Shown>, AllocError> {
-        let entries = log.entries.as_slice();
-        let mut shown = Vec::with_capacity(alloc, entries.len())?;
-        for _ in entries {
-            shown.push(Shown::LeftOut)?;
-        }
-        for absence in self.absences {
-            if absence.due.proc == log.proc {
-                let due = absence.due.at;
-                show(
-                    &mut shown,
-                    due.saturating_sub(AROUND),
-                    due.saturating_add(1),
-                );
-            }
-        }
+    /// Returns the numbers of a log's entries that are places of the fault.
+    fn marks_of(&self, alloc: Global, log: &Log) -> Result<Vec<u32>, AllocError> {
+        let mut marks = Vec::new(alloc);
         for place in self.places {
             if place.proc == log.proc {
-                mark(&mut shown, place.at);
+                marks.push(place.at)?;
             }
         }
+        marks.sort()?;
+        Ok(marks)
+    }
+
+    /// Returns the numbers of a log's entries that are shown.
+    fn shown_of(&self, alloc: Global, log: &Log, marks: &[u32]) -> Result<Vec<u32>, AllocError> {
+        let mut shown = Vec::new(alloc);
+        for absence in self.absences {
+            let Place { proc, at } = absence.due;
+            if proc == log.proc {
+                add_entries(&mut shown, log, at.saturating_sub(AROUND), at.saturating_add(1))?;
+            }
+        }
+        for at in marks {
+            add_entries(&mut shown, log, at.saturating_sub(AROUND), at.saturating_add(AROUND))?;
+        }
+        shown.sort()?;
+        shown.dedup();
         Ok(shown)
     }
 
-    /// Returns what is shown of a log.
-    fn lane_of(&self, alloc: Global, log: &Log, shown: &[Shown]) -> Result<Lane, AllocError> {
-        let mut is_shown = Vec::with_capacity(alloc, shown.len())?;
-        for one in shown {
-            is_shown.push(*one != Shown::LeftOut)?;
-        }
+    /// Returns what is shown of a log that has these places of the fault.
+    fn lane_of(&self, alloc: Global, log: &Log, marks: &[u32]) -> Result<Lane, AllocError> {
+        let shown = self.shown_of(alloc, log, marks)?;
         Lane::of(
             alloc,
             Excerpt {
                 log,
-                entries: is_shown.as_slice(),
+                entries: shown.as_slice(),
                 absences: self.absences,
             },
         )
@@ -148,7 +132,7 @@ fn cell_text(
     version: Version,
     log: &Log,
     spot: &Spot,
-    shown: &[Shown],
+    marks: &[u32],
 ) -> Result<String, AllocError> {
     match spot.what {
         What::LeftOut(gap) => return gap_text(alloc, gap),
@@ -159,9 +143,10 @@ fn cell_text(
         _ => {}
     }
     let at = spot.before.saturating_add(1);
-    let mark = match shown.get(spot.before as usize) {
-        Some(Shown::Marked) => ">",
-        _ => " ",
+    let mark = if marks.binary_search(&at).is_ok() {
+        ">"
+    } else {
+        " "
     };
     match entry_of(log, at) {
         Some(entry) => {
@@ -185,7 +170,7 @@ impl Column {
         version: Version,
         log: &Log,
         lane: &Lane,
-        shown: &[Shown],
+        marks: &[u32],
         last: u32,
     ) -> Result<Column, AllocError> {
         let mut column = Column {
@@ -194,7 +179,7 @@ impl Column {
         };
         column.add(last, String::from_str(alloc, closing(log.ending))?)?;
         for spot in lane.spots.as_slice().iter().rev() {
-            let text = cell_text(alloc, version, log, spot, shown)?;
+            let text = cell_text(alloc, version, log, spot, marks)?;
             column.add(spot.slot.saturating_add(1), text)?;
         }
         let proc = log.proc.written(version);
@@ -270,18 +255,18 @@ fn push_columns(
 /// shown. A row has at most `most` letters, unless a single column has more.
 pub fn columns(alloc: Global, focus: &Focus<'_>, most: usize) -> Result<String, AllocError> {
     let run = focus.run;
-    let mut shown = Vec::new(alloc);
+    let mut marks = Vec::new(alloc);
     let mut lanes = Vec::new(alloc);
     for log in run.logs.as_slice() {
         if focus.has(log) {
-            let of_log = focus.shown_of(alloc, log)?;
+            let of_log = focus.marks_of(alloc, log)?;
             lanes.push(focus.lane_of(alloc, log, of_log.as_slice())?)?;
-            shown.push(of_log)?;
+            marks.push(of_log)?;
         }
     }
     let last = lay_out(alloc, lanes.as_mut_slice())?.saturating_add(1);
     let mut columns = Vec::new(alloc);
-    for (lane, of_log) in lanes.iter().zip(shown.iter()) {
+    for (lane, of_log) in lanes.iter().zip(marks.iter()) {
         if let Some(log) = log_of(run, lane.proc) {
             columns.push(Column::of(alloc, run.version, log, lane, of_log.as_slice(), last)?)?;
         }

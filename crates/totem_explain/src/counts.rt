@@ -67,15 +67,20 @@ impl Counts {
         let is_late = size.transitional_deliveries > 0;
         let mut traffic = Traffic::of(alloc, run, &mut sites, &messages, is_late)?;
         let mut counts = Counts::default();
+        let mut lacked = None;
         for (index, one) in traffic.sent.iter().enumerate() {
             counts.add_message(one);
             if let Some(site) = sites.list.get_mut(one.site as usize) {
                 let late = traffic.late.get(index);
                 counts.add_at(one, late.map_or(Late::none(), |late| *late), site);
-                site.add_past(one.delivered);
+                if site.add_past(one.delivered) {
+                    lacked = lacked.or(Some(index));
+                }
             }
         }
-        traffic.find_gaps(alloc, run, &sites, &messages)?;
+        if let Some(first) = lacked.and_then(|index| messages.message(index)) {
+            traffic.find_gaps(alloc, run, &sites, &messages, &first)?;
+        }
         counts.add_sites(&sites);
         counts.add_logs(run, &sites, &traffic);
         Ok(Counts {

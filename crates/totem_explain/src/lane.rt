@@ -1,5 +1,6 @@
 //! What is shown of a log.
 use crate::absence::{Absence, Lacked};
+use crate::lookup::entry_of;
 use std::alloc::{AllocError, Global};
 use totem_evs::{Ending, Entry, Log};
 use totem_names::{ConfId, MsgId, Place, Proc};
@@ -87,17 +88,6 @@ const NO_GAP: Gap = Gap {
     changes: 0,
 };
 
-impl Gap {
-    /// Returns these entries and one more.
-    fn with(&self, entry: &Entry) -> Gap {
-        let is_change = matches!(entry, Entry::Conf(..));
-        Gap {
-            entries: self.entries.saturating_add(1),
-            changes: self.changes.saturating_add(u32::from(is_change)),
-        }
-    }
-}
-
 /// A log of which some entries have been read, and what is shown of them.
 #[derive(Drop)]
 struct Reading {
@@ -130,19 +120,27 @@ impl Reading {
         Ok(())
     }
 
-    /// Reads the next entry.
-    fn take(&mut self, entry: &Entry, is_shown: bool) -> Result<(), AllocError> {
-        if is_shown {
-            self.end_gap()?;
-        } else {
-            self.left_out = self.left_out.with(entry);
+    /// Reads the entries up to this number of a log, and leaves them out.
+    fn leave_out(&mut self, entries: &[Entry], to: u32) {
+        let hidden = entries.get(self.read as usize..to as usize);
+        for entry in hidden.unwrap_or(&[]) {
+            if let Entry::Conf(conf, _) = entry {
+                self.conf = Some(*conf);
+                self.left_out.changes = self.left_out.changes.saturating_add(1);
+            }
         }
+        let count = to.saturating_sub(self.read);
+        self.left_out.entries = self.left_out.entries.saturating_add(count);
+        self.read = self.read.max(to);
+    }
+
+    /// Reads the next entry, and shows it.
+    fn show(&mut self, entry: &Entry) -> Result<(), AllocError> {
+        self.end_gap()?;
         if let Entry::Conf(to, _) = entry {
             self.conf = Some(*to);
         }
-        if is_shown {
-            self.add(What::of(entry))?;
-        }
+        self.add(What::of(entry))?;
         self.read = self.read.saturating_add(1);
         Ok(())
     }
@@ -152,9 +150,9 @@ impl Reading {
 #[derive(Clone, Copy)]
 pub struct Excerpt<'a> {
     pub log: &'a Log,
-    /// For each entry, whether it is shown.
-    pub entries: &'a [bool],
-    /// The events that logs lack. Those of other logs are not shown.
+    /// The numbers of the entries that are shown, counted from 1, in ascending order.
+    pub entries: &'a [u32],
+    /// The events that logs lack. Shown are those of this log that were due before an entry that is shown, or at its end.
     pub absences: &'a [Absence],
 }
 
@@ -190,13 +188,17 @@ impl Lane {
             left_out: NO_GAP,
         };
         let log = excerpt.log;
-        let mut at = 1u32;
-        for (entry, is_shown) in log.entries.as_slice().iter().zip(excerpt.entries) {
-            excerpt.add_due(&mut reading, at)?;
-            reading.take(entry, *is_shown)?;
-            at = at.saturating_add(1);
+        let entries = log.entries.as_slice();
+        for at in excerpt.entries {
+            if let Some(entry) = entry_of(log, *at) {
+                reading.leave_out(entries, at.saturating_sub(1));
+                excerpt.add_due(&mut reading, *at)?;
+                reading.show(entry)?;
+            }
         }
-        excerpt.add_due(&mut reading, at)?;
+        let end = u32::try_from(entries.len()).unwrap_or(u32::MAX);
+        reading.leave_out(entries, end);
+        excerpt.add_due(&mut reading, end.saturating_add(1))?;
         reading.end_gap()?;
         Ok(Lane {
             proc: log.proc,

@@ -43,7 +43,7 @@ mod views;
 mod visits;
 mod yes;
 
-pub use absence::{Absence, Lacked, absences};
+pub use absence::{Absence, Lacked};
 pub use counts::Counts;
 pub use event::{event_at, line_of, place_name};
 pub use lane::{Excerpt, Gap, Lane, Spot, What};
@@ -51,7 +51,7 @@ pub use layout::lay_out;
 pub use lookup::entry_at;
 pub use message::{Traced, explain_message};
 pub use no::{Explained, ExplainedNo, explain_no, stopped_by};
-pub use reason::reason_of;
+pub use reason::Reason;
 pub use refusal::explain_refusal;
 pub use required::{Lacking, REQUIRABLE, Required};
 pub use rule::rule_of;

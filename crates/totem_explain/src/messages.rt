@@ -90,6 +90,19 @@ impl Messages {
         self.blocks.last().map_or(0, |block| block.end())
     }
 
+    /// Returns the message with this index, or `None` if there are not so many.
+    pub fn message(&self, index: usize) -> Option<MsgId> {
+        let at = self.blocks.partition_point(|block| block.end() <= index);
+        let block = self.blocks.get(at)?;
+        let mut sent = block.sent;
+        for _ in block.before..index {
+            sent &= sent.wrapping_sub(1);
+        }
+        let Names { ring, part } = block.names;
+        let number = part.saturating_mul(SPAN).saturating_add(sent.trailing_zeros());
+        Some(MsgId { ring, number })
+    }
+
     /// Returns a finder that has not found any message yet.
     pub fn finder(&self) -> Finder<'_> {
         Finder {

@@ -1,13 +1,12 @@
 //! The explanation of a no.
 ghost use Rattle.std.specs.Prelude.{◌≡◌, IfOk, map};
 
-use crate::absence::absences;
 use crate::columns::{Focus, columns as side_by_side};
 use crate::counts::Counts;
 use crate::event::{event_at, place_name};
 use crate::fitted::fitted;
 use crate::pass::Pass;
-use crate::reason::reason_of;
+use crate::reason::Reason;
 use crate::rule::rule_of;
 use crate::shared::same_as;
 use std::alloc::{AllocError, Global};
@@ -60,9 +59,8 @@ fn told(
     columns: usize,
 ) -> Result<String, AllocError> {
     let beginning = beginning(alloc, run, fault)?;
-    let reason = reason_of(alloc, run, fault)?;
+    let Reason { text, absences } = Reason::of(alloc, run, fault)?;
     let same = same_as(alloc, run, earlier, fault)?;
-    let absences = absences(alloc, run, fault)?;
     let focus = Focus {
         run,
         places: fault.places.as_slice(),
@@ -74,7 +72,7 @@ fn told(
     } else {
         "The logs there (after a -: what is missing):"
     };
-    format!(in alloc; "{beginning}Why it is broken:\n{reason}{same}{there}\n{lines}")
+    format!(in alloc; "{beginning}Why it is broken:\n{text}{same}{there}\n{lines}")
 }
 
 /// Explains each of these faults of the run, in order: the first 100 in full, the others by the rule and what happened at their

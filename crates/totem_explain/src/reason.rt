@@ -1,5 +1,5 @@
 //! Why the places of a fault break the specification, and what is missing there.
-use crate::absence::lack_of;
+use crate::absence::{Absence, Lacked, lack_of};
 use crate::cycle::cycle;
 use crate::event::place_name;
 use crate::lookup::{change_before, delivery_in, entry_at, entry_of, log_of, message_at};
@@ -86,8 +86,8 @@ fn lacks(alloc: Global, run: &Run, known: Place, due: Place) -> Result<String, A
     }
 }
 
-/// Returns lines that say why the places of the fault break the specification, and what is missing there.
-pub fn reason_of(alloc: Global, run: &Run, fault: &Fault) -> Result<String, AllocError> {
+/// Returns lines that say why the places of a fault of 1, 2 or 6.1 break the specification.
+fn happened(alloc: Global, run: &Run, fault: &Fault) -> Result<String, AllocError> {
     let places = fault.places.as_slice();
     match (fault.spec, places) {
         (SpecNo::Cycle | SpecNo::Order, _) => cycle(alloc, run, places),
@@ -99,12 +99,53 @@ pub fn reason_of(alloc: Global, run: &Run, fault: &Fault) -> Result<String, Allo
         (SpecNo::Misplaced, [entry, ..]) => misplaced(alloc, run, *entry),
         (SpecNo::Configuration, _) => configuration(alloc, run, places),
         (SpecNo::Turns, _) => turns(alloc, places),
-        (SpecNo::Atomicity | SpecNo::Causality | SpecNo::Gap, [known, _, due, ..]) => {
-            lacks(alloc, run, *known, *due)
+        _ => Ok(String::new(alloc)),
+    }
+}
+
+/// Why a fault breaks its specification.
+#[derive(Debug, Drop)]
+pub struct Reason {
+    /// Lines that say why, and what is missing there.
+    pub text: String,
+    /// The events whose absence is the fault, in ascending order of the logs that lack them. There are none if the fault is something that
+    /// happened.
+    pub absences: Vec<Absence>,
+}
+
+impl Reason {
+    /// 4, 5, 6.3: returns the reason of a fault that the process at `due` lacks the message at `known` there.
+    fn lacks(alloc: Global, run: &Run, known: Place, due: Place) -> Result<Reason, AllocError> {
+        let mut absences = Vec::new(alloc);
+        if let Some(message) = message_at(run, known) {
+            absences.push(Absence {
+                event: Lacked::Delivery(message),
+                due,
+            })?;
         }
-        _ => match lack_of(alloc, run, fault)? {
-            Some(lack) => lack.told(alloc, run.version),
-            None => Ok(String::new(alloc)),
-        },
+        Ok(Reason {
+            text: lacks(alloc, run, known, due)?,
+            absences,
+        })
+    }
+
+    /// Returns the reason of a fault of the run.
+    pub fn of(alloc: Global, run: &Run, fault: &Fault) -> Result<Reason, AllocError> {
+        if let (SpecNo::Atomicity | SpecNo::Causality | SpecNo::Gap, [known, _, due, ..]) = (
+            fault.spec,
+            fault.places.as_slice(),
+        ) {
+            return Reason::lacks(alloc, run, *known, *due);
+        }
+        match lack_of(alloc, run, fault)? {
+            Some(lack) => Ok(Reason {
+                text: lack.told(alloc, run.version)?,
+                absences: lack.absences(alloc, run)?,
+            }),
+            None => Ok(Reason {
+                text: happened(alloc, run, fault)?,
+                absences: Vec::new(alloc),
+            }),
+        }
     }
 }

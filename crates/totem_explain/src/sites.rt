@@ -75,11 +75,13 @@ impl Site {
         }
     }
 
-    /// Notes the logs that deliver a message that was sent there.
-    pub fn add_past(&mut self, delivered: u32) {
-        if self.logs & !delivered != 0 {
+    /// Notes the logs that deliver a message that was sent there. Returns whether another one lacks it.
+    pub fn add_past(&mut self, delivered: u32) -> bool {
+        let is_lacked = delivered != 0 && self.logs & !delivered != 0;
+        if is_lacked {
             self.past |= delivered;
         }
+        is_lacked
     }
 
     /// Returns whether logs came to it from several transitional configurations.

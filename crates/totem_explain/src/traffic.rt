@@ -3,7 +3,7 @@ use crate::messages::Messages;
 use crate::sites::{Sites, Stay, is_regular};
 use std::alloc::{AllocError, Global};
 use totem_evs::{Ending, Entry, Log, Run};
-use totem_names::Service;
+use totem_names::{MsgId, Service};
 
 /// A message that was sent. There are many, so it is small.
 #[derive(Clone, Copy)]
@@ -189,27 +189,26 @@ impl Traffic {
         }
     }
 
-    /// Finds the deliveries past a message that another process lacks, once the sites know which logs deliver such a message.
+    /// Finds the deliveries past a message that another process lacks, once the sites know which logs deliver such a message. `first` is
+    /// the first such message in the order of names.
     pub fn find_gaps(
         &mut self,
         alloc: Global,
         run: &Run,
         sites: &Sites,
         names: &Messages,
+        first: &MsgId,
     ) -> Result<(), AllocError> {
         let mut past = 0u32;
         for site in &sites.list {
             past |= site.past;
-        }
-        if past == 0 {
-            return Ok(());
         }
         // For each message, the logs that deliver it and lack one that a log delivers before it; empty if there are none.
         let mut lacking = Vec::new(alloc);
         let mut bit = 1u32;
         for log in run.logs.as_slice() {
             if past & bit != 0 {
-                self.find_gaps_of(bit, log.entries.as_slice(), sites, names, &mut lacking)?;
+                self.find_gaps_of(bit, log.entries.as_slice(), sites, names, first, &mut lacking)?;
             }
             bit <<= 1;
         }
@@ -225,6 +224,7 @@ impl Traffic {
         entries: &[Entry],
         sites: &Sites,
         names: &Messages,
+        first: &MsgId,
         lacking: &mut Vec<u32>,
     ) -> Result<(), AllocError> {
         let mut lacked = 0u32;
@@ -240,6 +240,9 @@ impl Traffic {
                     logs = site.map_or(0, |site| site.logs);
                 }
                 Entry::Deliver(message, _) if logs != 0 => {
+                    if lacked == 0 && message.is_below(first) {
+                        continue;
+                    }
                     let Some(index) = finder.find(message) else {
                         continue;
                     };
