@@ -1,3 +1,4 @@
+pub mod Ascent
 pub mod Entering
 pub mod Naming
 pub mod Walking

@@ -1,16 +1,13 @@
--- Classes by name: which entries are in one, and that names which compare as equal are the same.
-use Rattle.std.proofs.Common.{◌≡◌, Some, refl, sym, ap, ◌∙◌}
+-- Classes by name: which entries are in one, and whether an entry is new.
+use Rattle.std.proofs.Common.{◌≡◌, ◌↔◌, Bool, true, false, not, IsTrue, MatchBool, Some, refl, sym, ap, ◌∙◌}
 use Rattle.totem_evs.specs.declared.entry.Entry.{Entry}
 use Rattle.totem_evs.specs.declared.entry.Entry.TheVariants.{Conf, Deliver}
 use Rattle.totem_evs.specs.Classes.{AreOfOneClass}
 use Rattle.totem_judge_certificate.specs.declared.class.Class.{Class}
 use Rattle.totem_judge_certificate.specs.declared.class.Class.TheVariants.{Change, Delivery}
-use Rattle.totem_judge_certificate.specs.ClassOf.{class_of}
-use Rattle.totem_judge_certificate.specs.Walks.{class_barred_by}
-
--- ---- names that compare as equal
-
--- ---- entries of one class
+use Rattle.totem_judge_certificate.specs.declared.passed.Passed.{Passed}
+use Rattle.totem_judge_certificate.specs.ClassOf.{class_of, class_barred_by}
+use Rattle.totem_judge_certificate.specs.PassedClasses.{Has, IsNew, IsOld}
 
 -- entries of one class have one name for it
 pub class_shared : (x y : Entry) → AreOfOneClass x y → (c : Class) × (class_of x ≡ Some c) × (class_of y ≡ Some c)
@@ -39,3 +36,8 @@ pub own_class_bars : (x : Entry) (c : Class) → class_of x ≡ Some c → class
 own_class_bars (Conf a ms) c e = e
 own_class_bars (Deliver m a) c e = e
 own_class_bars x c e = absurd cc
+
+-- an entry is new unless the class that it bars was passed
+pub barred : (passed : Passed) (x : Entry) (class : Class) (b : Bool) → class_barred_by x ≡ Some class → (IsTrue b ↔ Has passed class) → MatchBool (not b) (IsNew passed x) (IsOld passed x)
+barred passed x class true is iff = record { class = class; barred = is; passed = iff.0 refl }
+barred passed x class false is iff = record { never = λ c bars has. (let same : class ≡ c = (let both = sym is ∙ bars in cc) in absurd (let no = iff.1 (rw same has) in cc)) }

@@ -1,7 +1,5 @@
 -- From one class to the next: what a walk shows about the events that it has passed.
-use Rattle.std.proofs.Common.{◌≡◌, ℕ, ◌<◌, ◌≤◌, ◌⊎◌, inl, inr, List, length, Some, false, refl, sym, ◌∙◌, subst, arith}
-use Rattle.std.specs.BTreeSet.{BTreeSet}
-use Rattle.std.specs.BTreeSet as sorted
+use Rattle.std.proofs.Common.{◌≡◌, ℕ, ◌<◌, ◌≤◌, ◌⊎◌, inl, inr, List, length, Some, refl, sym, ◌∙◌, subst, arith}
 use Rattle.totem_certificate.specs.Keeping.{IsCertificate}
 use Rattle.totem_names.specs.declared.place.Place.{Place}
 use Rattle.totem_names.specs.declared.message.MsgId.{MsgId}
@@ -14,11 +12,13 @@ use Rattle.totem_evs.proofs.LogOf.{Rising}
 use Rattle.totem_judge_certificate.specs.declared.class.Class.{Class}
 use Rattle.totem_judge_certificate.specs.declared.class.Class.TheVariants.{Delivery}
 use Rattle.totem_judge_certificate.specs.declared.walk.Head.{Head}
-use Rattle.totem_judge_certificate.specs.ClassOf.{class_of, has}
+use Rattle.totem_judge_certificate.specs.ClassOf.{class_of, class_barred_by}
+use Rattle.totem_judge_certificate.specs.declared.passed.Passed.{Passed}
+use Rattle.totem_judge_certificate.specs.PassedClasses.{HasNone, Adds, IsNew, IsOld}
 use Rattle.totem_outcome.specs.Numbered.{Stands}
 use Rattle.totem_outcome.specs.Each.{SomeEvent}
 use Rattle.totem_outcome.specs.Rising.{LinesRise}
-use Rattle.totem_judge_certificate.specs.Walks.{IsAhead, AreOne, IsLeastHead, IsPassed, AreClasses, class_barred_by, IsNew, IsOld, Adds, IsCleanTo, IsClean, IsUnclean}
+use Rattle.totem_judge_certificate.specs.Walks.{IsAhead, AreOne, IsLeastHead, IsPassed, AreClasses, IsCleanTo, IsClean, IsUnclean}
 use Rattle.totem_outcome.proofs.Certain.{sends_below, send_late, classes_one, class_split, others_apart}
 use Rattle.totem_judge_certificate.proofs.Naming.{through, back, class_shared, shares_class, own_class_bars}
 use Rattle.totem_judge_certificate.proofs.Walking.{ahead_stands, positive_number, head_is_above, passed_or_next, one_ahead}
@@ -49,7 +49,7 @@ is_next run lines passed last head e x rising matches rise many h least ahead on
 one_entry : (run : List Log) (lines : List Numbering) (e f : Place) (x y : Entry) (n m : ℕ) → Stands run lines e x n → Stands run lines f y m → f ≡ e → y ≡ x
 one_entry run lines e f x y n m at_e at_f same = (let at : Stands run lines e y m = subst (λ (p : Place). Stands run lines p y m) same at_f in let h = sym at.entry ∙ at_e.entry in cc)
 
-module _ (run : List Log) (lines : List Numbering) (last k : ℕ) (e : Place) (x : Entry) (next : IsNext run lines last k e x) (classes : BTreeSet Class) (known : AreClasses run lines classes last) where
+module _ (run : List Log) (lines : List Numbering) (last k : ℕ) (e : Place) (x : Entry) (next : IsNext run lines last k e x) (classes : Passed) (known : AreClasses run lines classes last) where
   -- what is one event with e is in the class of e, if it is in one
   with_it : (f : Place) (y : Entry) (c : Class) → Stands run lines f y k → class_of y ≡ Some c → (f ≡ e) ⊎ AreOfOneClass y x → class_of x ≡ Some c
   with_it f y c at is (inl same) = subst (λ (w : Entry). class_of w ≡ Some c) (one_entry run lines e f x y k k next.stands at same) is
@@ -57,7 +57,7 @@ module _ (run : List Log) (lines : List Numbering) (last k : ℕ) (e : Place) (x
 
   -- if e is new, nothing of the class that it bars was passed
   not_passed : IsNew classes x → (f : Place) (y : Entry) (c : Class) (n : ℕ) → class_barred_by x ≡ Some c → Stands run lines f y n → n ≤ last → class_of y ≡ Some c → ⊥
-  not_passed new f y c n barred at le is = (let yes = known.known c f y n at le is in let no = new.never c barred in absurd cc)
+  not_passed new f y c n barred at le is = new.never c barred (known.known c f y n at le is)
 
   -- a send with e's number is e
   sends_alone : (f : Place) (y z : Entry) → Stands run lines f y k → AreSendAndDelivery y z → (f ≡ e) ⊎ AreOfOneClass y x → y ≡ x
@@ -125,7 +125,7 @@ module _ (run : List Log) (lines : List Numbering) (last k : ℕ) (e : Place) (x
       together f g y z n at_f at_g (inr one) (inl two) = inr (subst (λ (w : Entry). AreOfOneClass y w) (sym (one_entry run lines e g x z k n next.stands at_g two)) one)
       together f g y z n at_f at_g (inr one) (inr two) = inr (through y z x one two)
 
-  pub classes_more : (new : BTreeSet Class) → Adds classes new x → AreClasses run lines new k
+  pub classes_more : (new : Passed) → Adds classes new x → AreClasses run lines new k
   classes_more new adds = record {
     known = λ c f y n at le is. elim (next.each f y n at le) [
       | inl before ↦ adds.keeps c (known.known c f y n at before is)
@@ -138,7 +138,7 @@ module _ (run : List Log) (lines : List Numbering) (last k : ℕ) (e : Place) (x
   }
 
 -- if e is too late, a class is split, or a send is not below a delivery
-pub too_late : (run : List Log) (lines : List Numbering) (last k : ℕ) (e : Place) (x : Entry) (classes : BTreeSet Class) → Stands run lines e x k → last < k → AreClasses run lines classes last → IsOld classes x → IsUnclean run lines
+pub too_late : (run : List Log) (lines : List Numbering) (last k : ℕ) (e : Place) (x : Entry) (classes : Passed) → Stands run lines e x k → last < k → AreClasses run lines classes last → IsOld classes x → IsUnclean run lines
 too_late run lines last k e x classes stands above known old = late x refl old.barred
   where
     had : SomeEvent (λ e x n. (n ≤ last) × (class_of x ≡ Some old.class)) run lines
@@ -181,10 +181,10 @@ all_clean run lines last rising matches all clean = record {
 
 -- ---- before the first number
 
-pub start_classes : (run : List Log) (lines : List Numbering) (classes : BTreeSet Class) → Rising run → Matches run lines → IsCertificate lines → sorted.IsEmpty classes → AreClasses run lines classes 0
+pub start_classes : (run : List Log) (lines : List Numbering) (classes : Passed) → Rising run → Matches run lines → IsCertificate lines → HasNone classes → AreClasses run lines classes 0
 start_classes run lines classes rising matches is empty = record {
   known = λ c e x n at le of. absurd (let up = positive_number run lines e x n rising matches is at in omega arith);
-  there = λ c has_it. absurd (let none : has classes c ≡ false = rw empty refl in cc);
+  there = λ c has_it. absurd (empty.never c has_it);
 }
 
 pub start_clean : (run : List Log) (lines : List Numbering) → Rising run → Matches run lines → IsCertificate lines → IsCleanTo run lines 0

@@ -1,3 +1,5 @@
 pub mod ClassOf
+pub mod Ascending
+pub mod PassedClasses
 pub mod Walks
 pub mod Spreads

@@ -1,18 +1,17 @@
 -- A walk over a run in the order of its numbers, class after class (docs/SPECIFICATIONS.md, "The checker").
-use Rattle.std.specs.Prelude.{◌≡◌, ◌⊎◌, ℕ, ◌+◌, ◌<◌, ◌≤◌, List, length, slice_get, Option, Some, None, true, false}
-use Rattle.std.specs.BTreeSet.{BTreeSet}
+use Rattle.std.specs.Prelude.{◌≡◌, ◌⊎◌, ℕ, ◌+◌, ◌<◌, ◌≤◌, List, length, slice_get, Option, Some, None}
 use Rattle.totem_names.specs.declared.place.Place.{Place}
 use Rattle.totem_evs.specs.declared.entry.Entry.{Entry}
-use Rattle.totem_evs.specs.declared.entry.Entry.TheVariants.{Conf, Send, Deliver, Fail}
 use Rattle.totem_evs.specs.declared.log.Log.{Log}
 use Rattle.totem_evs.specs.Classes.{AreOfOneClass, AreSendAndDelivery}
 use Rattle.totem_evs.specs.Certificates.{Numbering}
 use Rattle.totem_judge_certificate.specs.declared.class.Class.{Class}
 use Rattle.totem_judge_certificate.specs.declared.walk.Head.{Head}
-use Rattle.totem_judge_certificate.specs.declared.class.Class.TheVariants.{Change, Delivery}
 use Rattle.totem_outcome.specs.declared.certificate_fault.CertificateFault.{CertificateFault}
 use Rattle.totem_outcome.specs.declared.certificate_fault.CertificateFault.TheVariants as faults
-use Rattle.totem_judge_certificate.specs.ClassOf.{class_of, has}
+use Rattle.totem_judge_certificate.specs.ClassOf.{class_of}
+use Rattle.totem_judge_certificate.specs.declared.passed.Passed.{Passed}
+use Rattle.totem_judge_certificate.specs.PassedClasses.{Has}
 use Rattle.totem_outcome.specs.Numbered.{Stands}
 use Rattle.totem_outcome.specs.Each.{SomeEvent, IsIn}
 use Rattle.totem_outcome.specs.Certifying.{SendsAreBelow, SendIsLate, ClassesAreOne, TwinsAreApart, OthersAreApart, OthersShare}
@@ -78,33 +77,10 @@ AreOne run lines passed = AreOneBefore run lines passed (length lines)
 
 -- ---- what is kept about the classes that were passed
 
--- the set has exactly the classes with numbers up to `last`
-pub record AreClasses (run : List Log) (lines : List Numbering) (classes : BTreeSet Class) (last : ℕ) : Type 0 where
-  pub known : (c : Class) (e : Place) (x : Entry) (n : ℕ) → Stands run lines e x n → n ≤ last → class_of x ≡ Some c → has classes c ≡ true
-  pub there : (c : Class) → has classes c ≡ true → SomeEvent (λ e x n. (n ≤ last) × (class_of x ≡ Some c)) run lines
-
--- the class that must not have been passed before the entry: its own, or for a send that of the deliveries
-abbrev pub class_barred_by : Entry → Option Class
-class_barred_by (Conf x members) = Some (Change x)
-class_barred_by (Send m x service) = Some (Delivery m)
-class_barred_by (Deliver m x) = Some (Delivery m)
-class_barred_by (Fail x) = None
-
--- the entry may be next
-pub record IsNew (classes : BTreeSet Class) (x : Entry) : Type 0 where
-  pub never : (c : Class) → class_barred_by x ≡ Some c → has classes c ≡ false
-
--- the entry is too late
-pub record IsOld (classes : BTreeSet Class) (x : Entry) : Type 0 where
-  pub class : Class
-  pub barred : class_barred_by x ≡ Some class
-  pub passed : has classes class ≡ true
-
--- the class of the entry was added to the classes
-pub record Adds (old new : BTreeSet Class) (x : Entry) : Type 0 where
-  pub adds : (c : Class) → class_of x ≡ Some c → has new c ≡ true
-  pub keeps : (c : Class) → has old c ≡ true → has new c ≡ true
-  pub only : (c : Class) → has new c ≡ true → (has old c ≡ true) ⊎ (class_of x ≡ Some c)
+-- exactly the classes with numbers up to `last` were passed
+pub record AreClasses (run : List Log) (lines : List Numbering) (classes : Passed) (last : ℕ) : Type 0 where
+  pub known : (c : Class) (e : Place) (x : Entry) (n : ℕ) → Stands run lines e x n → n ≤ last → class_of x ≡ Some c → Has classes c
+  pub there : (c : Class) → Has classes c → SomeEvent (λ e x n. (n ≤ last) × (class_of x ≡ Some c)) run lines
 
 -- ---- what a walk shows
 

@@ -9,9 +9,11 @@
 //! `rises` (specs/Rising) tests a list of numbers; totem_judge uses it, too. This crate uses no table, pass or search of the audit.
 #![tactic(auto)]
 
+mod ascending;
 mod certification;
 mod class;
 mod counts;
+mod passed;
 mod rising;
 mod sends;
 mod spread;

@@ -1,5 +1,5 @@
 //! A walk over a run in the order of its numbers, from class to class. It ends early if the numbers do not order the run.
-ghost use Rattle.std.specs.Prelude.{◌≡◌, ◌↔◌, ◌+◌, ◌^◌, ◌<◌, Some, IsTrue, MatchBool, IfSome, IfOk, OnOk, length, slice_get};
+ghost use Rattle.std.specs.Prelude.{◌≡◌, ◌↔◌, ◌+◌, ◌^◌, ◌<◌, Some, IsTrue, MatchBool, IfSome, IfOk, length, slice_get};
 ghost use Rattle.std.specs.Bool.{OnTrue};
 ghost use Rattle.totem_names.specs.declared.place.Place.{Place};
 ghost use Rattle.totem_evs.specs.Certificates.{Matches};
@@ -8,11 +8,10 @@ ghost use Rattle.totem_certificate.specs.Keeping.{IsCertificate};
 ghost use Rattle.totem_outcome.specs.Each.{SomePair};
 ghost use Rattle.totem_outcome.specs.Kinds.{NumberIsShared};
 ghost use Rattle.totem_outcome.specs.Rising.{LinesRise};
-ghost use Rattle.totem_judge_certificate.specs.Walks.{IsHead, IsAhead, IsLesser, IsLeastTo, IsStepped, AreOne, IsPassed, AreClasses, IsNew, IsOld, Adds, IsCleanTo, IsClean, IsUnclean};
+ghost use Rattle.totem_judge_certificate.specs.Walks.{IsHead, IsAhead, IsLesser, IsLeastTo, IsStepped, AreOne, IsPassed, AreClasses, IsCleanTo, IsClean, IsUnclean};
 
-use crate::class::Class;
+use crate::passed::Passed;
 use std::alloc::{AllocError, Global};
-use std::collections::BTreeSet;
 use totem_certificate::Line;
 use totem_evs::{Entry, Log};
 
@@ -108,26 +107,12 @@ fn pass(lines: &[Line], passed: &mut [usize], number: u32)
     }
 }
 
-/// Notes the class of the next entry. Returns whether the entry may be next: its class was not passed before, and if it is a
-/// send, the deliveries of its message were not.
-fn note(classes: &mut BTreeSet<Class>, entry: &Entry) -> Result<bool, AllocError>
-    ensures new { IfOk result (λ new. MatchBool new (IsNew classes.old entry.now) (IsOld classes.old entry.now)) }
-    ensures added { OnOk result (Adds classes.old classes.new entry.now) }
-{
-    match entry {
-        Entry::Conf(conf, _) => Ok(classes.insert(Class::Change(*conf))?),
-        Entry::Deliver(message, _) => Ok(classes.insert(Class::Delivery(*message))?),
-        Entry::Send(message, _, _) => Ok(!classes.contains(&Class::Delivery(*message))),
-        Entry::Fail(_) => Ok(true),
-    }
-}
-
 /// Walks from class to class as long as the numbers order the run. Returns whether they do so up to the end.
 fn walk(
     logs: &[Log],
     lines: &[Line],
     passed: &mut [usize],
-    classes: &mut BTreeSet<Class>,
+    classes: &mut Passed,
 ) -> Result<bool, AllocError>
     requires matches { Matches logs.now lines.now }
     requires run { IsRun logs.now }
@@ -142,7 +127,7 @@ fn walk(
     while let Some(head) = least_head(lines, passed) {
         prove!(last < head.number);
         let first = entry_at(logs, lines, passed, head);
-        if !note(classes, first)? || !are_one(logs, lines, passed, head, first) {
+        if !classes.note(first)? || !are_one(logs, lines, passed, head, first) {
             return Ok(false);
         }
         pass(lines, passed, head.number);
@@ -161,6 +146,6 @@ pub fn is_ordered(alloc: Global, logs: &[Log], lines: &[Line]) -> Result<bool, A
     ensures { IfOk result (λ clean. MatchBool clean (IsClean logs.now lines.now) (IsUnclean logs.now lines.now)) }
 {
     let mut passed = vec![in alloc; 0usize; lines.len()]?;
-    let mut classes = BTreeSet::new(alloc);
+    let mut classes = Passed::none(alloc);
     walk(logs, lines, &mut passed, &mut classes)
 }
