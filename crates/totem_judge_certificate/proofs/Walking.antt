@@ -33,10 +33,18 @@ positive lines i j k line is at_line at_number =
 pub positive_number : (run : List Log) (lines : List Numbering) (e : Place) (x : Entry) (n : ℕ) → Rising run → Matches run lines → IsCertificate lines → Stands run lines e x n → 0 < n
 positive_number run lines e x n rising matches is stands = (let l = locate run lines e x n rising matches stands in positive lines l.index l.at n l.is.line is l.is.line_is l.is.number_is)
 
+-- a head is above what has been passed
+pub head_above : (lines : List Numbering) (passed : List ℕ) (last i n : ℕ) → IsPassed lines passed last → IsHead lines passed i n → last < n
+head_above lines passed last i n h is = h.after i is.at is.at n is.line is.line_is is.at_is is.number_is (omega arith)
+
+-- the number after the last one that has been passed is the least
+pub least_next : (lines : List Numbering) (passed : List ℕ) (last : ℕ) (head : Head) → IsPassed lines passed last → IsHead lines passed head.log head.number → head.number ≡ last + 1 → IsLeastHead lines passed (length lines) head
+least_next lines passed last head h is next = record { is = is; least = λ j lt m at. (let above = head_above lines passed last j m h at in omega arith) }
+
 module _ (lines : List Numbering) (passed : List ℕ) (last : ℕ) (rise : LinesRise lines (length lines)) (h : IsPassed lines passed last) (head : Head) (least : IsLeastHead lines passed (length lines) head) where
   -- the least head was not passed
   pub head_is_above : last < head.number
-  head_is_above = let is = least.is in h.after head.log is.at is.at head.number is.line is.line_is is.at_is is.number_is (omega arith)
+  head_is_above = head_above lines passed last head.log head.number h least.is
 
   next_number : (i at n : ℕ) (line : Numbering) → slice_get lines i ≡ Some line → slice_get passed i ≡ Some at → slice_get line.numbers at ≡ Some n → head.number ≤ n
   next_number i at n line at_line at_passed at_number =

@@ -48,14 +48,18 @@ fn lesser(first: Option<Head>, second: Head) -> Head
 }
 
 /// Returns the first of the heads with the least number, or `None` if all entries have been passed. `passed` has the number of
-/// entries passed in each log.
-fn least_head(lines: &[Line], passed: &[usize]) -> Option<Head>
-    requires { length passed.now ≡ length lines.now }
+/// entries passed in each log; these have numbers up to `last`.
+fn least_head(lines: &[Line], passed: &[usize], last: u32) -> Option<Head>
+    requires as_many { length passed.now ≡ length lines.now }
+    requires passed { IsPassed lines.now passed.now last }
     ensures { IsLeastTo lines.now passed.now (length lines.now) result }
 {
     let mut least = None;
     for log in 0..lines.len() {
         if let Some(number) = number_at(&lines[log], passed[log]) {
+            if number - last == 1 {
+                return Some(Head { log, number });
+            }
             least = Some(lesser(least, Head { log, number }));
         }
     }
@@ -124,7 +128,7 @@ fn walk(
     ensures { IfOk result (λ clean. MatchBool clean (IsClean logs.now lines.now) (IsUnclean logs.now lines.now)) }
 {
     let mut last = 0;
-    while let Some(head) = least_head(lines, passed) {
+    while let Some(head) = least_head(lines, passed, last) {
         prove!(last < head.number);
         let first = entry_at(logs, lines, passed, head);
         if !classes.note(first)? || !are_one(logs, lines, passed, head, first) {
