@@ -209,6 +209,13 @@ one_step lines k old now new at a b line at_line at_now at_new is many others h 
   left = λ i c le at_c. others i (λ e. omega arith) ∙ h.left i c (omega arith) at_c;
 }
 
+-- a log that no step was made in yet
+pub as_before : (lines : List Numbering) (k : ℕ) (old now : List ℕ) (end i a : ℕ) → IsStepped lines k old now end → end ≤ i → slice_get now i ≡ Some a → slice_get old i ≡ Some a
+as_before lines k old now end i a h le at = (let was = at_index old i (let within = slice_get_within now i a at in let many = h.as_many in omega arith) in let still = h.left i was.0 le was.1 in let is = was.1 in cc)
+
+pub ahead_before : (run : List Log) (lines : List Numbering) (k : ℕ) (old now : List ℕ) (end i : ℕ) (x : Entry) (n : ℕ) → IsStepped lines k old now end → end ≤ i → ((e : Place) × IsAhead run lines now i e x n) → (e : Place) × IsAhead run lines old i e x n
+ahead_before run lines k old now end i x n h le (e, ahead) = (e, record { at = ahead.at; at_is = as_before lines k old now end i ahead.at h le ahead.at_is; is = ahead.is })
+
 -- ---- what shares a number
 
 pub ones_more : (run : List Log) (lines : List Numbering) (passed : List ℕ) (i k : ℕ) (x : Entry) (n : ℕ) → ((f : Place) (y : Entry) → IsAhead run lines passed i f y n → (i ≡ k) ⊎ AreOfOneClass y x) → AreOneBefore run lines passed i k x n → AreOneBefore run lines passed (i + 1) k x n

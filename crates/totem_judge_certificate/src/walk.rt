@@ -78,37 +78,31 @@ fn entry_at<'a>(logs: &'a [Log], lines: &[Line], passed: &[usize], head: Head) -
     &entries[at]
 }
 
-/// Returns whether the next entries that have the number of this head are its own, `first`, or of one class with it.
-fn are_one(logs: &[Log], lines: &[Line], passed: &[usize], head: Head, first: &Entry) -> bool
+/// Passes the next entries that have the number of this head. Returns whether they are its own, `first`, or of one class with it; if not,
+/// passes only some of them.
+fn pass(logs: &[Log], lines: &[Line], passed: &mut [usize], head: Head, first: &Entry) -> bool
     requires matches { Matches logs.now lines.now }
     requires run { IsRun logs.now }
-    requires as_many { length passed.now ≡ length lines.now }
-    requires first { (place : Place) × IsAhead logs.now lines.now passed.now head.log place first.now head.number }
-    ensures { MatchBool result (AreOne logs.now lines.now passed.now head.log first.now head.number)
+    requires as_many { length passed.old ≡ length lines.now }
+    requires first { (place : Place) × IsAhead logs.now lines.now passed.old head.log place first.now head.number }
+    ensures one { MatchBool result (AreOne logs.now lines.now passed.old head.log first.now head.number)
         (SomePair NumberIsShared logs.now lines.now) }
+    ensures stepped { OnTrue result (IsStepped lines.now head.number passed.old passed.new (length lines.now)) }
 {
+    let number = head.number;
     for log in 0..lines.len() {
-        let number = head.number;
-        if log != head.log && is_number_at(&lines[log], passed[log], number) {
+        if !is_number_at(&lines[log], passed[log], number) {
+            continue;
+        }
+        if log != head.log {
             let entry = entry_at(logs, lines, passed, Head { log, number });
             if !entry.is_of_class_of(first) {
                 return false;
             }
         }
+        passed[log] += 1;
     }
     true
-}
-
-/// Passes the next events that have this number.
-fn pass(lines: &[Line], passed: &mut [usize], number: u32)
-    requires { length passed.old ≡ length lines.now }
-    ensures { IsStepped lines.now number passed.old passed.new (length lines.now) }
-{
-    for log in 0..lines.len() {
-        if is_number_at(&lines[log], passed[log], number) {
-            passed[log] += 1;
-        }
-    }
 }
 
 /// Walks from class to class as long as the numbers order the run. Returns whether they do so up to the end.
@@ -131,10 +125,9 @@ fn walk(
     while let Some(head) = least_head(lines, passed, last) {
         prove!(last < head.number);
         let first = entry_at(logs, lines, passed, head);
-        if !classes.note(first)? || !are_one(logs, lines, passed, head, first) {
+        if !classes.note(first)? || !pass(logs, lines, passed, head, first) {
             return Ok(false);
         }
-        pass(lines, passed, head.number);
         last = head.number;
     }
     Ok(true)
