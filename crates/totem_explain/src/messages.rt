@@ -100,7 +100,7 @@ impl Messages {
         }
         let Names { ring, part } = block.names;
         let number = part.saturating_mul(SPAN).saturating_add(sent.trailing_zeros());
-        Some(MsgId { ring, number })
+        MsgId::new(ring, number)
     }
 
     /// Returns a finder that has not found any message yet.

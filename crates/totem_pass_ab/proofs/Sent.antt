@@ -1,5 +1,5 @@
 -- What is noted of sends, and the quick test that makes most searches for them unnecessary.
-use Rattle.std.proofs.Common.{◌≡◌, ℕ, inl, inr, List, [], slice_get, Some, Bool, false, IsTrue, refl, true, sym, ◌∙◌, ap, subst}
+use Rattle.std.proofs.Common.{◌≡◌, ℕ, inl, inr, List, [], ◌∷◌, ◌++◌, length, get_or, slice_get, Some, Result, Ok, Err, Bool, false, IsTrue, refl, true, sym, ◌∙◌, ap, subst}
 use Rattle.totem_names.specs.declared.ring.RingId.{RingId}
 use Rattle.totem_names.specs.declared.conf.ConfId.{ConfId}
 use Rattle.totem_names.specs.declared.conf.ConfId.TheVariants.{Regular}
@@ -19,6 +19,13 @@ use Rattle.std.specs.BTreeMap as tree
 use Rattle.std.specs.BTreeSet.{BTreeSet}
 use Rattle.std.specs.BTreeSet as sorted
 use Rattle.std.proofs.lemmas.Grind.{not_there}
+use Rattle.std.proofs.lemmas.List.Elements.{All-push}
+use Rattle.std.proofs.lemmas.List.Sorted.{All-permutation}
+use Rattle.std.specs.Prelude.{Contains, IfOk}
+use Rattle.std.specs.List.Sorted.{IsPermutation, IsSearchInRange}
+use Rattle.std.specs.List.{HoldsAt}
+use Rattle.std.specs.Result.{is_ok}
+use Rattle.std.specs.declared.cmp.Ordering.TheVariants.{Equal}
 use Rattle.std.proofs.lemmas.Map.Lookups.{CmpEqualImpliesEq}
 use Rattle.totem_names.specs.declared.message.Service.{Service}
 use Rattle.totem_names.specs.contracts.ring.RingIdOrd.TheImpl as ring
@@ -40,17 +47,13 @@ pub exact_sending : CmpEqualImpliesEq by_sending.cmp-value.it
 exact_sending s t e = let h = both_equal (message.cmp-value.it s.message t.message) (ring.cmp-value.it s.ring t.ring) e in
     ap (λ (m : MsgId). sending m s.ring) (exact_message s.message t.message h.0) ∙ ap (sending t.message) (exact_ring s.ring t.ring h.1)
 
-pub one_more_send : (cmp : Sending → Sending → Ordering) → CmpEqualImpliesEq cmp → (s n : BTreeSet Sending) (p i : ℕ) (log : List Entry) (m : MsgId) (x : ConfId) (c : RingId) (v : Service) → slice_get log i ≡ Some (Send m x v) → x ≡ Regular c
-    → sorted.Updates cmp s n (sending m c) true → StaysSound (WereSent cmp s) (WereSent cmp n) p log
-one_more_send cmp exact s n p i log m x c v at is h = record { each = λ run logs old. more run logs old }
-  where
-    more : (run : List Log) → log ≡ log_of run p → WereSent cmp s run → WereSent cmp n run
-    more run logs old = record {
-      each = λ k has. elim (apart_or_at cmp (sending m c) k) [
-        | inr apart ↦ old.each k (sym (h.2 k apart) ∙ has)
-        | inl here ↦ subst (λ (z : Sending). WasSentIn run z.message (Regular z.ring)) (exact (sending m c) k (equal_at (cmp (sending m c) k) here)) (p, i, (v, rw (logs, is) at at))
-      ];
-    }
+pub one_more_send : (s n : List Sending) (p i : ℕ) (log : List Entry) (m : MsgId) (x : ConfId) (c : RingId) (v : Service) → slice_get log i ≡ Some (Send m x v) → x ≡ Regular c → n ≡ s ++ (sending m c ∷ []) → StaysSound (WereSent s) (WereSent n) p log
+one_more_send s n p i log m x c v at is more = record {
+  each = λ run logs old. rw more (record { each = All-push (λ (k : Sending). WasSentIn run k.message (Regular k.ring)) s (sending m c) old.each (p, i, (v, rw (logs, is) at at)) });
+}
+
+pub in_order : (s n : List Sending) (run : List Log) → IsPermutation s n → WereSent s run → WereSent n run
+in_order s n run moved sent = record { each = All-permutation (λ (k : Sending). WasSentIn run k.message (Regular k.ring)) s n moved sent.each }
 
 pub enters_regular_change : (cmp : Change → Change → Ordering) (s n : BTreeSet Change) (p i : ℕ) (log : List Entry) (x : ConfId) (c : RingId) (ms : List ℕ) → slice_get log i ≡ Some (Conf x ms) → x ≡ Regular c → sorted.Updates cmp s n (change_by p (Regular c)) true
     → KnowsRegularChange cmp n p log i
@@ -101,9 +104,16 @@ in_ring : (run : List Log) (m : MsgId) (c : RingId) → WasSentTo run [] m (Regu
 in_ring run m c (d, sent, inl same) = rw same sent
 in_ring run m c (d, sent, inr follows) = absurd follows.transitional
 
-pub sent_in : (cmp : Sending → Sending → Ordering) (s : BTreeSet Sending) (run : List Log) (m : MsgId) (c : RingId) (b : Bool) → b ≡ sorted.contains cmp s (sending m c) → ∥ WereSent cmp s run ∥₁ → OnTrue b (WasSentIn run m (Regular c))
-sent_in cmp s run m c true e known = in_ring run m c (sent_if_there run [] m (Regular c) (λ never. not_there known (λ h. never (c, h.each (sending m c) (sym e), inl refl))))
-sent_in cmp s run m c false e known = tt
+-- what a search finds is among them
+pub found : (s : List Sending) (k : Sending) (r : Result ℕ ℕ) (b : Bool) → b ≡ is_ok r → IsSearchInRange r (length s) → IfOk r (HoldsAt (λ y. by_sending.cmp-value.it y k ≡ Equal) s) → OnTrue b (Contains s k)
+found s k (Ok i) true e within same = (i, within, exact_sending (get_or s i k) k (same k))
+found s k (Err i) true e within same = absurd cc
+found s k r false e within same = tt
+
+pub sent_in : (s : List Sending) (run : List Log) (m : MsgId) (c : RingId) (b : Bool) → OnTrue b (Contains s (sending m c)) → ∥ WereSent s run ∥₁ → OnTrue b (WasSentIn run m (Regular c))
+sent_in s run m c true (k, lt, is) known =
+    in_ring run m c (sent_if_there run [] m (Regular c) (λ never. not_there known (λ h. never (c, subst (λ (z : Sending). WasSentIn run z.message (Regular z.ring)) is (h.each k (sending m c) lt), inl refl))))
+sent_in s run m c false has known = tt
 
 pub sent_regular : (run : List Log) (log : List Entry) (m : MsgId) (c : RingId) (b : Bool) → OnTrue b (WasSentIn run m (Regular c)) → OnTrue b (WasSentTo run log m (Regular c))
 sent_regular run log m c true sent = (c, sent, inl refl)

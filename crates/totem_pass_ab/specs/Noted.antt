@@ -1,6 +1,6 @@
 -- What is noted of a run, so that few entries need a search (docs/SPECIFICATIONS.md, "1 Basic delivery", "2 Changes of configuration",
 -- "Following").
-use Rattle.std.specs.Prelude.{◌≡◌, ◌≢◌, ℕ, ◌≤◌, List, Option, Contains, IsTrue, Some}
+use Rattle.std.specs.Prelude.{◌≡◌, ◌≢◌, ℕ, ◌≤◌, List, All, Option, Contains, IsTrue, Some}
 use Rattle.std.specs.declared.cmp.Ordering.{Ordering}
 use Rattle.std.specs.BTreeMap.{BTreeMap}
 use Rattle.totem_names.specs.declared.message.MsgId.{MsgId}
@@ -56,13 +56,9 @@ pub record Widens (v w : Latest) : Type 0 where
 pub record KnowsOrigin (by_conf : ConfId → ConfId → Ordering) (latest : BTreeMap ConfId Latest) (p : ℕ) (log : List Entry) (i : ℕ) : Type 0 where
   pub each : (j : ℕ) (c : RingId) (t : ConfId) (ms ns : List ℕ) → ChangesNext log i j (Regular c) t ms ns → (v : Latest) × (tree.get by_conf latest t ≡ Some v) × IsWithin v p c
 
--- if the entry at i is a send in a regular configuration, the set has it
-pub record KnowsSend (by_sending : Sending → Sending → Ordering) (sends : BTreeSet Sending) (log : List Entry) (i : ℕ) : Type 0 where
-  pub each : (m : MsgId) (c : RingId) → Sends log i m (Regular c) → IsTrue (sorted.contains by_sending sends (record { message = m; ring = c }))
-
--- each message in the set was sent in its configuration
-pub record WereSent (by_sending : Sending → Sending → Ordering) (sends : BTreeSet Sending) (run : List Log) : Type 0 where
-  pub each : (k : Sending) → IsTrue (sorted.contains by_sending sends k) → WasSentIn run k.message (Regular k.ring)
+-- each of these messages was sent in its configuration
+pub record WereSent (sends : List Sending) (run : List Log) : Type 0 where
+  pub each : All (λ (k : Sending). WasSentIn run k.message (Regular k.ring)) sends
 
 -- if p's entry i is a change to a regular configuration, the set has it
 pub record KnowsRegularChange (by_change : Change → Change → Ordering) (changes : BTreeSet Change) (p : ℕ) (log : List Entry) (i : ℕ) : Type 0 where

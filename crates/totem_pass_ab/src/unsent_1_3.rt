@@ -1,13 +1,13 @@
 //! 1.3: a message that is delivered was sent for its configuration (docs/SPECIFICATIONS.md, "1 Basic delivery"). This is the search, which
 //! names what breaks it. The rule, which is tried first, is totem_judge `replay` and `sends`.
-ghost use Rattle.std.specs.Prelude.{IfOk};
+ghost use Rattle.std.specs.Prelude.{Contains, IfOk};
 ghost use Rattle.std.specs.Bool.{OnTrue};
 ghost use Rattle.totem_evs.specs.Events.{log_of};
 ghost use Rattle.totem_evs.specs.Answers.{Finds};
 ghost use Rattle.totem_table.specs.Changes.{AreChanges};
 ghost use Rattle.totem_judge_run.specs.Sent.{WasSentTo};
 ghost use Rattle.totem_search.specs.Unsent.{IsUnsentDelivery};
-ghost use Rattle.totem_pass_ab.specs.Noted.{KnowsSend, WereSent, KnowsRegularChange, AreFollowed};
+ghost use Rattle.totem_pass_ab.specs.Noted.{WereSent, KnowsRegularChange, AreFollowed};
 
 use std::alloc::{AllocError, Global};
 use std::collections::{BTreeMap, BTreeSet};
@@ -26,13 +26,13 @@ pub struct Sending {
 /// The sends in regular configurations: each message, with the ring of the configuration.
 #[derive(Drop)]
 pub struct Sent {
-    pub sends: BTreeSet<Sending>,
+    pub sends: Vec<Sending>,
 }
 
 impl Register for Sent {
-    ghost sound = { λ s. WereSent ⟦<Sending as Ord>⟧.cmp s.sends };
+    ghost sound = { λ s. WereSent s.sends.items };
 
-    ghost knows = { λ s p. KnowsSend ⟦<Sending as Ord>⟧.cmp s.sends };
+    ghost knows = { λ s p log i. Unit {0} };
 
     fn enter(
         &mut self,
@@ -48,7 +48,7 @@ impl Register for Sent {
             return Ok(());
         };
         let (message, ring) = (*message, *ring);
-        self.sends.insert(Sending { message, ring })?;
+        self.sends.push(Sending { message, ring })?;
         Ok(())
     }
 }
@@ -98,13 +98,23 @@ impl ChangeRegister for Followed {
     }
 }
 
+/// Returns whether one of these, which are in ascending order, is a send. Looks first where it is if all messages up to it are sent on one
+/// ring.
+fn has(sends: &[Sending], send: &Sending) -> bool
+    ensures { OnTrue result (Contains sends.now send.now) }
+{
+    let index = (send.message.number as usize).saturating_sub(1);
+    matches!(sends.get(index), Some(other) if *other == *send) || sends.binary_search(send).is_ok()
+}
+
 /// What is noted of the sends of a run, and of what follows regular configurations.
 #[derive(Drop)]
 struct NotedSends<'r> {
     run: &'r Run,
-    sendings: Sent,
+    /// In ascending order.
+    sends: Vec<Sending>,
     followed: Followed,
-    ghost sent: { ∥ WereSent ⟦<Sending as Ord>⟧.cmp sendings.sends run.now.logs ∥₁ },
+    ghost sent: { ∥ WereSent sends.items run.now.logs ∥₁ },
     ghost follow: { ∥ AreFollowed ⟦<Change as Ord>⟧.cmp followed.rings run.now.logs ∥₁ },
 }
 
@@ -113,9 +123,9 @@ impl NotedSends<'_> {
     fn has_send(&self, proc: Proc, message: MsgId, conf: &ConfId) -> bool
         ensures { OnTrue result (WasSentTo self.now.run.now.logs (log_of self.now.run.now.logs proc) message conf.now) }
     {
-        let sends = &self.sendings.sends;
+        let sends = self.sends.as_slice();
         match conf {
-            ConfId::Regular(ring) => sends.contains(&Sending {
+            ConfId::Regular(ring) => has(sends, &Sending {
                 message,
                 ring: *ring,
             }),
@@ -124,7 +134,7 @@ impl NotedSends<'_> {
                 .rings
                 .get(&Change { proc, conf: *conf })
             {
-                Some(ring) => sends.contains(&Sending {
+                Some(ring) => has(sends, &Sending {
                     message,
                     ring: *ring,
                 }),
@@ -154,10 +164,12 @@ pub fn find(alloc: Global, run: &Run, changes: &Changes) -> FoundPlaces
     requires { AreChanges run.now.logs changes.now.rows.items }
     ensures { IfOk result (Finds run.now.logs SpecNo.Unsent) }
 {
-    let mut sendings = Sent {
-        sends: BTreeSet::new(alloc),
+    let mut sent = Sent {
+        sends: Vec::new(alloc),
     };
-    enter_run(&mut sendings, alloc, run)?;
+    enter_run(&mut sent, alloc, run)?;
+    let mut sends = sent.sends;
+    sends.sort()?;
     let mut followed = Followed {
         changes: BTreeSet::new(alloc),
         rings: BTreeMap::new(alloc),
@@ -166,7 +178,7 @@ pub fn find(alloc: Global, run: &Run, changes: &Changes) -> FoundPlaces
     find_unsent(
         &NotedSends {
             run,
-            sendings,
+            sends,
             followed,
         },
         alloc,

@@ -1,9 +1,9 @@
 use Rattle.std.proofs.Common.{refl}
 use Rattle.std.proofs.lemmas.Option.{slice_get_read}
-use Rattle.totem_pass_ab.proofs.Sent.{exact_sending, one_more_send}
+use Rattle.totem_pass_ab.proofs.Sent.{one_more_send}
 use Rattle.totem_pass_ab.proofs.unsent_1_3.SentRegister.enter.Goals as goal
 
 pub returns-clause-sound : goal.returns-clause-sound
 returns-clause-sound c =
     let at = slice_get_read c.args.log.now _ c.args.at c.index-log-at.result refl c.requires.within c.index-log-at.is in
-    one_more_send _ exact_sending c.args.self.now.sends c.insert.new.self _ _ _ _ _ _ _ (rw c.in-Send.is at at) c.in-Regular.is c.in_ok-insert.ensures.updates
+    one_more_send c.args.self.now.sends.items c.push.new.self.items _ _ _ _ _ _ _ (rw c.in-Send.is at at) c.in-Regular.is c.in_ok-push.ensures.items
