@@ -1,5 +1,5 @@
 -- Entering sends and deliveries, and what it shows.
-use Rattle.std.proofs.Common.{◌≡◌, ◌≢◌, ◌⊎◌, ℕ, ◌+◌, ◌-◌, ◌<◌, ◌≤◌, inl, inr, List, [], ◌∷◌, ◌++◌, length, slice_get, slice_range, Option, Some, true, refl, sym, ap, subst, arith, rules, below_more}
+use Rattle.std.proofs.Common.{◌≡◌, ◌≢◌, ◌⊎◌, ℕ, ◌+◌, ◌-◌, ◌<◌, ◌≤◌, inl, inr, List, [], ◌∷◌, ◌++◌, length, slice_get, slice_range, Option, Some, Bool, IsTrue, true, refl, sym, ap, subst, arith, rules, below_more}
 use Rattle.std.specs.Prelude.{◌==◌, Contains}
 use Rattle.std.specs.declared.cmp.Ordering.{Ordering}
 use Rattle.std.specs.Cmp.{IsTotalOrder}
@@ -48,6 +48,19 @@ once_delivery run doubtful p i m x here sure once = record { none = λ places h.
     go (f ∷ []) (j, js, (act, at, h)) = h
     go places h = h
 
+-- where sends don't repeat, no message is sent twice
+pub once_send : (run : List Log) (p i : ℕ) (m : MsgId) (x : ConfId) (v : Service) → slice_get (log_of run p) i ≡ Some (Send m x v) → SendsAreOnce run → HoldsOfNone (IsOneEvent (Has run (AreTwice p i (Send m x v))))
+once_send run p i m x v here once = record { none = λ places h. go places h }
+  where
+    apart : (q j : ℕ) → (p ≡ q) × (i ≡ j) → (p ≢ q) ⊎ (i ≢ j) → ⊥
+    apart q j same (inl other) = other same.0
+    apart q j same (inr other) = other same.1
+
+    go : (places : List Place) → IsOneEvent (Has run (AreTwice p i (Send m x v))) places → ⊥
+    go (f ∷ []) (j, js, (Send n y t, at, (same, other))) = apart f.proc j (once.one p i f.proc j m x y (v, here) (t, rw same at)) other
+    go (f ∷ []) (j, js, (act, at, h)) = h
+    go places h = h
+
 -- ---- which processes are doubtful
 
 -- the logs before the one at k deliver each message once, but for those of doubtful processes
@@ -89,43 +102,48 @@ once_but doubtful run k end before = record {
   ];
 }
 
-module _ (by_message : MsgId → MsgId → Ordering) (by_delivery : Delivery → Delivery → Ordering) (doubtful : List ℕ) where
+module _ (by_message : MsgId → MsgId → Ordering) (by_delivery : Delivery → Delivery → Ordering) (repeat : Bool) (doubtful : List ℕ) where
   pub keeps_sends : IsTotalOrder by_message → (s t : BTreeMap MsgId (Option Place)) (d : BTreeMap Delivery (Option Place)) (m : MsgId) (e : Place) → IsMet by_message s t m e
-      → Keeps (KnowsAct by_message by_delivery s d doubtful) (KnowsAct by_message by_delivery t d doubtful)
+      → Keeps (KnowsAct by_message by_delivery s repeat d doubtful) (KnowsAct by_message by_delivery t repeat d doubtful)
   keeps_sends total s t d m e met = record {
-    each = λ p log i h. record { sent = λ n x at. meets_keeps by_message total s t m e met n (place p i) (h.sent n x at); delivered = h.delivered };
+    each = λ p log i h. record { sent = λ may n x at. meets_keeps by_message total s t m e met n (place p i) (h.sent may n x at); delivered = h.delivered };
   }
 
   pub keeps_deliveries : IsTotalOrder by_delivery → (s : BTreeMap MsgId (Option Place)) (d f : BTreeMap Delivery (Option Place)) (k : Delivery) (e : Place) → IsMet by_delivery d f k e
-      → Keeps (KnowsAct by_message by_delivery s d doubtful) (KnowsAct by_message by_delivery s f doubtful)
+      → Keeps (KnowsAct by_message by_delivery s repeat d doubtful) (KnowsAct by_message by_delivery s repeat f doubtful)
   keeps_deliveries total s d f k e met = record {
     each = λ p log i h. record { sent = h.sent; delivered = λ entered n x at. meets_keeps by_delivery total d f k e met (record { proc = p; message = n }) (place p i) (h.delivered entered n x at) };
   }
 
   pub enters_delivery : IsTotalOrder by_delivery → (s : BTreeMap MsgId (Option Place)) (d f : BTreeMap Delivery (Option Place)) (p : ℕ) (log : List Entry) (i : ℕ) (m : MsgId) (x : ConfId) → slice_get log i ≡ Some (Deliver m x)
-      → IsMet by_delivery d f (record { proc = p; message = m }) (place p i) → KnowsAct by_message by_delivery s f doubtful p log i
+      → IsMet by_delivery d f (record { proc = p; message = m }) (place p i) → KnowsAct by_message by_delivery s repeat f doubtful p log i
   enters_delivery total s d f p log i m x at met = record {
-    sent = λ n y (v, at'). absurd cc;
+    sent = λ may n y (v, at'). absurd cc;
     delivered = λ entered n y at'. (let same : m ≡ n = (let one : Deliver m x ≡ Deliver n y = cc in cc) in
         subst (λ (z : MsgId). Knows by_delivery f (record { proc = p; message = z }) (place p i)) same (meets_knows by_delivery total d f (record { proc = p; message = m }) (place p i) met));
   }
 
   pub enters_nothing : (s : BTreeMap MsgId (Option Place)) (d : BTreeMap Delivery (Option Place)) (p : ℕ) (log : List Entry) (i : ℕ) (e : Entry) → slice_get log i ≡ Some e
-      → ((m : MsgId) (x : ConfId) (v : Service) → e ≡ Send m x v → ⊥) → ((m : MsgId) (x : ConfId) → e ≡ Deliver m x → ⊥) → KnowsAct by_message by_delivery s d doubtful p log i
+      → ((m : MsgId) (x : ConfId) (v : Service) → e ≡ Send m x v → ⊥) → ((m : MsgId) (x : ConfId) → e ≡ Deliver m x → ⊥) → KnowsAct by_message by_delivery s repeat d doubtful p log i
   enters_nothing s d p log i e at no_send no_delivery = record {
-    sent = λ n y (v, at'). absurd (no_send n y v cc);
+    sent = λ may n y (v, at'). absurd (no_send n y v cc);
     delivered = λ entered n y at'. absurd (no_delivery n y cc);
   }
 
   -- a delivery that is left out
   pub leaves_out : (s : BTreeMap MsgId (Option Place)) (d : BTreeMap Delivery (Option Place)) (p : ℕ) (log : List Entry) (i : ℕ) (m : MsgId) (x : ConfId) → slice_get log i ≡ Some (Deliver m x)
-      → (Contains doubtful p → ⊥) → KnowsAct by_message by_delivery s d doubtful p log i
-  leaves_out s d p log i m x at left_out = record { sent = λ n y (v, at'). absurd cc; delivered = λ entered n y at'. absurd (left_out entered) }
+      → (Contains doubtful p → ⊥) → KnowsAct by_message by_delivery s repeat d doubtful p log i
+  leaves_out s d p log i m x at left_out = record { sent = λ may n y (v, at'). absurd cc; delivered = λ entered n y at'. absurd (left_out entered) }
+
+  -- a send that is left out
+  pub leaves_out_send : (s : BTreeMap MsgId (Option Place)) (d : BTreeMap Delivery (Option Place)) (p : ℕ) (log : List Entry) (i : ℕ) (m : MsgId) (x : ConfId) (v : Service) → slice_get log i ≡ Some (Send m x v)
+      → (IsTrue repeat → ⊥) → KnowsAct by_message by_delivery s repeat d doubtful p log i
+  leaves_out_send s d p log i m x v at left_out = record { sent = λ may. absurd (left_out may); delivered = λ entered n y at'. absurd cc }
 
   -- a message that was sent at one place only was not sent twice
-  pub only_send : (run : List Log) (s : BTreeMap MsgId (Option Place)) (d : BTreeMap Delivery (Option Place)) (p i : ℕ) (m : MsgId) (x : ConfId) (v : Service) → KnowsRun (KnowsAct by_message by_delivery s d doubtful) run
+  pub only_send : (run : List Log) (s : BTreeMap MsgId (Option Place)) (d : BTreeMap Delivery (Option Place)) (p i : ℕ) (m : MsgId) (x : ConfId) (v : Service) → IsTrue repeat → KnowsRun (KnowsAct by_message by_delivery s repeat d doubtful) run
       → tree.get by_message s m ≡ Some (Some (place p i)) → HoldsOfNone (IsOneEvent (Has run (AreTwice p i (Send m x v))))
-  only_send run s d p i m x v known once = record { none = λ places h. go places h }
+  only_send run s d p i m x v may known once = record { none = λ places h. go places h }
     where
       apart : (q j : ℕ) → place q j ≡ place p i → (p ≢ q) ⊎ (i ≢ j) → ⊥
       apart q j same (inl other) = other (sym (ap (λ (e : Place). e.proc) same))
@@ -133,13 +151,13 @@ module _ (by_message : MsgId → MsgId → Ordering) (by_delivery : Delivery →
 
       go : (places : List Place) → IsOneEvent (Has run (AreTwice p i (Send m x v))) places → ⊥
       go (f ∷ []) (j, js, (Send n y t, at, (same, other))) =
-          let met = ((known.each f.proc j (slice_get_within (log_of run f.proc) j (Send n y t) at)).sent n y (t, at)).only (place p i) (rw same at once) in
+          let met = ((known.each f.proc j (slice_get_within (log_of run f.proc) j (Send n y t) at)).sent may n y (t, at)).only (place p i) (rw same at once) in
           apart f.proc j (sym met) other
       go (f ∷ []) (j, js, (act, at, h)) = h
       go places h = h
 
   -- a message that a process delivered at one place only was not delivered twice
-  pub only_delivery : (run : List Log) (s : BTreeMap MsgId (Option Place)) (d : BTreeMap Delivery (Option Place)) (p i : ℕ) (m : MsgId) (x : ConfId) → Contains doubtful p → KnowsRun (KnowsAct by_message by_delivery s d doubtful) run
+  pub only_delivery : (run : List Log) (s : BTreeMap MsgId (Option Place)) (d : BTreeMap Delivery (Option Place)) (p i : ℕ) (m : MsgId) (x : ConfId) → Contains doubtful p → KnowsRun (KnowsAct by_message by_delivery s repeat d doubtful) run
       → tree.get by_delivery d (record { proc = p; message = m }) ≡ Some (Some (place p i)) → HoldsOfNone (IsOneEvent (Has run (AreTwice p i (Deliver m x))))
   only_delivery run s d p i m x entered known once = record { none = λ places h. go places h }
     where

@@ -1,6 +1,7 @@
 -- What is noted of a run, so that few entries need a search (docs/SPECIFICATIONS.md, "1 Basic delivery", "2 Changes of configuration",
 -- "Following").
-use Rattle.std.specs.Prelude.{◌≡◌, ◌≢◌, ℕ, ◌≤◌, List, All, Option, Contains, IsTrue, Some}
+use Rattle.totem_judge_run.specs.Orderly.{SendsAreOnce}
+use Rattle.std.specs.Prelude.{Bool, ◌≡◌, ◌≢◌, ℕ, ◌≤◌, List, All, Option, Contains, IsTrue, Some}
 use Rattle.std.specs.declared.cmp.Ordering.{Ordering}
 use Rattle.std.specs.BTreeMap.{BTreeMap}
 use Rattle.totem_names.specs.declared.message.MsgId.{MsgId}
@@ -23,10 +24,10 @@ use Rattle.totem_pass_ab.specs.declared.unsent_1_3.Sending.{Sending}
 use Rattle.std.specs.BTreeMap as tree
 use Rattle.totem_evs.specs.Following.{Follows}
 
--- the place of p's entry is recorded under the message that it sends, or under its delivery by p, if p is doubtful
-pub record KnowsAct (by_message : MsgId → MsgId → Ordering) (by_delivery : Delivery → Delivery → Ordering) (sends : BTreeMap MsgId (Option Place)) (deliveries : BTreeMap Delivery (Option Place))
+-- the place of p's entry is recorded under the message that it sends, if sends may repeat, or under its delivery by p, if p is doubtful
+pub record KnowsAct (by_message : MsgId → MsgId → Ordering) (by_delivery : Delivery → Delivery → Ordering) (sends : BTreeMap MsgId (Option Place)) (repeat : Bool) (deliveries : BTreeMap Delivery (Option Place))
     (doubtful : List ℕ) (p : ℕ) (log : List Entry) (i : ℕ) : Type 0 where
-  pub sent : (m : MsgId) (x : ConfId) → Sends log i m x → Knows by_message sends m (place p i)
+  pub sent : IsTrue repeat → (m : MsgId) (x : ConfId) → Sends log i m x → Knows by_message sends m (place p i)
   pub delivered : Contains doubtful p → (m : MsgId) (x : ConfId) → Delivers log i m x → Knows by_delivery deliveries (record { proc = p; message = m }) (place p i)
 
 -- the log delivers each message once
@@ -36,6 +37,11 @@ DeliversEachOnce log = (i j : ℕ) (m : MsgId) (x y : ConfId) → Delivers log i
 -- all processes but the doubtful ones deliver each message once
 pub record DeliverOnceBut (doubtful : List ℕ) (run : List Log) : Type 0 where
   pub each : (p : ℕ) → (Contains doubtful p → ⊥) → DeliversEachOnce (log_of run p)
+
+-- besides, each message is sent once unless sends may repeat
+pub record AreOnceBut (repeat : Bool) (doubtful : List ℕ) (run : List Log) : Type 0 where
+  pub deliveries : DeliverOnceBut doubtful run
+  pub sends : (IsTrue repeat → ⊥) → SendsAreOnce run
 
 -- the place of p's change is recorded under p and its configuration, and the members under the configuration
 pub record KnowsChange (by_change : Change → Change → Ordering) (by_conf : ConfId → ConfId → Ordering) (changes : BTreeMap Change (Option Place)) (members : BTreeMap ConfId (Option (List ℕ)))

@@ -5,7 +5,7 @@ ghost use Rattle.std.specs.Bool.{OnTrue};
 ghost use Rattle.totem_evs.specs.Answers.{Finds};
 ghost use Rattle.totem_search.specs.Bad.{AreTwice};
 ghost use Rattle.totem_table.specs.Registers.{KnowsRun};
-ghost use Rattle.totem_pass_ab.specs.Noted.{DeliverOnceBut, KnowsAct};
+ghost use Rattle.totem_pass_ab.specs.Noted.{DeliverOnceBut, AreOnceBut, KnowsAct};
 
 use crate::met::{Met, Same};
 use std::alloc::{AllocError, Global};
@@ -33,6 +33,8 @@ impl Same for Place {
 #[derive(Drop)]
 pub struct Repeats {
     pub sends: Met<MsgId, Place>,
+    /// Whether a message may be sent twice. Otherwise the sends are left out.
+    pub may_repeat_sends: bool,
     pub deliveries: Met<Delivery, Place>,
     /// The processes that may deliver a message twice. The deliveries of the others are left out.
     pub doubtful: Vec<Proc>,
@@ -47,9 +49,9 @@ impl Repeats {
 }
 
 impl Register for Repeats {
-    ghost sound = { λ s. DeliverOnceBut s.doubtful.items };
+    ghost sound = { λ s. AreOnceBut s.may_repeat_sends s.doubtful.items };
 
-    ghost knows = { λ s. KnowsAct ⟦<MsgId as Ord>⟧.cmp ⟦<Delivery as Ord>⟧.cmp s.sends.values s.deliveries.values s.doubtful.items };
+    ghost knows = { λ s. KnowsAct ⟦<MsgId as Ord>⟧.cmp ⟦<Delivery as Ord>⟧.cmp s.sends.values s.may_repeat_sends s.deliveries.values s.doubtful.items };
 
     fn enter(
         &mut self,
@@ -63,7 +65,12 @@ impl Register for Repeats {
             at: (at + 1) as u32,
         };
         match &log[at] {
-            Entry::Send(message, _, _) => self.sends.meet(*message, place),
+            Entry::Send(message, _, _) => {
+                if !self.may_repeat_sends {
+                    return Ok(());
+                }
+                self.sends.meet(*message, place)
+            }
             Entry::Deliver(message, _) => {
                 if !self.is_doubtful(proc) {
                     return Ok(());
@@ -81,8 +88,8 @@ impl Register for Repeats {
 struct NotedRepeats<'r> {
     run: &'r Run,
     repeats: Repeats,
-    ghost known: { ∥ KnowsRun (KnowsAct ⟦<MsgId as Ord>⟧.cmp ⟦<Delivery as Ord>⟧.cmp repeats.sends.values repeats.deliveries.values repeats.doubtful.items) run.now.logs ∥₁ },
-    ghost once: { ∥ DeliverOnceBut repeats.doubtful.items run.now.logs ∥₁ },
+    ghost known: { ∥ KnowsRun (KnowsAct ⟦<MsgId as Ord>⟧.cmp ⟦<Delivery as Ord>⟧.cmp repeats.sends.values repeats.may_repeat_sends repeats.deliveries.values repeats.doubtful.items) run.now.logs ∥₁ },
+    ghost once: { ∥ AreOnceBut repeats.may_repeat_sends repeats.doubtful.items run.now.logs ∥₁ },
 }
 
 impl QuickTests for NotedRepeats<'_> {
@@ -99,7 +106,9 @@ impl QuickTests for NotedRepeats<'_> {
             at: (first.at + 1) as u32,
         };
         match first.entry {
-            Entry::Send(message, _, _) => !self.repeats.sends.is_only(message, &place),
+            Entry::Send(message, _, _) => {
+                self.repeats.may_repeat_sends && !self.repeats.sends.is_only(message, &place)
+            }
             Entry::Deliver(message, _) => {
                 let message = *message;
                 let delivery = Delivery { proc, message };
@@ -131,11 +140,13 @@ pub fn find(alloc: Global, run: &Run) -> FoundPlaces
     ensures { IfOk result (Finds run.now.logs SpecNo.Twice) }
 {
     let doubtful = doubtful(alloc, run)?;
-    if doubtful.is_empty() && sends_are_once(alloc, run.logs.as_slice())? {
+    let may_repeat_sends = !sends_are_once(alloc, run.logs.as_slice())?;
+    if doubtful.is_empty() && !may_repeat_sends {
         return Ok(None);
     }
     let mut repeats = Repeats {
         sends: Met::new(alloc),
+        may_repeat_sends,
         deliveries: Met::new(alloc),
         doubtful,
     };
