@@ -65,11 +65,21 @@ impl Focus<'_> {
         for absence in self.absences {
             let Place { proc, at } = absence.due;
             if proc == log.proc {
-                add_entries(&mut shown, log, at.saturating_sub(AROUND), at.saturating_add(1))?;
+                add_entries(
+                    &mut shown,
+                    log,
+                    at.saturating_sub(AROUND),
+                    at.saturating_add(1),
+                )?;
             }
         }
         for at in marks {
-            add_entries(&mut shown, log, at.saturating_sub(AROUND), at.saturating_add(AROUND))?;
+            add_entries(
+                &mut shown,
+                log,
+                at.saturating_sub(AROUND),
+                at.saturating_add(AROUND),
+            )?;
         }
         shown.sort()?;
         shown.dedup();

@@ -99,7 +99,9 @@ impl Messages {
             sent &= sent.wrapping_sub(1);
         }
         let Names { ring, part } = block.names;
-        let number = part.saturating_mul(SPAN).saturating_add(sent.trailing_zeros());
+        let number = part
+            .saturating_mul(SPAN)
+            .saturating_add(sent.trailing_zeros());
         MsgId::new(ring, number)
     }
 

@@ -208,7 +208,14 @@ impl Traffic {
         let mut bit = 1u32;
         for log in run.logs.as_slice() {
             if past & bit != 0 {
-                self.find_gaps_of(bit, log.entries.as_slice(), sites, names, first, &mut lacking)?;
+                self.find_gaps_of(
+                    bit,
+                    log.entries.as_slice(),
+                    sites,
+                    names,
+                    first,
+                    &mut lacking,
+                )?;
             }
             bit <<= 1;
         }

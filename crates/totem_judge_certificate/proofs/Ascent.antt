@@ -21,12 +21,12 @@ use Rattle.totem_judge_certificate.specs.Ascending.{Ascends, IsAbove}
 -- what is above the last one is above all
 pub above_all : (ms : List MsgId) (last m : MsgId) (b : Bool) → Ascends ms → slice_get ms (length ms - 1) ≡ Some last → b ≡ is_lt (message.cmp-value.it last m) → OnTrue b (IsAbove ms m)
 above_all ms last m true up at is = (let less : message.cmp-value.it last m ≡ Less = is_less _ is in record {
-    less = λ i d lt. elim (less_or_not i (length ms - 1)) [
-      | inl under ↦ total-law.trans (get_or ms i d) (get_or ms (length ms - 1) d) m (up.less i (length ms - 1) d under (omega arith)) (rw (get_or_from_slice_get ms (length ms - 1) last d at) less)
-      | inr (inl over) ↦ absurd (omega arith)
-      | inr (inr same) ↦ rw (same, get_or_from_slice_get ms (length ms - 1) last d at) less
-    ];
-  })
+  less = λ i d lt. elim (less_or_not i (length ms - 1)) [
+    | inl under ↦ total-law.trans (get_or ms i d) (get_or ms (length ms - 1) d) m (up.less i (length ms - 1) d under (omega arith)) (rw (get_or_from_slice_get ms (length ms - 1) last d at) less)
+    | inr (inl over) ↦ absurd (omega arith)
+    | inr (inr same) ↦ rw (same, get_or_from_slice_get ms (length ms - 1) last d at) less
+  ];
+})
   where
     is_less : (o : Ordering) → true ≡ is_lt o → o ≡ Less
     is_less o e = grind (arith, common_steps)
@@ -48,9 +48,12 @@ sorted ms up k d low high = not_less (message.cmp-value.it (get_or ms k d) (get_
 -- whether a search for one finds it
 pub searched : (ms : List MsgId) (m : MsgId) (r : Result ℕ ℕ) → Ascends ms → IsSearchInRange r (length ms) → IsBinarySearchResult (λ y. message.cmp-value.it y m) ms r → IsTrue (is_ok r) ↔ Contains ms m
 searched ms m (Ok i) up within found = (λ ok. (i, within, exact_message (get_or ms i m) m (found m)), λ among. refl)
-searched ms m (Err i) up within found = (λ ok. absurd cc, λ (k, lt, is).
-    let parts = found (searchable_from_sorted total-law (λ (y : MsgId). y) ms m (sorted ms up)) in
-    elim (less_or_not k i) [
-      | inl under ↦ absurd (not_itself m (get_or ms k m) Less is (parts.0 k m (omega arith) under) (λ e. absurd cc))
-      | inr rest ↦ absurd (not_itself m (get_or ms k m) Greater is (parts.1 k m (elim rest [ inl over ↦ omega arith | inr same ↦ omega arith ]) lt) (λ e. absurd cc))
-    ])
+searched ms m (Err i) up within found = (
+  λ ok. absurd cc,
+  λ (k, lt, is).
+      let parts = found (searchable_from_sorted total-law (λ (y : MsgId). y) ms m (sorted ms up)) in
+      elim (less_or_not k i) [
+        | inl under ↦ absurd (not_itself m (get_or ms k m) Less is (parts.0 k m (omega arith) under) (λ e. absurd cc))
+        | inr rest ↦ absurd (not_itself m (get_or ms k m) Greater is (parts.1 k m (elim rest [ inl over ↦ omega arith | inr same ↦ omega arith ]) lt) (λ e. absurd cc))
+      ],
+)

@@ -34,14 +34,11 @@ use Rattle.totem_pass_ab.specs.declared.unsent_1_3.Sending.{Sending}
 use Rattle.totem_pass_ab.specs.contracts.unsent_1_3.SendingOrd.TheImpl as by_sending
 use Rattle.totem_table.specs.declared.keys.Change.{Change}
 use Rattle.totem_table.specs.Registers.{StaysSound, KnowsLog}
-use Rattle.totem_pass_ab.specs.Noted.{WereSent, KnowsRegularChange, AreFollowed}
+use Rattle.totem_pass_ab.specs.Noted.{sending, WereSent, KnowsRegularChange, AreFollowed}
 use Rattle.totem_names.proofs.Exact.{equal_at, apart_or_at, both_equal, exact_ring, exact_message}
 use Rattle.totem_table.proofs.Exact.{change_by}
 
 -- ---- what is noted for the quick test
-
-abbrev pub sending : MsgId → RingId → Sending
-sending m c = record { message = m; ring = c }
 
 pub exact_sending : CmpEqualImpliesEq by_sending.cmp-value.it
 exact_sending s t e = let h = both_equal (message.cmp-value.it s.message t.message) (ring.cmp-value.it s.ring t.ring) e in

@@ -62,6 +62,10 @@ pub record Widens (v w : Latest) : Type 0 where
 pub record KnowsOrigin (by_conf : ConfId → ConfId → Ordering) (latest : BTreeMap ConfId Latest) (p : ℕ) (log : List Entry) (i : ℕ) : Type 0 where
   pub each : (j : ℕ) (c : RingId) (t : ConfId) (ms ns : List ℕ) → ChangesNext log i j (Regular c) t ms ns → (v : Latest) × (tree.get by_conf latest t ≡ Some v) × IsWithin v p c
 
+-- the send of a message on a ring
+abbrev pub sending : MsgId → RingId → Sending
+sending m c = record { message = m; ring = c }
+
 -- each of these messages was sent in its configuration
 pub record WereSent (sends : List Sending) (run : List Log) : Type 0 where
   pub each : All (λ (k : Sending). WasSentIn run k.message (Regular k.ring)) sends

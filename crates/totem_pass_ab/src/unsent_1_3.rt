@@ -7,7 +7,7 @@ ghost use Rattle.totem_evs.specs.Answers.{Finds};
 ghost use Rattle.totem_table.specs.Changes.{AreChanges};
 ghost use Rattle.totem_judge_run.specs.Sent.{WasSentTo};
 ghost use Rattle.totem_search.specs.Unsent.{IsUnsentDelivery};
-ghost use Rattle.totem_pass_ab.specs.Noted.{WereSent, KnowsRegularChange, AreFollowed};
+ghost use Rattle.totem_pass_ab.specs.Noted.{sending, WereSent, KnowsRegularChange, AreFollowed};
 
 use std::alloc::{AllocError, Global};
 use std::collections::{BTreeMap, BTreeSet};
@@ -98,13 +98,14 @@ impl ChangeRegister for Followed {
     }
 }
 
-/// Returns whether one of these, which are in ascending order, is a send. Looks first where it is if all messages up to it are sent on one
-/// ring.
-fn has(sends: &[Sending], send: &Sending) -> bool
-    ensures { OnTrue result (Contains sends.now send.now) }
+/// Returns whether one of these, which are in ascending order, is the send of this message on this ring. Looks first where it is if all
+/// messages up to it are sent on one ring.
+fn has(sends: &[Sending], message: MsgId, ring: RingId) -> bool
+    ensures { OnTrue result (Contains sends.now (sending message ring)) }
 {
-    let index = (send.message.number as usize).saturating_sub(1);
-    matches!(sends.get(index), Some(other) if *other == *send) || sends.binary_search(send).is_ok()
+    let send = Sending { message, ring };
+    let index = (message.number as usize).saturating_sub(1);
+    matches!(sends.get(index), Some(other) if *other == send) || sends.binary_search(&send).is_ok()
 }
 
 /// What is noted of the sends of a run, and of what follows regular configurations.
@@ -125,19 +126,13 @@ impl NotedSends<'_> {
     {
         let sends = self.sends.as_slice();
         match conf {
-            ConfId::Regular(ring) => has(sends, &Sending {
-                message,
-                ring: *ring,
-            }),
+            ConfId::Regular(ring) => has(sends, message, *ring),
             ConfId::Transitional { .. } => match self
                 .followed
                 .rings
                 .get(&Change { proc, conf: *conf })
             {
-                Some(ring) => has(sends, &Sending {
-                    message,
-                    ring: *ring,
-                }),
+                Some(ring) => has(sends, message, *ring),
                 None => false,
             },
         }
