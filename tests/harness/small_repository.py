@@ -73,8 +73,9 @@ class Scene:
     def start_tool(self, name, *words, streams=(subprocess.PIPE,) * 3, closed=(), ignored=(), **environment):
         """Starts a file of the repository in a group of its own; the streams with these numbers are closed, these signals ignored."""
         def before():
-            # (where the tests run in the background of a shell, interrupts are ignored)
+            # (interrupts are ignored where the tests run in the background of a shell, and hang-ups under `nohup`)
             signal.signal(signal.SIGINT, signal.SIG_DFL)
+            signal.signal(signal.SIGHUP, signal.SIG_DFL)
             for number in ignored:
                 signal.signal(number, signal.SIG_IGN)
             for number in closed:
