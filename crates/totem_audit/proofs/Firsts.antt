@@ -1,12 +1,8 @@
 -- From the results of the first three passes to what they list and what the answer is.
-use Rattle.std.specs.Prelude.{◌≢◌}
-use Rattle.std.proofs.Common.{◌≡◌, inl, inr, List, [], ◌∷◌, ◌++◌, refl}
-use Rattle.totem_evs.specs.declared.log.Log.{Log}
+use Rattle.totem_cert.proofs.Common.{◌≢◌, ◌≡◌, inl, inr, List, [], ◌∷◌, ◌++◌, refl, Log, Numbering, IsPositions}
 use Rattle.totem_evs.specs.declared.fault.Fault.{Fault}
 use Rattle.totem_evs.specs.Answers.{Yes, No, IsAnswered, MeetsPasses}
 use Rattle.totem_evs.specs.ClosedLists.{IsCycle}
-use Rattle.totem_evs.specs.Certificates.{Numbering}
-use Rattle.totem_evs.specs.Positions.{IsPositions}
 use Rattle.totem_pass_ab.specs.Listed.{ListsFirst}
 use Rattle.totem_outcome.specs.declared.accepted.Accepted.{Accepted}
 use Rattle.totem_check.specs.Judged.{IsMet}

@@ -1,10 +1,8 @@
 -- What is known of jobs, as it is gathered and as it is used.
+use Rattle.totem_pass_d.proofs.Common.{RingId, Log, less_or_not}
 use Rattle.std.proofs.Common.{◌≡◌, ◌<◌, ◌∙◌, ◌+◌, ℕ, zero, suc, inl, inr, List, [], ◌∷◌, ◌++◌, Option, None, Some, IfSome, length, set, slice_index_or, option_to_list, replicate, arith}
 use Rattle.std.proofs.lemmas.List.{get_or-set_same, get_or-set_other, length-set, length-replicate, get_or-replicate, replicate-append-replicate}
 use Rattle.std.proofs.lemmas.List.Elements.{All-append, All-pop}
-use Rattle.totem_names.specs.declared.ring.RingId.{RingId}
-use Rattle.totem_evs.specs.declared.log.Log.{Log}
-use Rattle.totem_evs.proofs.LogOf.{less_or_not}
 use Rattle.totem_pass_d.specs.declared.findings.Findings.{Findings}
 use Rattle.totem_pass_d.specs.declared.jobs.Jobs.{Jobs}
 use Rattle.totem_pass_d.specs.Jobs.{AreFindingsAt}

@@ -1,9 +1,5 @@
 -- What the result of a job says, and the jobs of its run.
-use Rattle.std.proofs.Common.{◌≡◌, ◌<◌, ◌≤◌, ◌+◌, ℕ, inl, inr, List, length, slice_get, Some, arith}
-use Rattle.std.proofs.lemmas.Option.{slice_get_within, slice_get_cases}
-use Rattle.totem_names.specs.declared.ring.RingId.{RingId}
-use Rattle.totem_evs.specs.declared.log.Log.{Log}
-use Rattle.totem_evs.specs.Answers.{AreRings}
+use Rattle.totem_pass_d.proofs.Common.{◌≡◌, ◌<◌, ◌≤◌, ◌+◌, ℕ, inl, inr, List, length, slice_get, Some, arith, slice_get_within, slice_get_cases, RingId, Log, AreRings}
 use Rattle.totem_pass_d.specs.declared.findings.Findings.{Findings}
 use Rattle.totem_pass_d.specs.Jobs.{AreFindingsAt}
 use Rattle.totem_audit.specs.Jobs.{IsRight}

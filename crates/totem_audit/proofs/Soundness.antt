@@ -1,6 +1,5 @@
 -- What the result of a call means, given its answer.
-use Rattle.std.proofs.Common.{List, Result, Ok, Err, IfOk}
-use Rattle.totem_evs.specs.declared.log.Log.{Log}
+use Rattle.totem_pass_d.proofs.Common.{List, Result, Ok, Err, IfOk, Log}
 use Rattle.totem_evs.specs.Answers.{IsAnswered}
 use Rattle.totem_evs.specs.Meanings.{IsSound}
 use Rattle.totem_evs.proofs.Synchronous.{sound}

@@ -1,12 +1,6 @@
 -- As many receipts as calls, at places that no two share, cover the calls.
-use Rattle.std.proofs.Common.{◌≡◌, ◌<◌, ◌≤◌, ◌+◌, ◌-◌, ◌==◌, ◌++◌, ℕ, zero, suc, Bool, true, false, cond, List, [], ◌∷◌, length, take, drop, append-nil, refl, sym, ap, ◌∙◌, arith, All}
+use Rattle.totem_books.proofs.Common.{◌≡◌, ◌<◌, ◌≤◌, ◌+◌, ◌-◌, ◌==◌, ◌++◌, ℕ, zero, suc, Bool, true, false, cond, List, [], ◌∷◌, length, take, drop, append-nil, refl, sym, ap, ◌∙◌, arith, All, eqb-true, eqb-false, sum_by-cons, slice_get_within, Called, Receipt, SeatRecord, FitRising, count_at, count_in, receipts_in, Agree, Covers}
 use Rattle.std.proofs.Math.Seq.{take-length, drop-length}
-use Rattle.std.proofs.lemmas.Bool.{eqb-true, eqb-false}
-use Rattle.std.proofs.lemmas.List.Sums.{sum_by-cons}
-use Rattle.std.proofs.lemmas.Option.{slice_get_within}
-use Rattle.totem_books.specs.Calls.{Called, Receipt}
-use Rattle.totem_books.specs.Seats.{SeatRecord}
-use Rattle.totem_books.specs.Receipts.{FitRising, count_at, count_in, receipts_in, Agree, Covers}
 
 -- the sum over the numbers below n
 abbrev below : ℕ → (ℕ → ℕ) → ℕ

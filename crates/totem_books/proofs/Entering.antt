@@ -1,16 +1,9 @@
 -- What the journal shows of the seats' receipts.
-use Rattle.std.proofs.Common.{◌≡◌, ◌<◌, ◌≤◌, ◌+◌, ◌-◌, ◌==◌, ℕ, zero, suc, Bool, true, false, cond, List, [], ◌∷◌, ◌++◌, length, take, get_or, set, slice_get, option_map, Option, None, Some, append_assoc, length-append, refl, sym, ap, ◌∙◌, subst, arith, All, AllPairs}
+use Rattle.totem_books.proofs.Common.{◌≡◌, ◌<◌, ◌≤◌, ◌+◌, ◌-◌, ◌==◌, ℕ, zero, suc, Bool, true, false, cond, List, [], ◌∷◌, ◌++◌, length, take, get_or, set, slice_get, option_map, Option, None, Some, append_assoc, length-append, refl, sym, ap, ◌∙◌, subst, arith, All, AllPairs, sum_by-cons, eqb-true, eqb-false, Called, Receipt, SeatRecord, called, Entered, calls_in, IsEntered, AreEntered, BeginWith, IsMet, FitRising, count_at, count_in, ShareNoPlace, Agree}
 use mathlib.Core.List.{IsPrefix}
-use Rattle.std.proofs.lemmas.List.Sums.{sum_by-cons}
 use Rattle.std.proofs.lemmas.List.{length-take-le, get_or-take, set-get_or, take_all}
 use Rattle.std.proofs.lemmas.List.Elements.{All-more}
-use Rattle.std.proofs.lemmas.Bool.{eqb-true, eqb-false}
 use Rattle.std.proofs.lemmas.Option.{slice_get_within, slice_get-map}
-use Rattle.totem_books.specs.Calls.{Called, Receipt}
-use Rattle.totem_books.specs.Seats.{SeatRecord}
-use Rattle.totem_books.specs.History.{called}
-use Rattle.totem_books.specs.Journals.{Entered, calls_in, IsEntered, AreEntered, BeginWith, IsMet}
-use Rattle.totem_books.specs.Receipts.{FitRising, count_at, count_in, ShareNoPlace, Agree}
 
 -- an element of a list is at the same place in a longer list that begins with it
 stays : (xs ys : List Entered) (k : ℕ) (e : Entered) → slice_get xs k ≡ Some e → slice_get (xs ++ ys) k ≡ Some e

@@ -1,17 +1,10 @@
 -- One call more is one input more in the replay.
-use Rattle.std.proofs.Common.{◌≡◌, ℕ, List, [], ◌∷◌, ◌++◌, Ok, Err, refl, sym, ap, subst, ◌∙◌, append-nil, Option, None, Some, IfSome, map, fold}
-use Rattle.std.proofs.lemmas.List.{map-append}
-use Rattle.std.proofs.lemmas.List.Sums.{fold-append}
-use Rattle.totem_evs.specs.declared.entry.Entry.{Entry}
+use Rattle.totem_books.proofs.Common.{◌≡◌, ℕ, List, [], ◌∷◌, ◌++◌, Ok, Err, refl, sym, ap, subst, ◌∙◌, append-nil, Option, None, Some, IfSome, map, fold, map-append, fold-append, Entry, Node, Stepped, Outcome, Called, Receipt, called}
 use Rattle.totem_core.specs.declared.input.Input.{Input}
-use Rattle.totem_core.specs.Nodes.{Node, Stepped}
-use Rattle.totem_core.specs.Outcomes.{Outcome}
 use Rattle.totem_core.specs.Table.{step}
 use Rattle.totem_core.specs.Replay.{Answer, Life, born, lived, one_input}
 use Rattle.totem_books.specs.Replies.{entries_of}
-use Rattle.totem_books.specs.Calls.{Called, Receipt}
 use Rattle.totem_books.specs.Replay.{Start, replay, answer_to, node_behind, IsReplay}
-use Rattle.totem_books.specs.History.{called}
 use Rattle.totem_books.specs.Taking.{IsTaken, IsAdded}
 
 pub replay_one_more : (start : Start) (calls : List Called) (call : Called) → replay start (calls ++ call ∷ []) ≡ one_input (replay start calls) call.input

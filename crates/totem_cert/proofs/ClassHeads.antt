@@ -1,21 +1,9 @@
 -- The first entries of logs without a number, by the numbers of their classes.
-use Rattle.std.proofs.lemmas.Grind.{common_steps}
-use Rattle.std.proofs.Common.{◌≡◌, ℕ, suc, ◌<◌, List, [], length, get_or, slice_get, Option, Some, None, Bool, IsTrue, ◌↔◌, refl, sym, ◌∙◌, ap, arith}
-use Rattle.std.proofs.lemmas.Option.{slice_get_within, slice_get_read}
-use Rattle.totem_names.specs.declared.place.Place.{Place}
-use Rattle.totem_evs.specs.declared.entry.Entry.{Entry}
-use Rattle.totem_evs.specs.declared.log.Log.{Log}
-use Rattle.totem_evs.specs.Events.{IsEvent}
-use Rattle.totem_evs.specs.Certificates.{Numbering}
-use Rattle.totem_evs.proofs.LogOf.{Rising}
-use Rattle.totem_table.specs.declared.table.Table.{Table}
-use Rattle.totem_table.specs.Tables.{IsTable, IsEntryAt, number_at}
+use Rattle.totem_cert.proofs.Common.{◌≡◌, ℕ, suc, ◌<◌, List, [], length, get_or, slice_get, Option, Some, None, Bool, IsTrue, ◌↔◌, refl, sym, ap, arith, common_steps, slice_get_within, slice_get_read, Place, Entry, Log, IsEvent, Numbering, Rising, Table, place, class_at, class_fed, class_in, count_of, fed_by, given_at, shared_by, Counts, HasHead, Fits, IsNext, IsNextHead, IsNextIn, IsReady}
+use Rattle.totem_table.specs.Tables.{IsTable, IsEntryAt}
 use Rattle.totem_cert.specs.declared.heads.Head.{Head}
 use Rattle.totem_cert.specs.declared.heads.Head.TheVariants.{End, Alone, Class}
-use Rattle.totem_cert.specs.Search.{place}
-use Rattle.totem_cert.specs.Counts.{class_at, class_fed, class_in, count_of, fed_by, given_at, shared_by, Counts, HasHead}
 use Rattle.totem_cert.specs.Heads.{FeedsAlone, IsHead, IsWithin, IsUnkept}
-use Rattle.totem_cert.specs.Progress.{Fits, IsNext, IsNextHead, IsNextIn, IsReady}
 use Rattle.totem_cert.proofs.Lists.{at_index}
 use Rattle.totem_cert.proofs.Classes.{class_within}
 use Rattle.totem_cert.proofs.Countable.{ready_counted, alone_ready}
@@ -29,9 +17,7 @@ one_entry run k i x y a b = grind (arith, common_steps)
 
 -- how many entries of a log have a number, as the code reads it
 pub given_read : (run : List Log) (lines : List Numbering) (k : ℕ) (log : Log) (read : Numbering) (numbers : List ℕ) → Fits run lines → slice_get run k ≡ Some log → read ≡ get_or lines k read → numbers ≡ read.numbers → length numbers ≡ given_at lines k
-given_read run lines k log read numbers fits log_at read_is is =
-    let at = slice_get_read lines _ k read refl (let lt = slice_get_within run k log log_at in let c = fits.count in omega arith) read_is in
-    ap length is ∙ sym (ap count_of at)
+given_read run lines k log read numbers fits log_at read_is is = grind (arith, slice_get_read, slice_get_within)
 
 -- the head, as the code reads it
 pub head_entry : (run : List Log) (lines : List Numbering) (k : ℕ) (log : Log) (entries : List Entry) (head : ℕ) (x : Entry) → slice_get run k ≡ Some log → head ≡ given_at lines k → entries ≡ log.entries → slice_get entries head ≡ Some x
@@ -55,12 +41,7 @@ shared_feeds messages x n c in_c = grind (arith, common_steps)
 
 pub head_feeds : (run : List Log) (table : Table) (lines : List Numbering) (k : ℕ) (h : Head) (log : Log) (entries : List Entry) (row : List ℕ) (at : ℕ) → IsHead run table lines k h → slice_get run k ≡ Some log → entries ≡ log.entries
     → row ≡ get_or table.rows.items k [] → at ≡ given_at lines k → FeedsAlone h (fed_by (slice_get entries at) (get_or row at 0))
-head_feeds run table lines k End log entries row at is log_at entries_is row_is at_is = tt
-head_feeds run table lines k Alone log entries row at is log_at entries_is row_is at_is = tt
-head_feeds run table lines k (Class c) log entries row at (x, a, in_c) log_at entries_is row_is at_is =
-    let one : a.log ≡ log = (let h = a.is_log in cc) in
-    let entry : slice_get entries at ≡ Some x = rw (entries_is, at_is, ← one) a.is_entry in
-    rw (entry, row_is, at_is) (shared_feeds (length table.messages.items) x (number_at table k (given_at lines k)) c in_c)
+head_feeds run table lines k h log entries row at m o p q r = grind (arith, shared_feeds)
 
 pub has_head : (run : List Log) (lines : List Numbering) (k : ℕ) (log : Log) (x : Entry) → Fits run lines → slice_get run k ≡ Some log → IsEntryAt run k (given_at lines k) x → HasHead log lines k
 has_head run lines k log x fits log_at a =

@@ -1,21 +1,7 @@
 -- The classes of entries, by their numbers in a table.
-use Rattle.std.proofs.lemmas.Grind.{common_steps}
-use Rattle.std.proofs.Common.{◌≡◌, ℕ, suc, ◌+◌, ◌<◌, inl, inr, List, length, slice_get, Some, None, refl, ◌∙◌, ap, arith}
-use Rattle.std.proofs.lemmas.Option.{slice_get_within}
-use Rattle.totem_names.specs.declared.conf.ConfId.{ConfId}
-use Rattle.totem_names.specs.declared.message.MsgId.{MsgId}
-use Rattle.totem_names.specs.declared.place.Place.{Place}
-use Rattle.totem_evs.specs.declared.entry.Entry.{Entry}
-use Rattle.totem_evs.specs.declared.entry.Entry.TheVariants.{Conf, Send, Deliver}
-use Rattle.totem_evs.specs.declared.log.Log.{Log}
-use Rattle.totem_evs.specs.Events.{log_of}
-use Rattle.totem_evs.specs.Classes.{AreOfOneClass, AreSendAndDelivery, InClass}
-use Rattle.totem_evs.proofs.LogOf.{Rising}
-use Rattle.totem_table.specs.declared.table.Table.{Table}
+use Rattle.totem_cert.proofs.Common.{◌≡◌, ℕ, suc, ◌+◌, ◌<◌, inl, inr, List, length, slice_get, Some, None, refl, ◌∙◌, ap, arith, common_steps, slice_get_within, ConfId, MsgId, Place, Entry, Conf, Send, Deliver, Log, log_of, AreOfOneClass, AreSendAndDelivery, InClass, Rising, Table, place, class_in, class_at, class_fed}
 use Rattle.totem_table.specs.Tables.{IsTable, IsEntryAt, NamedBy, number_at}
 use Rattle.totem_table.proofs.Single.{messages_tell, confs_tell}
-use Rattle.totem_cert.specs.Search.{place}
-use Rattle.totem_cert.specs.Counts.{class_in, class_at, class_fed}
 use Rattle.totem_cert.proofs.Classmates.{event_of}
 use Rattle.totem_cert.proofs.LineFacts.{entry_event}
 use Rattle.totem_cert.proofs.LogHeads.{alike_class, class_alike}

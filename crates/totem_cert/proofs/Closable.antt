@@ -1,17 +1,6 @@
 -- Lines in which each entry has a number form a certificate.
-use Rattle.std.proofs.lemmas.Grind.{common_steps}
-use Rattle.std.proofs.Common.{◌≡◌, ℕ, ◌<◌, List, length, get_or, slice_get, Some, arith}
-use Rattle.std.specs.Prelude.{All}
-use Rattle.std.proofs.lemmas.Option.{slice_get_within, slice_get-get_or, get_or_from_slice_get}
-use Rattle.totem_names.specs.declared.version.Version.{Version}
-use Rattle.totem_names.specs.Processes.{IsProcessIn}
-use Rattle.totem_evs.specs.declared.log.Log.{Log}
-use Rattle.totem_evs.specs.Runs.{IsRunIn, IsLogIn}
-use Rattle.totem_evs.specs.Certificates.{Numbering, number_at}
-use Rattle.totem_cert.specs.Search.{place}
+use Rattle.totem_cert.proofs.Common.{◌≡◌, ℕ, ◌<◌, List, length, get_or, slice_get, Some, arith, All, common_steps, slice_get_within, slice_get-get_or, get_or_from_slice_get, Version, IsProcessIn, Log, IsRunIn, IsLogIn, Numbering, number_at, place, IsSound, IsFull, in_order}
 use Rattle.totem_certificate.specs.Keeping.{IsLineIn, IsCertificateIn, IsOfText, certificate_version}
-use Rattle.totem_cert.specs.Progress.{IsSound, IsFull}
-use Rattle.totem_evs.proofs.LogOf.{in_order}
 use Rattle.totem_cert.proofs.LineFacts.{line_of_at}
 use Rattle.totem_cert.proofs.Lists.{at_index}
 

@@ -1,13 +1,5 @@
 -- A run has at most one closed list.
-use Rattle.std.proofs.lemmas.Grind.{common_steps}
-use Rattle.std.proofs.Common.{◌≡◌, ℕ, zero, suc, ◌+◌, ◌-◌, ◌<◌, inl, inr, List, [], ◌∷◌, length, drop, slice_get, Some, refl, sym, ◌∙◌, ap, subst, arith}
-use Rattle.std.proofs.lemmas.Option.{slice_get_within}
-use Rattle.totem_names.specs.declared.place.Place.{Place}
-use Rattle.totem_evs.specs.declared.log.Log.{Log}
-use Rattle.totem_evs.specs.declared.spec.SpecNo.{SpecNo}
-use Rattle.totem_evs.specs.ClosedLists.{Step, HoldsUp, IsStepOf, IsWalk, ComesBack, IsTurned, forward, IsBrokenBy, IsClosedList}
-use Rattle.totem_cert.specs.Laws.{ClosedListsAreOne}
-use Rattle.totem_evs.proofs.LogOf.{less_or_not}
+use Rattle.totem_cert.proofs.Common.{◌≡◌, ℕ, zero, suc, ◌+◌, ◌-◌, ◌<◌, inl, inr, List, [], ◌∷◌, length, drop, slice_get, Some, refl, sym, ◌∙◌, ap, subst, arith, common_steps, slice_get_within, Place, Log, SpecNo, Step, HoldsUp, IsStepOf, IsWalk, ComesBack, IsTurned, forward, IsBrokenBy, IsClosedList, ClosedListsAreOne, less_or_not}
 use Rattle.totem_cert.proofs.Classmates.{class_trans, one_message}
 use Rattle.totem_cert.proofs.LineFacts.{same_parts}
 use Rattle.totem_cert.proofs.Lists.{at_index, previous}

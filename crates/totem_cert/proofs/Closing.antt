@@ -1,19 +1,7 @@
 -- The closed list breaks the specification that it names.
-use Rattle.std.proofs.lemmas.Grind.{common_steps}
-use Rattle.std.proofs.Common.{◌≡◌, ℕ, zero, suc, ◌+◌, ◌-◌, ◌⊎◌, inl, inr, List, [], ◌∷◌, ◌++◌, length, drop, slice_get, Some, refl, sym, ◌∙◌, ap, arith, length-drop}
+use Rattle.totem_cert.proofs.Common.{◌≡◌, ℕ, zero, suc, ◌+◌, ◌-◌, ◌⊎◌, inl, inr, List, [], ◌∷◌, ◌++◌, length, drop, slice_get, Some, refl, sym, ◌∙◌, ap, arith, length-drop, common_steps, append-nil, slice_get_within, get_or_from_slice_get, Place, Log, SpecNo, IsEvent, Strict, Breaks, Step, HoldsUp, unless, forward, AreTwinDeliveries, IsBrokenBy, IsClosedList, InClass}
 use Rattle.std.proofs.Math.Seq.{drop-cons}
-use Rattle.std.proofs.lemmas.List.{append-nil}
-use Rattle.std.proofs.lemmas.Option.{slice_get_within, get_or_from_slice_get}
-use Rattle.totem_names.specs.declared.place.Place.{Place}
-use Rattle.totem_evs.specs.declared.log.Log.{Log}
-use Rattle.totem_evs.specs.declared.spec.SpecNo.{SpecNo}
-use Rattle.totem_evs.specs.declared.spec.SpecNo.TheVariants as spec
-use Rattle.totem_evs.specs.Events.{IsEvent}
-use Rattle.totem_evs.specs.Steps.{Strict}
 use Rattle.totem_evs.specs.Places.{Chain, Somewhere, IsClosed, IsStep, IsOrderStep}
-use Rattle.totem_evs.specs.Faults.{Breaks}
-use Rattle.totem_evs.specs.ClosedLists.{Step, HoldsUp, unless, forward, AreTwinDeliveries, IsBrokenBy, IsClosedList}
-use Rattle.totem_evs.specs.Classes.{InClass}
 use Rattle.totem_cert.proofs.Classmates.{class_sym, event_of}
 use Rattle.totem_cert.proofs.Walking.{step_in}
 
@@ -122,9 +110,7 @@ no_twins run e (f ∷ fs) z (inl s, rest) never = (s, no_twins run f fs z rest (
 no_twins run e (f ∷ fs) z (inr d, rest) never = absurd (never (inl d))
 
 broken : (run : List Log) (k : SpecNo) (places : List Place) → IsClosed run (IsOrderStep run) places → IsBrokenBy run k places → Breaks run k places
-broken run k places closed (inl (is, twins)) = rw is closed
-broken run k [] closed (inr (is, never)) = absurd closed
-broken run k (e ∷ es) closed (inr (is, never)) = let h : Breaks run spec.Cycle (e ∷ es) = (no_twins run e es e closed.0 never, closed.1) in rw is h
+broken run k places h m = grind (arith, no_twins)
 
 pub closed_breaks : (run : List Log) (k : SpecNo) (places : List Place) → IsClosedList run k places → Breaks run k places
 closed_breaks run k places h =

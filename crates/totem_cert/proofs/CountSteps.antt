@@ -1,19 +1,6 @@
 -- How the counts change when one more entry gets a number.
-use Rattle.std.proofs.lemmas.Grind.{common_steps}
-use Rattle.std.proofs.Common.{◌≡◌, ◌≢◌, ℕ, zero, suc, ◌+◌, ◌-◌, ◌*◌, ◌<◌, ◌≤◌, ◌⊎◌, inl, inr, List, [], ◌∷◌, ◌++◌, length, map, drop, get_or, slice_get, Option, Some, None, refl, sym, ◌∙◌, ap, arith, length-append}
+use Rattle.totem_cert.proofs.Common.{◌≡◌, ◌≢◌, ℕ, zero, suc, ◌+◌, ◌-◌, ◌*◌, ◌<◌, ◌≤◌, List, [], ◌∷◌, ◌++◌, length, map, drop, get_or, slice_get, Option, Some, refl, sym, ◌∙◌, ap, arith, length-append, common_steps, slice_get_within, slice_get_read, get_or_from_slice_get, get_or_past, Entry, Log, Numbering, IsRun, IsLog, IsTable, Table, less_or_not, empty_line, count_of, given_at, class_in, class_fed, class_kept, one, kept_behind, kept_in, kept_at, kept_by, Counts, CountsTo, shared_by, passed, Adds, Takes, AtMost, Pushes}
 use Rattle.std.proofs.Math.ListN.{set, drop_of_length-le}
-use Rattle.std.proofs.lemmas.Option.{slice_get_within, slice_get_read, get_or_from_slice_get}
-use Rattle.std.proofs.lemmas.List.{get_or_past}
-use Rattle.totem_evs.specs.declared.entry.Entry.{Entry}
-use Rattle.totem_evs.specs.declared.entry.Entry.TheVariants.{Conf, Send, Deliver, Fail}
-use Rattle.totem_evs.specs.declared.log.Log.{Log}
-use Rattle.totem_evs.specs.Certificates.{Numbering}
-use Rattle.totem_evs.specs.Runs.{IsRun, IsLog}
-use Rattle.totem_table.specs.Tables.{IsTable}
-use Rattle.totem_table.specs.declared.table.Table.{Table}
-use Rattle.totem_evs.proofs.LogOf.{less_or_not}
-use Rattle.totem_cert.specs.Progress.{empty_line}
-use Rattle.totem_cert.specs.Counts.{count_of, given_at, sum_to, class_in, class_fed, class_kept, one, kept_behind, kept_in, kept_at, kept_by, Counts, CountsTo, shared_by, passed, Adds, Takes, AtMost, Pushes}
 use Rattle.totem_cert.proofs.Lists.{set_here, set_other}
 use Rattle.totem_cert.proofs.Sums.{sum_change, sum_millions}
 
@@ -80,17 +67,10 @@ at_most_more counts a b few le = record { each = λ c. (let h = few.each c in om
 
 -- no count is greater than twice the number of entries before
 pub behind_few : (messages : ℕ) (entries : List Entry) (row old new : List ℕ) (i : ℕ) → AtMost old 62000000 → length entries ≤ 1000000 → CountsBehind messages entries row old new i → AtMost new 90000000
-behind_few messages entries row old new i few short so_far = record { each = λ c. each c (less_or_not c (length new)) }
-  where
-    each : (c : ℕ) → (c < length new) ⊎ ((length new < c) ⊎ (c ≡ length new)) → get_or new c 0 ≤ 90000000
-    each c (inl within) = let a = so_far.each c within in let b = few.each c in let m = behind_most messages entries row c in omega arith
-    each c (inr past) = (let p : get_or new c 0 ≡ 0 = get_or_past new c 0 (grind arith) in omega arith)
+behind_few messages entries row old new i few short so_far = grind (arith, less_or_not, behind_most, get_or_past)
 
 kept_cases : (messages : ℕ) (x : Entry) (n c : ℕ) → one (class_fed x n) c + one (class_in messages x n) c ≡ one (class_kept messages x n) c
-kept_cases messages (Conf x ms) n c = omega arith
-kept_cases messages (Send m x s) n c = omega arith
-kept_cases messages (Deliver m x) n c = omega arith
-kept_cases messages (Fail x) n c = omega arith
+kept_cases messages x n c = grind arith
 
 kept_drop : (messages : ℕ) (es : List Entry) (ns : List ℕ) (i : ℕ) (x : Entry) (c : ℕ) → slice_get es i ≡ Some x → length es ≡ length ns
     → kept_behind messages (drop i es) (drop i ns) c ≡ one (class_kept messages x (get_or ns i 0)) c + kept_behind messages (drop (suc i) es) (drop (suc i) ns) c
@@ -102,14 +82,7 @@ kept_drop messages (y ∷ ys) (n ∷ ns) (suc i) x c at long = kept_drop message
 -- one more entry is counted
 pub behind_more : (messages : ℕ) (entries : List Entry) (row old mid new : List ℕ) (i : ℕ) (x : Entry) (class : Option ℕ) → slice_get entries i ≡ Some x → length entries ≡ length row → class ≡ class_kept messages x (get_or row i 0)
     → CountsBehind messages entries row old mid i → Adds mid new (one class) → CountsBehind messages entries row old new (i + 1)
-behind_more messages entries row old mid new i x class at long is so_far adds = record {
-  long = adds.long ∙ so_far.long;
-  each = λ c within.
-      let step = kept_drop messages entries row i x c at long in
-      let added : get_or new c 0 ≡ get_or mid c 0 + one (class_kept messages x (get_or row i 0)) c = rw is at (adds.each c within) in
-      let before = so_far.each c (rw adds.long at within) in
-      let next : i + 1 ≡ suc i = omega arith in rw next (omega arith);
-}
+behind_more messages entries row old mid new i x class at long is so_far adds = grind (arith, kept_drop)
 
 -- the head keeps no class of which it is an entry
 pub behind_all : (messages : ℕ) (entries : List Entry) (row old mid new : List ℕ) (i : ℕ) → length entries ≤ i → length entries ≡ length row → CountsBehind messages entries row old mid i
@@ -134,21 +107,7 @@ behind_all messages entries row old mid new i end long so_far takes = record {
 
 -- the counts so far are small enough
 pub counts_few : (run : List Log) (table : Table) (lines : List Numbering) (counts : List ℕ) (k : ℕ) → ((j : ℕ) (log : Log) → slice_get run j ≡ Some log → length log.entries ≤ 1000000) → k ≤ 31 → CountsTo run table lines counts k → AtMost counts 62000000
-counts_few run table lines counts k short le to = record { each = λ c. each c (less_or_not c (length counts)) }
-  where
-    at_most : (c j : ℕ) → kept_at run table (given_at lines j) c j ≤ 2000000
-    at_most c j = go (slice_get run j) refl
-      where
-        go : (o : Option Log) → slice_get run j ≡ o → kept_at run table (given_at lines j) c j ≤ 2000000
-        go None is = rw is (omega arith)
-        go (Some log) is = let s = short j log is in let m = kept_most (length table.messages.items) (given_at lines j) log.entries (get_or table.rows.items j []) c in rw is (let m' = m in let s' = s in omega arith)
-
-    each : (c : ℕ) → (c < length counts) ⊎ ((length counts < c) ⊎ (c ≡ length counts)) → get_or counts c 0 ≤ 62000000
-    each c (inl within) =
-        let a : get_or counts c 0 ≡ sum_to k (λ j. kept_at run table (given_at lines j) c j) = to.each c within in
-        let m : sum_to k (λ j. kept_at run table (given_at lines j) c j) ≤ k * 2000000 = sum_millions k (λ j. kept_at run table (given_at lines j) c j) (at_most c) in
-        omega arith
-    each c (inr past) = (let p : get_or counts c 0 ≡ 0 = get_or_past counts c 0 (grind arith) in omega arith)
+counts_few run table lines counts k short le to = grind (arith, less_or_not, kept_most, sum_millions, get_or_past)
 
 empty_given : (run : List Log) (k : ℕ) → given_at (map empty_line run) k ≡ 0
 empty_given [] zero = refl
@@ -159,21 +118,7 @@ empty_given (log ∷ logs) (suc k) = empty_given logs k
 -- one more log is counted
 pub counts_more : (run : List Log) (table : Table) (old new : List ℕ) (k messages : ℕ) (log : Log) (entries : List Entry) (row : List ℕ) → CountsTo run table (map empty_line run) old k → slice_get run k ≡ Some log
     → messages ≡ length table.messages.items → entries ≡ log.entries → row ≡ get_or table.rows.items k [] → Adds old new (kept_in messages 0 entries row) → CountsTo run table (map empty_line run) new (k + 1)
-counts_more run table old new k messages log entries row to log_at messages_is entries_is row_is adds = record {
-  long = adds.long ∙ to.long;
-  each = λ c within. each c within;
-}
-  where
-    total : (p q r t u : ℕ) → p ≡ q + t → q ≡ r → u ≡ t → p ≡ r + u
-    total p q r t u a b h = omega arith
-
-    each : (c : ℕ) → c < length new → get_or new c 0 ≡ sum_to (k + 1) (λ j. kept_at run table (given_at (map empty_line run) j) c j)
-    each c within =
-        let a : get_or new c 0 ≡ get_or old c 0 + kept_in messages 0 entries row c = adds.each c within in
-        let b : get_or old c 0 ≡ sum_to k (λ j. kept_at run table (given_at (map empty_line run) j) c j) = to.each c (rw adds.long at within) in
-        let h : kept_at run table (given_at (map empty_line run) k) c k ≡ kept_in messages 0 entries row c = rw (empty_given run k, log_at, messages_is, entries_is, row_is) refl in
-        let s : k + 1 ≡ suc k = omega arith in
-        rw s (total _ _ _ _ _ a b h)
+counts_more run table old new k messages log entries row to log_at messages_is entries_is row_is adds = grind (arith, empty_given)
 
 -- a line with one more number
 pub pushes_of : (old new : List Numbering) (k n : ℕ) (read now : Numbering) → k < length old → read ≡ get_or old k read → new ≡ set old k now → now ≡ record read { numbers = read.numbers ++ n ∷ [] } → Pushes old new k n

@@ -1,18 +1,6 @@
 -- Which classes are ready, found from the counts of what keeps them back.
-use Rattle.std.proofs.lemmas.Grind.{common_steps}
-use Rattle.std.proofs.Common.{◌≡◌, ℕ, zero, suc, ◌+◌, ◌<◌, ◌≤◌, ◌⊎◌, inl, inr, List, [], ◌∷◌, length, get_or, slice_get, Option, Some, None, Bool, IsTrue, ◌↔◌, refl, sym, ◌∙◌, ap, arith}
-use Rattle.std.proofs.Math.Nat.{eq-zero-or-pos}
-use Rattle.std.proofs.lemmas.Option.{slice_get_within}
-use Rattle.totem_names.specs.declared.place.Place.{Place}
-use Rattle.totem_evs.specs.declared.entry.Entry.{Entry}
-use Rattle.totem_evs.specs.declared.log.Log.{Log}
-use Rattle.totem_evs.specs.Certificates.{Numbering}
-use Rattle.totem_evs.proofs.LogOf.{Rising}
-use Rattle.totem_table.specs.declared.table.Table.{Table}
+use Rattle.totem_cert.proofs.Common.{◌≡◌, ℕ, zero, suc, ◌+◌, ◌<◌, ◌≤◌, ◌⊎◌, inl, inr, List, [], ◌∷◌, length, get_or, slice_get, Option, Some, None, Bool, IsTrue, ◌↔◌, refl, sym, ◌∙◌, ap, arith, common_steps, eq-zero-or-pos, slice_get_within, Place, Entry, Log, Numbering, Rising, Table, place, Fits, IsFree, IsReady, given_at, class_at, class_in, class_fed, one, kept_behind, kept_in, kept_at, kept_by, Counts}
 use Rattle.totem_table.specs.Tables.{IsTable, IsEntryAt, number_at}
-use Rattle.totem_cert.specs.Search.{place}
-use Rattle.totem_cert.specs.Progress.{Fits, IsFree, IsReady}
-use Rattle.totem_cert.specs.Counts.{given_at, class_at, class_in, class_fed, one, kept_behind, kept_in, kept_at, kept_by, Counts}
 use Rattle.totem_cert.proofs.CountingOne.{one_cases}
 use Rattle.totem_cert.proofs.Lists.{at_index, up_to_or_past}
 use Rattle.totem_cert.proofs.LineFacts.{log_index}

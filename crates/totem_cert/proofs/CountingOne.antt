@@ -1,8 +1,6 @@
 -- Adding one to a count, or taking one away.
-use Rattle.std.proofs.lemmas.Grind.{common_steps}
-use Rattle.std.proofs.Common.{◌≡◌, ◌≢◌, ℕ, ◌+◌, ◌-◌, ◌<◌, ◌≤◌, ◌⊎◌, inl, inr, List, length, get_or, Some, None, refl, arith}
+use Rattle.totem_cert.proofs.Common.{◌≡◌, ◌≢◌, ℕ, ◌+◌, ◌-◌, ◌<◌, ◌≤◌, ◌⊎◌, inl, inr, List, length, get_or, Some, None, refl, arith, common_steps, one, Adds, Takes}
 use Rattle.std.proofs.Math.ListN.{set}
-use Rattle.totem_cert.specs.Counts.{one, Adds, Takes}
 
 pub one_cases : (n c : ℕ) → ((c ≡ n) × (one (Some n) c ≡ 1)) ⊎ ((c ≢ n) × (one (Some n) c ≡ 0))
 one_cases n c = grind (arith, common_steps)

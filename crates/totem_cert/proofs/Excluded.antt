@@ -1,11 +1,6 @@
 -- A run with a certificate has no closed list.
-use Rattle.std.proofs.Common.{◌≡◌, ℕ, zero, suc, ◌<◌, List, Some, arith}
-use Rattle.totem_names.specs.declared.place.Place.{Place}
-use Rattle.totem_evs.specs.declared.log.Log.{Log}
-use Rattle.totem_evs.specs.Certificates.{Numbering, number_at, Certified}
-use Rattle.totem_evs.specs.ClosedLists.{Placed, placed}
+use Rattle.totem_cert.proofs.Common.{◌≡◌, ℕ, zero, suc, ◌<◌, List, Some, arith, Place, Log, Numbering, number_at, Certified, Placed, placed, ClosedListsExcludeCertificates}
 use Rattle.totem_evs.proofs.Ordered.{has_number}
-use Rattle.totem_cert.specs.Laws.{ClosedListsExcludeCertificates}
 use Rattle.totem_cert.proofs.One.{waits_below}
 
 -- an event that a certificate numbers gets its number sooner or later

@@ -1,44 +1,18 @@
 -- The first wanted entries, noted entry by entry.
-use Rattle.std.proofs.lemmas.Grind.{common_steps}
-use Rattle.std.proofs.Common.{◌≡◌, ℕ, ◌+◌, ◌<◌, ◌≤◌, ◌⊎◌, inl, inr, List, length, set, get_or, slice_get, Option, Some, None, Bool, true, cond, refl, sym, ◌∙◌, ap, arith}
-use Rattle.std.specs.Prelude.{if◌then◌else◌, nat_le, nat_lt}
+use Rattle.totem_cert.proofs.Common.{◌≡◌, ℕ, ◌+◌, ◌<◌, ◌≤◌, ◌⊎◌, inl, inr, List, length, set, get_or, slice_get, Option, Some, None, Bool, true, cond, refl, sym, ◌∙◌, arith, if◌then◌else◌, nat_le, nat_lt, common_steps, leb-true, ltb-true, cases_eq, slice_get_within, slice_get-get_or, get_or_from_slice_get, length-set, Place, Entry, Log, Numbering, Table, place, given_at, class_wanted, IsWanted, IsPast, AreFirsts, AreFirstsTo, Notes}
 use Rattle.std.proofs.Math.Dec.{leb, ltb}
-use Rattle.std.proofs.lemmas.Bool.{leb-true, ltb-true}
-use Rattle.std.proofs.lemmas.Option.{slice_get_within, slice_get-get_or, get_or_from_slice_get}
-use Rattle.std.proofs.lemmas.List.{length-set}
-use Rattle.totem_names.specs.declared.place.Place.{Place}
-use Rattle.totem_evs.specs.declared.entry.Entry.{Entry}
-use Rattle.totem_evs.specs.declared.log.Log.{Log}
-use Rattle.totem_evs.specs.Certificates.{Numbering}
-use Rattle.totem_table.specs.declared.table.Table.{Table}
 use Rattle.totem_table.specs.Tables.{IsEntryAt, number_at}
 use Rattle.totem_cert.specs.declared.firsts.Wanted.{Wanted}
-use Rattle.totem_cert.specs.Search.{place}
-use Rattle.totem_cert.specs.Counts.{given_at}
-use Rattle.totem_cert.specs.Firsts.{class_wanted, IsWanted, IsPast, AreFirsts, AreFirstsTo, Notes}
-use Rattle.std.proofs.lemmas.Bool.{cases_eq}
 use Rattle.totem_cert.proofs.Lists.{set_here, set_other}
 
 pub notes_first : (old : List (Option Place)) (class : ℕ) (e : Place) → class < length old → get_or old class None ≡ None → Notes old (set old class (Some e)) (Some class) e
-notes_first old class e within none = record {
-  long = length-set old class (Some e);
-  each = λ c. elim (cases_eq c class) [
-    | inl same ↦ inr (ap Some (sym same), rw same (slice_get-get_or old class None within ∙ ap Some none), rw same (set_here old class (Some e) within))
-    | inr other ↦ inl (set_other old class c (Some e) other, λ h. absurd (other (let g = h in cc)))
-  ];
-}
+notes_first old class e within none = grind (arith, length-set, cases_eq, slice_get-get_or, set_here, set_other)
 
 pub notes_later : (old : List (Option Place)) (class : ℕ) (e : Place) → class < length old → (get_or old class None ≡ None → ⊥) → Notes old old (Some class) e
-notes_later old class e within some = record {
-  long = refl;
-  each = λ c. inl (refl, λ h none. some (let same : class ≡ c = cc in get_or_from_slice_get old class None None (rw same none)));
-}
+notes_later old class e within some = grind (arith, get_or_from_slice_get)
 
 pub notes_past : (old : List (Option Place)) (class : ℕ) (e : Place) → length old ≤ class → Notes old old (Some class) e
-notes_past old class e past = record {
-  long = refl;
-  each = λ c. inl (refl, λ h none. (let same : class ≡ c = cc in let lt = slice_get_within old c None none in omega arith));
-}
+notes_past old class e past = grind (arith, slice_get_within)
 
 pub notes_nothing : (old : List (Option Place)) (e : Place) → Notes old old None e
 notes_nothing old e = record { long = refl; each = λ c. inl (refl, λ h none. cc) }

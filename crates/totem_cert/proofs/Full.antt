@@ -1,18 +1,5 @@
 -- If each entry has a number, the lines are the run's certificate.
-use Rattle.std.proofs.Common.{◌≡◌, suc, ◌<◌, inl, inr, List, [], ◌∷◌, length, get_or, Some, refl, sym, ◌∙◌, arith}
-use Rattle.std.specs.Prelude.{All}
-use Rattle.std.proofs.lemmas.Option.{slice_get_within, slice_get-get_or}
-use Rattle.totem_names.specs.declared.place.Place.{Place}
-use Rattle.totem_evs.specs.declared.entry.Entry.TheVariants.{Deliver}
-use Rattle.totem_evs.specs.declared.log.Log.{Log}
-use Rattle.totem_evs.specs.Events.{IsEvent}
-use Rattle.totem_evs.specs.Steps.{SameClass}
-use Rattle.totem_evs.specs.Certificates.{Numbering, number_at, IsBelow, Matches}
-use Rattle.totem_evs.proofs.LogOf.{Rising}
-use Rattle.totem_cert.specs.Search.{place}
-use Rattle.totem_evs.specs.Classes.{WaitsFor}
-use Rattle.totem_evs.specs.Positions.{IsPositions}
-use Rattle.totem_cert.specs.Progress.{Fits, IsSound, IsFull, IsNumbered}
+use Rattle.totem_cert.proofs.Common.{◌≡◌, suc, ◌<◌, inl, inr, List, [], ◌∷◌, length, get_or, Some, refl, sym, ◌∙◌, arith, All, slice_get_within, slice_get-get_or, Place, Deliver, Log, IsEvent, SameClass, Numbering, number_at, IsBelow, Matches, Rising, place, WaitsFor, IsPositions, Fits, IsSound, IsFull, IsNumbered}
 use Rattle.totem_cert.proofs.LineFacts.{line_of_at, line_in, event_at, within_numbered, fits_tail}
 use Rattle.totem_cert.proofs.Lists.{at_index}
 

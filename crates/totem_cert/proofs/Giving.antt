@@ -1,26 +1,10 @@
 -- The next class gets its number.
-use Rattle.std.proofs.Common.{◌≡◌, ◌≢◌, ℕ, zero, suc, ◌+◌, ◌<◌, ◌≤◌, ◌⊎◌, below_more, inl, inr, List, [], ◌∷◌, ◌++◌, length, set, slice_get, Some, None, Bool, true, false, refl, sym, ◌∙◌, ap, arith, length-append}
-use Rattle.std.specs.Prelude.{◌==◌}
-use Rattle.std.proofs.lemmas.Option.{slice_get_within}
-use Rattle.std.proofs.lemmas.List.{length-set}
-use Rattle.totem_names.specs.declared.place.Place.{Place}
-use Rattle.totem_evs.specs.declared.entry.Entry.{Entry}
-use Rattle.totem_evs.specs.declared.log.Log.{Log}
-use Rattle.totem_evs.specs.Certificates.{Numbering, numbers_of, number_at, number_in}
-use Rattle.totem_evs.specs.Classes.{InClass}
-use Rattle.totem_evs.proofs.LogOf.{Rising}
-use Rattle.totem_table.specs.declared.table.Table.{Table}
-use Rattle.totem_table.specs.Tables.{IsTable, IsEntryAt}
+use Rattle.totem_cert.proofs.Common.{◌≡◌, ◌≢◌, ℕ, zero, suc, ◌+◌, ◌<◌, ◌≤◌, ◌⊎◌, below_more, inl, inr, List, [], ◌∷◌, ◌++◌, length, set, slice_get, Some, None, Bool, true, false, refl, sym, ◌∙◌, ap, arith, length-append, ◌==◌, slice_get_within, length-set, Place, Entry, Log, Numbering, numbers_of, number_at, number_in, InClass, Rising, Table, IsTable, IsEntryAt, place, class_at, count_of, given_at, Pushes, Fits, IsGiven, IsNext, IsNextIn, IsSound, entries_left, stands_last, cases_eq}
 use Rattle.totem_cert.specs.declared.heads.Head.{Head}
 use Rattle.totem_cert.specs.declared.heads.Head.TheVariants.{Class}
-use Rattle.totem_cert.specs.Search.{place}
-use Rattle.totem_cert.specs.Counts.{class_at, count_of, given_at, Pushes}
 use Rattle.totem_cert.specs.Heads.{IsHead}
-use Rattle.totem_cert.specs.Progress.{Fits, IsGiven, IsNext, IsNextIn, IsSound, entries_left}
-use Rattle.totem_evs.proofs.Pushing.{stands_last}
 use Rattle.totem_cert.proofs.Lists.{set_here, set_other, push_other}
 use Rattle.totem_cert.proofs.Classmates.{class_self}
-use Rattle.std.proofs.lemmas.Bool.{cases_eq}
 use Rattle.totem_cert.proofs.Classes.{alone_itself, in_class, class_from}
 use Rattle.totem_cert.proofs.ClassHeads.{head_is}
 use Rattle.totem_cert.proofs.LineFacts.{same_parts, line_of_at}

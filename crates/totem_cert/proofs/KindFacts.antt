@@ -1,12 +1,6 @@
 -- The kinds of entries, as the code reads them.
-use Rattle.std.proofs.Common.{◌≡◌, ℕ, ◌<◌, List, length, map, option_map, get_or, slice_get, Some, ◌∙◌, ap}
-use Rattle.std.proofs.lemmas.Option.{slice_get-map, get_or_from_slice_get}
-use Rattle.std.proofs.Math.ListN.{length-map}
-use Rattle.totem_evs.specs.declared.entry.Entry.{Entry}
-use Rattle.totem_evs.specs.declared.log.Log.{Log}
+use Rattle.totem_cert.proofs.Common.{◌≡◌, ℕ, List, map, option_map, get_or, slice_get, Some, ◌∙◌, ap, slice_get-map, get_or_from_slice_get, Entry, Log, Table, IsTable, kind_of, kinds_in}
 use Rattle.totem_table.specs.declared.kind.Kind.{Kind}
-use Rattle.totem_table.specs.declared.table.Table.{Table}
-use Rattle.totem_table.specs.Tables.{IsTable, kind_of, kinds_in}
 
 -- the kind at i is that of the entry at i
 pub kind_read : (entries : List Entry) (kinds : List Kind) (i : ℕ) (entry : Entry) (kind : Kind) → kinds ≡ map kind_of entries → slice_get entries i ≡ Some entry → get_or kinds i kind ≡ kind_of entry
@@ -18,7 +12,3 @@ pub table_kinds : (run : List Log) (table : Table) (k : ℕ) (log : Log) (entrie
 table_kinds run table k log entries kinds read is log_at entries_is read_is kinds_is =
     let there : slice_get table.kinds.items k ≡ Some (kinds_in log) = rw is.kinds (slice_get-map kinds_in run k ∙ ap (option_map kinds_in) log_at) in
     rw entries_is (kinds_is ∙ read_is ∙ get_or_from_slice_get table.kinds.items k (kinds_in log) read there)
-
--- each log has its kinds
-pub kinds_within : (run : List Log) (table : Table) (k : ℕ) → IsTable run table → k < length run → k < length table.kinds.items
-kinds_within run table k is within = rw (is.kinds, length-map run kinds_in) within

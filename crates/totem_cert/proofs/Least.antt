@@ -1,19 +1,5 @@
 -- The least event that is left, and the closed list as it is written.
-use Rattle.std.proofs.lemmas.Grind.{common_steps}
-use Rattle.std.proofs.Common.{◌≡◌, ℕ, suc, ◌+◌, ◌<◌, ◌≤◌, inl, inr, List, ◌∷◌, ◌++◌, length, drop, get_or, slice_get, Some, refl, ◌∙◌, ap, arith, length-append}
-use Rattle.std.proofs.lemmas.Option.{slice_get_within}
-use Rattle.totem_names.specs.declared.place.Place.{Place}
-use Rattle.totem_evs.specs.declared.entry.Entry.{Entry}
-use Rattle.totem_evs.specs.declared.log.Log.{Log}
-use Rattle.totem_evs.specs.declared.spec.SpecNo.{SpecNo}
-use Rattle.totem_evs.specs.Runs.{IsRun}
-use Rattle.totem_evs.specs.Classes.{IsAtMost}
-use Rattle.totem_table.specs.Tables.{IsEntryAt}
-use Rattle.totem_evs.specs.Certificates.{Numbering, numbers_of}
-use Rattle.totem_evs.proofs.LogOf.{Rising, less_or_not}
-use Rattle.totem_evs.specs.ClosedLists.{Step, IsLeft, IsLeastLeft, IsTurned, BeginsLeast, IsBrokenBy, IsClosedList, forward, unless}
-use Rattle.totem_cert.specs.Search.{place}
-use Rattle.totem_cert.specs.Progress.{IsSound, NoneReady, IsFirstLeft, IsRound, IsForwardFrom}
+use Rattle.totem_cert.proofs.Common.{◌≡◌, ℕ, suc, ◌+◌, ◌<◌, ◌≤◌, inl, inr, List, ◌∷◌, ◌++◌, length, drop, get_or, slice_get, Some, refl, ◌∙◌, ap, arith, length-append, common_steps, slice_get_within, Place, Entry, Log, SpecNo, IsRun, IsAtMost, IsEntryAt, Numbering, numbers_of, Rising, less_or_not, Step, IsLeft, IsLeastLeft, IsTurned, BeginsLeast, IsBrokenBy, IsClosedList, forward, unless, place, IsSound, NoneReady, IsFirstLeft, IsRound, IsForwardFrom}
 use Rattle.totem_cert.proofs.LineFacts.{line_of_at, line_in, event_at, entry_event, at_most, unnumbered_past, past_unnumbered}
 use Rattle.totem_cert.proofs.Lists.{at_index, read_is}
 use Rattle.totem_cert.proofs.Closing.{drop_here}

@@ -1,21 +1,6 @@
 -- Lines and logs, by index, by process and by place.
-use Rattle.std.proofs.lemmas.Grind.{common_steps}
-use Rattle.std.proofs.Common.{◌≡◌, ℕ, zero, suc, ◌<◌, ◌≤◌, ◌⊎◌, inl, inr, Option, List, [], ◌∷◌, length, get_or, slice_get, Some, None, true, false, refl, sym, ◌∙◌, ap, arith, rules}
-use Rattle.std.specs.Prelude.{◌==◌}
-use Rattle.std.proofs.lemmas.Option.{slice_get_within, slice_get-get_or, slice_get_past, slice_get_cases, slice_get_read}
-use Rattle.totem_names.specs.declared.place.Place.{Place}
-use Rattle.totem_evs.specs.declared.entry.Entry.{Entry}
-use Rattle.totem_evs.specs.declared.log.Log.{Log}
-use Rattle.totem_evs.specs.Events.{log_of, entry_at}
-use Rattle.totem_evs.specs.Certificates.{Numbering, numbers_of, number_at}
-use Rattle.totem_evs.specs.Classes.{IsAtMost}
-use Rattle.totem_evs.proofs.LogOf.{Rising, Rising-tail, in_order, less_or_not, log_of_cases, log_of_at}
-use Rattle.totem_table.specs.declared.table.Table.{Table}
+use Rattle.totem_cert.proofs.Common.{◌≡◌, ℕ, zero, suc, ◌<◌, ◌≤◌, ◌⊎◌, inl, inr, Option, List, [], ◌∷◌, length, get_or, slice_get, Some, None, true, false, refl, sym, ◌∙◌, ap, arith, rules, ◌==◌, common_steps, slice_get_within, slice_get-get_or, slice_get_past, slice_get_cases, slice_get_read, Place, Entry, Log, log_of, entry_at, Numbering, numbers_of, number_at, IsAtMost, Rising, Rising-tail, in_order, less_or_not, log_of_cases, log_of_at, Table, IsEntryAt, place, count_of, given_at, shared_by, Fits, IsClassOf, IsLogOf, IsNumbered}
 use Rattle.totem_table.specs.Tables as tables
-use Rattle.totem_table.specs.Tables.{IsEntryAt}
-use Rattle.totem_cert.specs.Search.{place}
-use Rattle.totem_cert.specs.Counts.{count_of, given_at, shared_by}
-use Rattle.totem_cert.specs.Progress.{Fits, IsClassOf, IsLogOf, IsNumbered}
 use Rattle.totem_cert.proofs.Lists.{at_index}
 
 pub fits_tail : (log : Log) (logs : List Log) (line : Numbering) (lines : List Numbering) → Fits (log ∷ logs) (line ∷ lines) → Fits logs lines
@@ -57,10 +42,7 @@ pub within_numbered : (lines : List Numbering) (p i : ℕ) → i < length (numbe
 within_numbered lines p i lt = record { number = get_or (numbers_of lines p) i 0; given = slice_get-get_or (numbers_of lines p) i 0 lt }
 
 pub unnumbered_past : (lines : List Numbering) (p i : ℕ) → number_at lines (place p i) ≡ None → length (numbers_of lines p) ≤ i
-unnumbered_past lines p i none = elim (slice_get_cases (numbers_of lines p) i).1 [
-  | inl (x, lt, is, _) ↦ absurd cc
-  | inr (le, _) ↦ le
-]
+unnumbered_past lines p i none = grind (arith, slice_get_cases)
 
 pub past_unnumbered : (lines : List Numbering) (p i : ℕ) → length (numbers_of lines p) ≤ i → number_at lines (place p i) ≡ None
 past_unnumbered lines p i le = slice_get_past (numbers_of lines p) i le
@@ -77,10 +59,7 @@ given_of run lines k log rising fits log_at = let line = line_in run lines k log
 
 -- a process has one log
 pub log_index : (run : List Log) (k l : ℕ) (a b : Log) → Rising run → slice_get run k ≡ Some a → slice_get run l ≡ Some b → a.proc ≡ b.proc → k ≡ l
-log_index run k l a b rising at_k at_l same = elim (less_or_not k l) [
-  | inl under ↦ absurd (let lt = in_order run k l a b rising at_k at_l under in omega arith)
-  | inr rest ↦ elim rest [ inl over ↦ absurd (let lt = in_order run l k b a rising at_l at_k over in omega arith) | inr eq ↦ eq ]
-]
+log_index run k l a b rising at_k at_l same = grind (arith, less_or_not, in_order)
 
 -- the entry of an event, by the index of its log
 pub event_at : (run : List Log) (e : Place) (x : Entry) → entry_at run e ≡ Some x → (k i : ℕ) × (a : IsEntryAt run k i x) × (e ≡ place a.log.proc i)
@@ -96,10 +75,7 @@ entry_event run k i x rising a = rw (log_of_at run k a.log rising a.is_log) a.is
 
 -- places in the order of the logs, and in each log of its entries
 pub at_most : (run : List Log) (k i l j : ℕ) (x y : Entry) → Rising run → (a : IsEntryAt run k i x) (b : IsEntryAt run l j y) → (k < l) ⊎ ((k ≡ l) × (i ≤ j)) → IsAtMost (place a.log.proc i) (place b.log.proc j)
-at_most run k i l j x y rising a b (inl lt) = inl (in_order run k l a.log b.log rising a.is_log b.is_log lt)
-at_most run k i l j x y rising a b (inr (same, le)) =
-    let one : a.log ≡ b.log = (let h : slice_get run l ≡ Some a.log = rw same at a.is_log in let g = b.is_log in cc) in
-    inr (ap (λ (log : Log). log.proc) one, omega arith)
+at_most run k i l j x y h a b m = grind (arith, in_order)
 
 pub no_entry : (run : List Log) (p i : ℕ) → IsLogOf run p None → None ≡ slice_get (log_of run p) i
 no_entry run p i none = elim (log_of_cases run p) [ inl is ↦ rw is refl | inr (k, log, at, same, _) ↦ absurd (none k log at same) ]
@@ -118,19 +94,9 @@ read_at run items k found log same at is = rw same at (slice_get_read items _ k 
 
 -- what the code reads at the index of p's log
 pub read_log : (run items : List Log) (p k : ℕ) (log : Log) → IsLogOf run p (Some k) → items ≡ run → log ≡ get_or items k log → (slice_get run k ≡ Some log) × (log.proc ≡ p)
-read_log run items p k log (found, at, proc) same is =
-    let h : slice_get run k ≡ Some log = read_at run items k found log same at is in
-    let one : found ≡ log = cc in
-    (h, rw one at proc)
+read_log run items p k log h m o = grind (arith, read_at)
 
 -- the class of the event at an index of its log
 pub class_read : (run : List Log) (table : Table) (e : Place) (k at : ℕ) (log : Log) (class : Option ℕ) → Rising run → slice_get run k ≡ Some log → log.proc ≡ e.proc → e.at ≡ suc at
     → class ≡ shared_by (length table.messages.items) (slice_get log.entries at) (tables.number_at table k at) → IsClassOf run table e class
-class_read run table e k at log class rising log_at proc at_e class_is = record {
-  each = λ l i y a is. (
-      let same = log_index run l k a.log log rising a.is_log log_at (sym (ap (λ (f : Place). f.proc) is) ∙ sym proc) in
-      let one : a.log ≡ log = (let h : slice_get run k ≡ Some a.log = rw same at a.is_log in cc) in
-      let i_is : i ≡ at = (let h : e.at ≡ suc i = ap (λ (f : Place). f.at) is in omega arith) in
-      let entry : slice_get log.entries at ≡ Some y = rw (one, i_is) at a.is_entry in
-      rw (same, i_is) (class_is ∙ ap (λ (o : Option Entry). shared_by (length table.messages.items) o (tables.number_at table k at)) entry));
-}
+class_read run table e k at log class rising log_at proc at_e class_is = grind (arith, log_index)

@@ -1,6 +1,5 @@
 -- Lists by index.
-use Rattle.std.proofs.Common.{◌≡◌, ◌≢◌, ℕ, zero, suc, ◌<◌, ◌≤◌, ◌⊎◌, List, [], ◌∷◌, ◌++◌, length, set, get_or, slice_get, Some, refl, ◌∙◌, arith}
-use Rattle.std.proofs.lemmas.Option.{get_or_from_slice_get}
+use Rattle.totem_cert.proofs.Common.{◌≡◌, ◌≢◌, ℕ, zero, suc, ◌<◌, ◌≤◌, ◌⊎◌, List, [], ◌∷◌, ◌++◌, length, set, get_or, slice_get, Some, refl, ◌∙◌, arith, get_or_from_slice_get}
 
 pub up_to_or_past : (a b : ℕ) → (a ≤ b) ⊎ (b < a)
 up_to_or_past a b = grind arith

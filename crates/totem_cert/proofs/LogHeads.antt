@@ -1,21 +1,5 @@
 -- Which classes are ready: those that nothing keeps back.
-use Rattle.std.proofs.lemmas.Grind.{common_steps}
-use Rattle.std.proofs.Common.{◌≡◌, ℕ, zero, suc, ◌<◌, ◌≤◌, ◌⊎◌, inl, inr, List, Option, Some, None, refl, ◌∙◌, ap, arith}
-use Rattle.totem_names.specs.declared.conf.ConfId.{ConfId}
-use Rattle.totem_names.specs.declared.message.MsgId.{MsgId}
-use Rattle.totem_names.specs.declared.place.Place.{Place}
-use Rattle.totem_evs.specs.declared.entry.Entry.{Entry}
-use Rattle.totem_evs.specs.declared.entry.Entry.TheVariants.{Send, Deliver}
-use Rattle.totem_evs.specs.declared.log.Log.{Log}
-use Rattle.totem_evs.specs.Events.{entry_at}
-use Rattle.totem_evs.specs.Steps.{Strict, SameClass, SendsAt, DeliversAt}
-use Rattle.totem_evs.specs.Certificates.{Numbering, number_at}
-use Rattle.totem_table.specs.Tables.{IsEntryAt}
-use Rattle.totem_cert.specs.Search.{place}
-use Rattle.totem_cert.specs.Counts.{given_at}
-use Rattle.totem_evs.proofs.LogOf.{Rising}
-use Rattle.totem_evs.specs.Classes.{InClass, WaitsFor, AreOfOneClass, AreSendAndDelivery}
-use Rattle.totem_cert.specs.Progress.{Fits, IsFree, IsNumbered, Sound, IsReady}
+use Rattle.totem_cert.proofs.Common.{◌≡◌, ℕ, zero, suc, ◌<◌, ◌≤◌, ◌⊎◌, inl, inr, List, Option, Some, None, refl, ◌∙◌, ap, arith, common_steps, ConfId, MsgId, Place, Entry, Send, Deliver, Log, entry_at, Strict, SameClass, SendsAt, DeliversAt, Numbering, number_at, IsEntryAt, place, given_at, Rising, InClass, WaitsFor, AreOfOneClass, AreSendAndDelivery, Fits, IsFree, IsNumbered, Sound, IsReady}
 use Rattle.totem_cert.proofs.Classmates.{class_sym, event_of, waits_same}
 use Rattle.totem_cert.proofs.Lists.{previous}
 use Rattle.totem_cert.proofs.LineFacts.{same_parts, index_of, event_at, entry_event, given_of, numbered_within, within_numbered, past_unnumbered}

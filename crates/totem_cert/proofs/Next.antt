@@ -1,17 +1,5 @@
 -- The first log with a ready head has the next class.
-use Rattle.std.proofs.Common.{◌≡◌, ℕ, ◌<◌, ◌≤◌, ◌⊎◌, inl, inr, List, length, slice_get, Some, sym, arith}
-use Rattle.std.proofs.lemmas.Option.{slice_get_within}
-use Rattle.totem_names.specs.declared.place.Place.{Place}
-use Rattle.totem_evs.specs.declared.entry.Entry.{Entry}
-use Rattle.totem_evs.specs.declared.log.Log.{Log}
-use Rattle.totem_evs.specs.Classes.{IsAtMost}
-use Rattle.totem_evs.specs.Certificates.{Numbering}
-use Rattle.totem_evs.proofs.LogOf.{Rising, less_or_not, log_of_at}
-use Rattle.totem_table.specs.Tables.{IsEntryAt}
-use Rattle.totem_table.proofs.Checking.{HoldsTo}
-use Rattle.totem_cert.specs.Search.{place}
-use Rattle.totem_cert.specs.Counts.{given_at}
-use Rattle.totem_cert.specs.Progress.{IsReady, IsSound, Fits, IsNextHead, NoneReady}
+use Rattle.totem_cert.proofs.Common.{◌≡◌, ℕ, ◌<◌, ◌≤◌, ◌⊎◌, inl, inr, List, length, slice_get, Some, sym, arith, slice_get_within, Place, Entry, Log, IsAtMost, Numbering, Rising, less_or_not, log_of_at, IsEntryAt, HoldsTo, place, given_at, IsReady, IsSound, Fits, IsNextHead, NoneReady}
 use Rattle.totem_cert.proofs.Classmates.{class_self}
 use Rattle.totem_cert.proofs.LineFacts.{given_of, event_at, at_most, unnumbered_past}
 use Rattle.totem_cert.proofs.LogHeads.{ready_free, ready_same}
@@ -59,6 +47,4 @@ first_is_next run lines k log rising sound log_at ready none = record {
         ]
 
 pub none_ready_end : (run : List Log) (lines : List Numbering) (k : ℕ) → Rising run → Fits run lines → length run ≤ k → NoneReadyBefore run lines k → NoneReady run lines
-none_ready_end run lines k rising fits end before = record {
-  none = λ e ready. (let (m, y, b, is) = ready_at run lines e rising fits ready in before.each m b.log (let lt = slice_get_within run m b.log b.is_log in omega arith) b.is_log (rw is at ready));
-}
+none_ready_end run lines k rising fits end before = grind (arith, ready_at, slice_get_within)

@@ -1,15 +1,8 @@
 -- The steps of a walk, noted by the events to which they led.
-use Rattle.std.proofs.lemmas.Grind.{common_steps}
-use Rattle.std.proofs.Common.{◌≡◌, ℕ, ◌<◌, ◌⊎◌, inl, inr, List, [], ◌∷◌, ◌++◌, length, slice_get, Some, None, false, sym, ◌∙◌, arith}
+use Rattle.totem_cert.proofs.Common.{◌≡◌, ℕ, ◌<◌, ◌⊎◌, inl, inr, List, [], ◌∷◌, ◌++◌, length, slice_get, Some, None, false, sym, ◌∙◌, arith, common_steps, Equal, slice_get_within, Place, Step, before_push, stands_last, IsVisitedAt, IsNotVisited}
 use Rattle.std.specs.Ordering.{is_eq}
-use Rattle.std.specs.declared.cmp.Ordering.TheVariants.{Equal}
 use Rattle.std.specs.BTreeMap.{BTreeMap, get, Updates}
-use Rattle.std.proofs.lemmas.Option.{slice_get_within}
-use Rattle.totem_names.specs.declared.place.Place.{Place}
 use Rattle.totem_names.proofs.Exact.{equal_at, apart_or_at}
-use Rattle.totem_evs.specs.ClosedLists.{Step}
-use Rattle.totem_evs.proofs.Pushing.{before_push, stands_last}
-use Rattle.totem_cert.specs.Progress.{IsVisitedAt, IsNotVisited}
 use Rattle.totem_cert.specs.Visited.{place_order, IsNoted}
 use Rattle.totem_cert.proofs.Lists.{push_other}
 

@@ -1,19 +1,7 @@
 -- A run has at most one certificate.
-use Rattle.std.proofs.lemmas.Grind.{common_steps}
-use Rattle.std.proofs.Common.{below_more, ◌≡◌, ℕ, zero, suc, ◌<◌, inl, inr, List, [], ◌∷◌, Some, Bool, true, false, refl, sym, ◌∙◌, arith}
-use Rattle.std.specs.Prelude.{All, ◌==◌}
-use Rattle.std.proofs.lemmas.Option.{slice_get_within, get_or_from_slice_get}
+use Rattle.totem_cert.proofs.Common.{below_more, ◌≡◌, ℕ, zero, suc, ◌<◌, inl, inr, List, [], ◌∷◌, Some, Bool, true, false, refl, sym, ◌∙◌, arith, All, ◌==◌, common_steps, slice_get_within, get_or_from_slice_get, Place, Log, IsEvent, at_place, log_of, Strict, Numbering, numbers_of, number_in, number_at, IsBelow, Certified, Matches, less_or_not, InClass, WaitsFor, ClassAtMost, IsPositions, IsNumberedBelow, PositionsAreOne}
 use Rattle.std.proofs.lemmas.List.Elements.{All-nil, All-head, All-tail}
-use Rattle.totem_names.specs.declared.place.Place.{Place}
-use Rattle.totem_evs.specs.declared.log.Log.{Log}
-use Rattle.totem_evs.specs.Events.{IsEvent, at_place, log_of}
-use Rattle.totem_evs.specs.Steps.{Strict}
-use Rattle.totem_evs.specs.Certificates.{Numbering, numbers_of, number_in, number_at, IsBelow, Certified, Matches}
 use Rattle.totem_evs.proofs.Ordered.{same_length, has_number}
-use Rattle.totem_evs.proofs.LogOf.{less_or_not}
-use Rattle.totem_evs.specs.Classes.{InClass, WaitsFor, ClassAtMost}
-use Rattle.totem_evs.specs.Positions.{IsPositions, IsNumberedBelow}
-use Rattle.totem_cert.specs.Laws.{PositionsAreOne}
 use Rattle.totem_cert.proofs.Classmates.{class_sym, class_trans}
 use Rattle.totem_cert.proofs.Lists.{at_index}
 use Rattle.totem_cert.proofs.LogHeads.{option_cases}

@@ -1,15 +1,5 @@
 -- What holds of the numbers given so far, and after one more class.
-use Rattle.std.proofs.lemmas.Grind.{common_steps}
-use Rattle.std.proofs.Common.{◌≡◌, ℕ, ◌+◌, ◌<◌, ◌≤◌, ◌⊎◌, inl, inr, List, Some, sym, ◌∙◌, arith}
-use Rattle.std.proofs.Math.Nat.{eq-or-lt_of_le}
-use Rattle.totem_names.specs.declared.place.Place.{Place}
-use Rattle.totem_evs.specs.declared.log.Log.{Log}
-use Rattle.totem_evs.specs.Events.{IsEvent}
-use Rattle.totem_evs.specs.Certificates.{Numbering, number_at}
-use Rattle.totem_evs.specs.Classes.{InClass}
-use Rattle.totem_evs.specs.Positions.{IsNumberedBelow, IsReadyAt}
-use Rattle.totem_evs.specs.ClosedLists.{Placed, placed}
-use Rattle.totem_cert.specs.Progress.{IsNumbered, NotBelow, Sound, IsReady, IsGiven, IsNumberedSoFar}
+use Rattle.totem_cert.proofs.Common.{◌≡◌, ℕ, ◌+◌, ◌<◌, ◌≤◌, ◌⊎◌, inl, inr, List, Some, sym, ◌∙◌, arith, common_steps, eq-or-lt_of_le, Place, Log, IsEvent, Numbering, number_at, InClass, IsNumberedBelow, IsReadyAt, Placed, placed, IsNumbered, NotBelow, Sound, IsReady, IsGiven, IsNumberedSoFar}
 use Rattle.totem_cert.proofs.LogHeads.{option_cases}
 use Rattle.totem_cert.proofs.Classmates.{class_sym, class_trans, class_self, event_of, waits_same, at_most_same}
 

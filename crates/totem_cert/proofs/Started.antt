@@ -1,13 +1,5 @@
 -- The lines before any entry has a number.
-use Rattle.std.proofs.Common.{◌≡◌, ℕ, zero, suc, ◌*◌, ◌≤◌, List, [], ◌∷◌, length, map, option_map, slice_get, Some, None, refl, ◌∙◌, ap, arith, Bool, true, false}
-use Rattle.std.proofs.Math.ListN.{length-map}
-use Rattle.std.proofs.lemmas.Option.{slice_get-map}
-use Rattle.std.specs.Prelude.{◌==◌}
-use Rattle.totem_names.specs.declared.place.Place.{Place}
-use Rattle.totem_evs.specs.declared.log.Log.{Log}
-use Rattle.totem_evs.specs.Runs.{IsRun}
-use Rattle.totem_evs.specs.Certificates.{Numbering, numbers_of, number_in, number_at}
-use Rattle.totem_cert.specs.Progress.{IsNumberedSoFar, entries_left, empty_line}
+use Rattle.totem_cert.proofs.Common.{◌≡◌, ℕ, suc, ◌*◌, ◌≤◌, List, [], ◌∷◌, length, map, option_map, slice_get, Some, None, refl, ◌∙◌, ap, arith, Bool, true, false, ◌==◌, length-map, slice_get-map, Place, Log, IsRun, Numbering, numbers_of, number_at, IsNumberedSoFar, entries_left, empty_line}
 use Rattle.totem_cert.proofs.CountSteps.{logs_short}
 
 line_is : (run : List Log) (k : ℕ) (log : Log) (line : Numbering) → slice_get run k ≡ Some log → slice_get (map empty_line run) k ≡ Some line → line ≡ empty_line log
@@ -22,11 +14,7 @@ none_for (log ∷ logs) p = go (log.proc == p) refl (none_for logs p)
     go false e rest = rw e rest
 
 none_at : (run : List Log) (e : Place) → number_at (map empty_line run) e ≡ None
-none_at run e = rw (none_for run e.proc) (go e.at)
-  where
-    go : (a : ℕ) → number_in [] a ≡ None
-    go zero = refl
-    go (suc i) = refl
+none_at run e = grind (arith, none_for)
 
 few : (run : List Log) (lines : List Numbering) → ((k : ℕ) (log : Log) → slice_get run k ≡ Some log → length log.entries ≤ 1000000) → entries_left run lines ≤ length run * 1000000
 few [] lines each = omega arith

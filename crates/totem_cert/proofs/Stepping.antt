@@ -1,30 +1,9 @@
 -- Steps to classes without a number.
-use Rattle.std.proofs.lemmas.Grind.{common_steps}
-use Rattle.std.proofs.Common.{◌≡◌, ℕ, zero, suc, ◌+◌, ◌<◌, ◌≤◌, ◌⊎◌, inl, inr, List, length, get_or, slice_get, Option, Some, None, cond, refl, sym, ◌∙◌, ap, arith}
-use Rattle.std.specs.Prelude.{unwrap_or, is_some}
-use Rattle.std.proofs.lemmas.Bool.{le-leb, lt-ltb}
-use Rattle.std.proofs.lemmas.Option.{slice_get_read}
-use Rattle.totem_names.specs.declared.message.MsgId.{MsgId}
-use Rattle.totem_names.specs.declared.place.Place.{Place}
-use Rattle.totem_evs.specs.declared.entry.Entry.{Entry}
-use Rattle.totem_evs.specs.declared.entry.Entry.TheVariants.{Send}
-use Rattle.totem_evs.specs.declared.log.Log.{Log}
-use Rattle.totem_evs.specs.Events.{IsEvent}
-use Rattle.totem_evs.specs.Steps.{Strict, DeliversAt}
-use Rattle.totem_evs.specs.Certificates.{Numbering, numbers_of, number_at}
-use Rattle.totem_evs.specs.Classes.{InClass, AreSendAndDelivery}
-use Rattle.totem_evs.specs.ClosedLists.{Step, Placed, placed, IsLeft, IsPrevious, IsLeftSend, IsLeastSend, HoldsUp, IsStepOf}
-use Rattle.totem_evs.proofs.LogOf.{Rising}
-use Rattle.totem_table.specs.declared.table.Table.{Table}
-use Rattle.totem_table.specs.Tables.{IsTable, IsEntryAt}
+use Rattle.totem_cert.proofs.Common.{◌≡◌, ℕ, zero, suc, ◌+◌, ◌<◌, ◌≤◌, ◌⊎◌, inl, inr, List, length, get_or, slice_get, Option, Some, None, cond, refl, sym, ◌∙◌, ap, arith, unwrap_or, is_some, common_steps, le-leb, lt-ltb, slice_get_read, MsgId, Place, Entry, Send, Log, IsEvent, Strict, DeliversAt, Numbering, numbers_of, number_at, InClass, AreSendAndDelivery, Step, Placed, placed, IsLeft, IsPrevious, IsLeftSend, IsLeastSend, HoldsUp, IsStepOf, Rising, Table, IsTable, IsEntryAt, place, class_at, class_fed, given_at, IsWanted, AreFirsts, AreFirstsOf, IsNumbered, IsSound, NoneReady, IsClassOf, IsHeldBy}
 use Rattle.totem_table.specs.Tables as tables
 use Rattle.totem_cert.specs.declared.firsts.Firsts.{Firsts}
 use Rattle.totem_cert.specs.declared.firsts.Wanted.{Wanted}
 use Rattle.totem_cert.specs.declared.firsts.Wanted.TheVariants.{Sends, Members, Followers}
-use Rattle.totem_cert.specs.Search.{place}
-use Rattle.totem_cert.specs.Counts.{class_at, class_fed, given_at}
-use Rattle.totem_cert.specs.Firsts.{IsWanted, AreFirsts, AreFirstsOf}
-use Rattle.totem_cert.specs.Progress.{IsNumbered, IsSound, NoneReady, IsClassOf, IsHeldBy}
 use Rattle.totem_cert.proofs.Lists.{previous, up_to_or_past}
 use Rattle.totem_cert.proofs.Classmates.{class_sym, event_of}
 use Rattle.totem_cert.proofs.Classes.{alone_itself, in_class, class_from, class_within, feeds_in, in_feeds}

@@ -1,14 +1,5 @@
 -- A closed list has each of its places once, so there is one way to start it at its least place.
-use Rattle.std.proofs.lemmas.Grind.{common_steps}
-use Rattle.std.proofs.Common.{◌≡◌, ℕ, zero, suc, ◌+◌, ◌-◌, ◌<◌, ◌≤◌, ◌⊎◌, inl, inr, List, [], ◌∷◌, ◌++◌, length, drop, slice_get, Some, refl, sym, ◌∙◌, ap, subst, arith, append_assoc, length-drop}
-use Rattle.std.specs.Prelude.{Contains}
-use Rattle.std.proofs.lemmas.Option.{slice_get_within, slice_get-get_or}
-use Rattle.std.proofs.lemmas.List.{append-nil}
-use Rattle.std.proofs.lemmas.List.Elements.{Contains-append_left, Contains-append_right, Contains-append_cases}
-use Rattle.totem_names.specs.declared.place.Place.{Place}
-use Rattle.totem_evs.specs.declared.log.Log.{Log}
-use Rattle.totem_evs.specs.Classes.{IsAtMost, InClass}
-use Rattle.totem_evs.specs.ClosedLists.{Step, ComesBack, unless, forward, IsTurned, BeginsLeast}
+use Rattle.totem_cert.proofs.Common.{◌≡◌, ℕ, zero, suc, ◌+◌, ◌-◌, ◌<◌, ◌≤◌, ◌⊎◌, inl, inr, List, [], ◌∷◌, ◌++◌, length, drop, slice_get, Some, refl, sym, ◌∙◌, ap, subst, arith, append_assoc, length-drop, Contains, common_steps, slice_get_within, slice_get-get_or, append-nil, Contains-append_left, Contains-append_right, Contains-append_cases, Place, Log, IsAtMost, InClass, Step, ComesBack, unless, forward, IsTurned, BeginsLeast}
 use Rattle.totem_cert.proofs.Classmates.{class_self, class_sym, event_of}
 use Rattle.totem_cert.proofs.Walking.{antisym, step_in}
 use Rattle.totem_cert.proofs.Closing.{drop_here}

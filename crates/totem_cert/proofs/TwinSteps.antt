@@ -1,19 +1,6 @@
 -- Different deliveries of one message among the neighbours of a closed list.
-use Rattle.std.proofs.Common.{◌≡◌, ℕ, zero, suc, ◌+◌, ◌<◌, ◌≤◌, ◌⊎◌, inl, inr, List, [], ◌∷◌, length, get_or, slice_get, Option, Some, None, Bool, true, false, IsTrue, ◌↔◌, refl, ◌∙◌, ap, arith}
-use Rattle.std.specs.Prelude.{IfSome, IfNone}
-use Rattle.std.proofs.lemmas.Option.{slice_get_within, slice_get_read}
-use Rattle.totem_names.specs.declared.message.MsgId.{MsgId}
-use Rattle.totem_names.specs.declared.place.Place.{Place}
-use Rattle.totem_evs.specs.declared.entry.Entry.{Entry}
-use Rattle.totem_evs.specs.declared.entry.Entry.TheVariants.{Conf, Send, Deliver, Fail}
-use Rattle.totem_evs.specs.declared.log.Log.{Log}
-use Rattle.totem_evs.specs.Events.{log_of}
-use Rattle.totem_evs.specs.Steps.{DeliversAt}
+use Rattle.totem_cert.proofs.Common.{◌≡◌, ℕ, zero, suc, ◌+◌, ◌<◌, ◌≤◌, ◌⊎◌, inl, inr, List, [], ◌∷◌, length, get_or, slice_get, Option, Some, None, Bool, true, false, IsTrue, ◌↔◌, refl, ◌∙◌, ap, arith, IfSome, IfNone, slice_get_within, slice_get_read, MsgId, Place, Entry, Conf, Send, Deliver, Fail, Log, log_of, DeliversAt, HoldsTo, holds_more, place, AreTwinDeliveries, HasTwinDeliveries, NeverDelivers, StandsNext, BothAre, message_of}
 use Rattle.totem_evs.specs.Places.{Somewhere}
-use Rattle.totem_table.proofs.Checking.{HoldsTo, holds_more}
-use Rattle.totem_cert.specs.Search.{place}
-use Rattle.totem_evs.specs.ClosedLists.{AreTwinDeliveries, HasTwinDeliveries}
-use Rattle.totem_cert.specs.Progress.{NeverDelivers, StandsNext, BothAre, message_of}
 use Rattle.totem_cert.proofs.LineFacts.{same_parts}
 use Rattle.totem_cert.proofs.Classmates.{one_message}
 
@@ -50,10 +37,7 @@ twins_none run (x ∷ xs) i le none h =
     none.each r.0 r.1 (omega arith) r.3 r.2 (elim r.4 [ inl at ↦ inl (rw s at) | inr (l, same) ↦ inr (omega arith, ap Some same) ]) r.5
 
 one_next : (xs : List Place) (i : ℕ) (b f : Place) → StandsNext xs i b → StandsNext xs i f → b ≡ f
-one_next xs i b f (inl p) (inl q) = cc
-one_next xs i b f (inl p) (inr (l, q)) = absurd (let lt = slice_get_within xs (i + 1) b p in omega arith)
-one_next xs i b f (inr (l, p)) (inl q) = absurd (let lt = slice_get_within xs (i + 1) f q in omega arith)
-one_next xs i b f (inr (l, p)) (inr (m, q)) = cc
+one_next xs i b f h k = grind (arith, slice_get_within)
 
 pub twins_more : (run : List Log) (places : List Place) (i : ℕ) (e f : Place) → i < length places → e ≡ get_or places i e → StandsNext places i f → (IsTrue false ↔ AreTwinDeliveries run e f) → NoTwinsBefore run places i → NoTwinsBefore run places (i + 1)
 twins_more run places i e f within read next not_twins before =

@@ -1,6 +1,5 @@
 ghost use Rattle.std.specs.Prelude.{IfOk};
-ghost use Rattle.totem_evs.specs.ClosedLists.{IsLeastLeft, IsBrokenBy};
-ghost use Rattle.totem_evs.specs.ClosedLists.{IsCycle};
+ghost use Rattle.totem_evs.specs.ClosedLists.{IsLeastLeft, IsBrokenBy, IsCycle};
 ghost use Rattle.totem_table.specs.Tables.{IsTable};
 ghost use Rattle.totem_cert.specs.Progress.{IsSound, NoneReady, IsFirstLeft};
 

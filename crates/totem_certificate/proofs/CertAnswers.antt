@@ -1,25 +1,15 @@
 -- What the reader of certificates returns.
-use Rattle.std.proofs.Common.{◌≡◌, ℕ, List, [], ◌++◌, Ok, Err, refl, sym, ◌∙◌, subst}
-use Rattle.std.proofs.lemmas.List.{append-nil}
-use Rattle.std.specs.Io.KnownBytes.{Consumes}
-use Rattle.totem_names.specs.declared.version.Version.{Version}
+use Rattle.totem_certificate.proofs.Common.{◌≡◌, ℕ, List, [], ◌++◌, Ok, Err, refl, sym, ◌∙◌, subst, append-nil, Consumes, Version, Seen, Parsed, Comes, Reads, ◌>>=◌, begins, called, failed, breaks_at, Numbering, CertRecord, cert_text, IsCertificateOf, header_is}
 use Rattle.totem_names.specs.declared.fault.ReadError.{ReadError}
 use Rattle.totem_names.specs.declared.fault.ReadError.TheVariants as errors
 use Rattle.totem_names.specs.declared.fault.TextFault.TheVariants as text
-use Rattle.totem_names.specs.Sources.{Seen, Parsed, Comes, Reads, ◌>>=◌}
 use Rattle.totem_names.specs.Numbers.{word_at}
-use Rattle.totem_names.proofs.Readers.{begins, called, failed, breaks_at}
-use Rattle.totem_evs.specs.Certificates.{Numbering}
-use Rattle.totem_certificate.specs.CertRecord.{CertRecord}
-use Rattle.totem_certificate.specs.CertText.{cert_text}
 use Rattle.totem_certificate.specs.CertGrammar.{cert_words, lines_at, cert_at}
 use Rattle.totem_evs.specs.Heads.{header_at}
 use Rattle.totem_certificate.specs.CertFaults.{cert_fault}
 use Rattle.totem_certificate.specs.Reading.{IsRead, ReadsCert}
-use Rattle.totem_certificate.specs.Keeping.{IsCertificateOf}
 use Rattle.totem_certificate.proofs.LinesFromLeft.{is_certificate}
 use Rattle.totem_certificate.proofs.SpelledCert.{of_text, lines_is, cert_is}
-use Rattle.totem_evs.proofs.SpelledHeads.{header_is}
 use Rattle.totem_certificate.proofs.OwnFaults.{own_fault}
 
 -- what was taken is the text of what was read

@@ -1,27 +1,13 @@
 -- Where the text of a certificate is too short, some text continues it.
-use Rattle.std.specs.Prelude.{decimal, ◌==◌}
-use Rattle.std.proofs.Common.{◌≡◌, ℕ, zero, suc, ◌<◌, inl, inr, List, [], ◌∷◌, ◌++◌, Option, Some, None, Ok, Err, false, cond, refl, sym, ◌∙◌, ap, append_assoc, arith}
-use Rattle.std.proofs.lemmas.Bool.{eqb-true}
-use Rattle.std.proofs.lemmas.Bool.Decides.{nat_tests}
-use Rattle.std.proofs.lemmas.List.{append-nil}
-use Rattle.totem_names.specs.declared.version.Version.{Version}
-use Rattle.totem_names.specs.declared.fault.TextFault.{TextFault}
+use Rattle.totem_certificate.proofs.Common.{decimal, ◌==◌, ◌≡◌, ℕ, zero, suc, ◌<◌, inl, inr, List, [], ◌∷◌, ◌++◌, Option, Some, None, Ok, Err, false, cond, refl, sym, ◌∙◌, ap, append_assoc, arith, eqb-true, nat_tests, append-nil, Version, TextFault, Parsed, Follows, FirstBreak, is_short, ◌>>=◌, number_is, Numbering, head_text, IsHead, head_is, header_is, CertRecord, IsNumber, IsOfText, numbers_text, header_text, cert_text}
 use Rattle.totem_names.specs.declared.fault.TextFault.TheVariants as faults
-use Rattle.totem_names.specs.Sources.{Parsed, Follows, FirstBreak, is_short, ◌>>=◌}
 use Rattle.totem_names.specs.Numbers.{number_at}
-use Rattle.totem_names.proofs.Spelled.{number_is}
-use Rattle.totem_evs.specs.Certificates.{Numbering}
 use Rattle.totem_evs.specs.Heads.{records_at, head_at, by_head, header_at}
 use Rattle.totem_evs.proofs.GoesOn.{Cut, Splits, ok_cut, fault_cut, test_cut, bind_cut, last_cut, number_cut}
-use Rattle.totem_evs.proofs.SpelledHeads.{head_text, IsHead, head_is, header_is}
 use Rattle.totem_evs.proofs.HeadsGoOn.{IsLooseHead, HeadTo, head_cut, HeaderTo, header_cut}
-use Rattle.totem_certificate.specs.CertRecord.{CertRecord}
-use Rattle.totem_certificate.specs.Keeping.{IsNumber, IsOfText}
-use Rattle.totem_certificate.specs.CertText.{numbers_text, header_text, cert_text}
-use Rattle.totem_certificate.specs.CertGrammar.{cert_words, numbers_at, lines_at, cert_at}
+use Rattle.totem_certificate.specs.CertGrammar.{cert_words, numbers_at, lines_at, cert_at, numbering}
 use Rattle.totem_certificate.specs.CertFronts.{IsFront, IsLooseCertificate, IsLooseFront, IsFirstWrong}
 use Rattle.totem_certificate.proofs.LinesFromLeft.{NumbersFrom, LooseLinesFrom, line_loosely, is_loose_certificate}
-use Rattle.totem_certificate.specs.CertGrammar.{numbering}
 use Rattle.totem_certificate.proofs.SpelledNumbers.{numbers_is}
 use Rattle.totem_certificate.proofs.SpelledCert.{of_text, lines_text, lines_parts, made_line, cert_parts, no_cert}
 use Rattle.totem_certificate.proofs.SteadyCert.{cert_steady, cert_first_break}

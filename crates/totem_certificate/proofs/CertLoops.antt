@@ -1,15 +1,9 @@
 -- Readers of lists: what was read before, and what is still read.
-use Rattle.std.specs.Prelude.{◌==◌}
-use Rattle.std.proofs.Common.{◌≡◌, ℕ, suc, List, [], ◌∷◌, ◌++◌, Bool, true, false, cond, Option, Some, None, Ok, Err, refl, ap}
+use Rattle.totem_certificate.proofs.Common.{◌==◌, ◌≡◌, ℕ, suc, List, [], ◌∷◌, ◌++◌, Bool, true, false, cond, Option, Some, None, Ok, Err, refl, ap, Version, Seen, Parsed, Comes, ◌>>=◌, gives, same_left, Numbering, one_more, none_before, with_records, records_step, records_none}
 use Rattle.totem_names.specs.declared.fault.TextFault.TheVariants as faults
-use Rattle.totem_names.specs.declared.version.Version.{Version}
-use Rattle.totem_names.specs.Sources.{Seen, Parsed, Comes, ◌>>=◌}
 use Rattle.totem_names.specs.Numbers.{number_at}
-use Rattle.totem_names.proofs.Readers.{gives, same_left}
-use Rattle.totem_evs.specs.Certificates.{Numbering}
 use Rattle.totem_evs.specs.Heads.{head_at, by_head}
-use Rattle.totem_evs.proofs.RunLoops.{one_more, none_before, with_records, records_step, records_none}
-use Rattle.totem_certificate.specs.CertGrammar.{cert_words, numbers_at, numbering, lines_at}
+use Rattle.totem_certificate.specs.CertGrammar.{cert_words, numbers_at, numbering}
 
 -- ---- numbers
 
@@ -52,9 +46,6 @@ lines_step version front room room' last full e same bytes = records_step cert_w
 
 pub lines_none : (version : Version) (front : List Numbering) (room last : ℕ) → room ≡ 0 → (bytes : List ℕ) → with_lines version front room last bytes ≡ Err faults.TooMany
 lines_none version front room last e bytes = records_none cert_words (λ version p. numbers_at 1000000) numbering version front room last e bytes
-
-pub lines_first : (version : Version) (room last : ℕ) (bytes : List ℕ) → lines_at version room last bytes ≡ with_lines version [] room last bytes
-lines_first version room last bytes = none_before (lines_at version room last bytes)
 
 -- ---- the steps of the reader of lines
 

@@ -1,29 +1,14 @@
 -- A fault of a certificate's text is that of its first line or of one of its lines.
-use Rattle.std.specs.Prelude.{◌==◌, codes, decimal, ◌↔◌}
-use Rattle.std.specs.List.{flat_map, AllByRecursion}
-use Rattle.std.proofs.Common.{◌≡◌, ◌≢◌, ℕ, zero, suc, ◌+◌, ◌-◌, ◌<◌, ◌⊎◌, inl, inr, List, [], ◌∷◌, ◌++◌, length, Bool, false, cond, Option, Some, None, Ok, Err, refl, sym, ap, subst, ◌∙◌, append_assoc, arith}
-use Rattle.std.proofs.lemmas.Bool.Decides.{nat_tests}
-use Rattle.std.proofs.lemmas.List.Elements.{All-from_recursion, recursion_from_All}
-use Rattle.totem_names.specs.declared.version.Version.{Version}
-use Rattle.totem_names.specs.declared.fault.TextFault.{TextFault}
+use Rattle.totem_certificate.proofs.Common.{◌==◌, codes, decimal, ◌↔◌, ◌≡◌, ◌≢◌, ℕ, zero, suc, ◌+◌, ◌-◌, ◌<◌, ◌⊎◌, inl, inr, List, [], ◌∷◌, ◌++◌, length, Bool, false, cond, Option, Some, None, Ok, Err, refl, sym, ap, subst, ◌∙◌, append_assoc, arith, flat_map, AllByRecursion, nat_tests, All-from_recursion, recursion_from_All, Version, TextFault, Parsed, ◌>>=◌, process_text, number_is, number_again, Numbering, full_is, head_text, IsHead, begin_parts, head_is, head_again, header_is, header_again, IsNumber, numbers_text, line_text, header_text}
 use Rattle.totem_names.specs.declared.fault.TextFault.TheVariants as faults
-use Rattle.totem_names.specs.Sources.{Parsed, ◌>>=◌}
 use Rattle.totem_names.specs.Numbers.{number_at}
-use Rattle.totem_names.specs.Processes.{process_text}
-use Rattle.totem_names.proofs.Spelled.{number_is, number_again}
-use Rattle.totem_evs.specs.Certificates.{Numbering}
 use Rattle.totem_evs.specs.Heads.{records_at, head_at, by_head, header_at}
-use Rattle.totem_evs.proofs.RunLoops.{full_is}
 use Rattle.totem_evs.proofs.OnlyFaults.{ok_only, fault_only, number_only, head_only, header_only}
 use Rattle.totem_evs.proofs.PartFaults.{bind_case, byte_pick}
 use Rattle.totem_evs.proofs.MembersFaults.{NotMany, names_not_many}
 use Rattle.totem_evs.proofs.HeadPlaces.{NotHeader, names_not_header, header_exactly as first_exactly, NotOrder, names_not_order, order_exactly, many_exactly as begun_many}
-use Rattle.totem_evs.proofs.SpelledHeads.{head_text, IsHead, begin_parts, head_is, head_again, header_is, header_again}
-use Rattle.totem_certificate.specs.Keeping.{IsNumber}
-use Rattle.totem_certificate.specs.CertText.{numbers_text, line_text, header_text}
-use Rattle.totem_certificate.specs.CertGrammar.{cert_words, numbers_at, lines_at, cert_at}
+use Rattle.totem_certificate.specs.CertGrammar.{cert_words, numbers_at, lines_at, cert_at, numbering}
 use Rattle.totem_certificate.specs.CertPlaces.{last_proc, IsBehindLines, BreaksHeader, HasFault, HasOrder, HasTooMany}
-use Rattle.totem_certificate.specs.CertGrammar.{numbering}
 use Rattle.totem_certificate.proofs.LinesFromLeft.{numbers_from, LinesRise, is_certificate, certificate_from}
 use Rattle.totem_certificate.proofs.SpelledNumbers.{numbers_is, numbers_tail}
 use Rattle.totem_certificate.proofs.SpelledCert.{cert_clear, of_text, has_version, line_parts, made_line}

@@ -1,11 +1,6 @@
 -- Numbers and ascending lines that grow at their end.
-use Rattle.std.specs.Prelude.{All, AllPairs}
-use Rattle.std.proofs.Common.{ℕ, ◌<◌, ◌≤◌, List, [], ◌∷◌, ◌++◌, length, arith}
+use Rattle.totem_certificate.proofs.Common.{All, AllPairs, ℕ, ◌<◌, ◌≤◌, List, [], ◌∷◌, ◌++◌, length, arith, All-push, Version, Numbering, IsNumber, IsNumbers, IsLineIn, IsBelowLine}
 use Rattle.std.proofs.lemmas.List.Quantifiers.{all_pairs_push}
-use Rattle.std.proofs.lemmas.List.Elements.{All-push}
-use Rattle.totem_names.specs.declared.version.Version.{Version}
-use Rattle.totem_evs.specs.Certificates.{Numbering}
-use Rattle.totem_certificate.specs.Keeping.{IsNumber, IsNumbers, IsLineIn, IsBelowLine, IsCertificateIn}
 
 -- each is the number of an entry
 pub record Numbered (numbers : List ℕ) : Type 0 where
@@ -27,20 +22,9 @@ pub record RisingLines (version : Version) (lines : List Numbering) (last : ℕ)
   pub rising : AllPairs IsBelowLine lines
   pub each : All (IsLineIn version) lines
 
-pub rising_none : (version : Version) (last : ℕ) → RisingLines version [] last
-rising_none version last = record {
-  below = λ k d within. absurd (omega arith);
-  rising = λ i j d lt within. absurd (omega arith);
-  each = λ k d within. absurd (omega arith);
-}
-
 pub rising_more : (version : Version) (lines : List Numbering) (last : ℕ) (l : Numbering) → RisingLines version lines last → last < l.proc → IsLineIn version l → RisingLines version (lines ++ l ∷ []) l.proc
 rising_more version lines last l h lt is = record {
   below = All-push (λ b. b.proc ≤ l.proc) lines l (λ k d within. omega (arith, h.below k d within)) (omega arith);
   rising = all_pairs_push IsBelowLine lines l h.rising (λ k d within. omega (arith, h.below k d within));
   each = All-push (IsLineIn version) lines l h.each is;
 }
-
--- the lines are those of a certificate
-pub rising_certificate : (version : Version) (lines : List Numbering) (last : ℕ) → RisingLines version lines last → length lines ≤ 32 → IsCertificateIn version lines
-rising_certificate version lines last h few = record { few = few; rising = h.rising; each = h.each }

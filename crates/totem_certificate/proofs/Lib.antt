@@ -1,3 +1,4 @@
+pub mod Common
 pub mod WrittenLives
 pub mod LinesFromLeft
 pub mod CertLoops

@@ -1,12 +1,7 @@
 -- Ascending lines and their numbers, from left to right.
-use Rattle.std.specs.List.{AllByRecursion}
-use Rattle.std.proofs.Common.{ℕ, ◌<◌, ◌≤◌, List, ◌∷◌, length, arith}
-use Rattle.std.proofs.lemmas.List.Elements.{All-from_recursion, recursion_from_All}
-use Rattle.totem_names.specs.declared.version.Version.{Version}
-use Rattle.totem_evs.specs.Certificates.{Numbering}
+use Rattle.totem_certificate.proofs.Common.{ℕ, ◌<◌, ◌≤◌, List, ◌∷◌, length, arith, AllByRecursion, All-from_recursion, recursion_from_All, Version, Numbering, IsNumber, IsNumbers, IsLineIn, IsCertificateIn}
 use Rattle.totem_evs.proofs.FromLeft.{rank_above}
 use Rattle.totem_evs.proofs.RisingRecords.{RecordsRise, RecordsFrom, rise_each, rise_pairs, rise_from_none, RiseLoosely, LooselyFrom, rise_loosely, loosely_pairs, loosely_each}
-use Rattle.totem_certificate.specs.Keeping.{IsNumber, IsNumbers, IsLineIn, IsCertificateIn}
 use Rattle.totem_certificate.specs.CertFronts.{IsLooseCertificate}
 
 -- ---- numbers
@@ -43,10 +38,7 @@ is_certificate version lines h = record {
 }
 
 pub certificate_from : (version : Version) (lines : List Numbering) → IsCertificateIn version lines → LinesFrom version 33 0 lines
-certificate_from version lines is = record {
-  few = omega (arith, is.few);
-  rises = rise_from_none proc_of (IsLineIn version) lines (λ line h. rank_above line.proc h.process.id_fits.positive) (recursion_from_All (IsLineIn version) lines is.each) is.rising;
-}
+certificate_from version lines is = grind (arith, rise_from_none, rank_above, recursion_from_All)
 
 -- ---- lines that are ascending except for the last
 

@@ -1,6 +1,5 @@
 -- Which faults a certificate's grammar gives.
-use Rattle.std.proofs.Common.{◌≡◌, ℕ, zero, suc, List, Err}
-use Rattle.totem_names.specs.declared.fault.TextFault.{TextFault}
+use Rattle.totem_certificate.proofs.Common.{◌≡◌, ℕ, zero, suc, List, Err, TextFault}
 use Rattle.totem_names.specs.declared.fault.TextFault.TheVariants as faults
 use Rattle.totem_evs.proofs.OnlyFaults.{Only, OfNames, ok_only, fault_only, cond_only, bind_only, number_only, records_only, header_only}
 use Rattle.totem_certificate.specs.CertFaults.{IsOwnFault}

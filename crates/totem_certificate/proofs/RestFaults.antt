@@ -1,10 +1,6 @@
 -- Number is the fault of a number that the grammar of certificates reads, and Word is the rest.
-use Rattle.std.specs.Prelude.{◌↔◌}
-use Rattle.std.proofs.Common.{◌≡◌, ℕ, zero, suc, inr, List, false, Err, refl, ap, ◌∙◌}
-use Rattle.totem_names.specs.declared.fault.TextFault.{TextFault}
+use Rattle.totem_certificate.proofs.Common.{◌↔◌, ◌≡◌, ℕ, zero, suc, inr, List, false, Err, refl, ap, ◌∙◌, TextFault, is_short, BreaksNumber}
 use Rattle.totem_names.specs.declared.fault.TextFault.TheVariants as faults
-use Rattle.totem_names.specs.Sources.{is_short}
-use Rattle.totem_evs.specs.TextFaults.{BreaksNumber}
 use Rattle.totem_evs.proofs.NumberFaults.{Numbered, gives_numbered, cond_numbered, bind_numbered, number_numbered, word', too_many, records_numbered, header_numbered, number_exactly}
 use Rattle.totem_evs.proofs.WordFaults.{one_fault}
 use Rattle.totem_certificate.specs.CertGrammar.{cert_words, numbers_at, numbering, cert_at}

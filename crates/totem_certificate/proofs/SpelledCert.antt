@@ -1,24 +1,8 @@
 -- What is read is spelled so, and what is spelled so is read: a certificate.
-use Rattle.std.specs.Prelude.{◌==◌, codes}
-use Rattle.std.specs.List.{flat_map}
-use Rattle.std.proofs.Common.{◌≡◌, ℕ, zero, suc, ◌<◌, List, [], ◌∷◌, ◌++◌, Option, Some, None, Ok, Err, false, refl, sym, ◌∙◌, ap, subst, append_assoc, arith}
-use Rattle.std.proofs.lemmas.Bool.Decides.{nat_tests}
-use Rattle.totem_names.specs.declared.version.Version.{Version}
-use Rattle.totem_names.specs.declared.version.Version.TheVariants.{One, Two, Three}
-use Rattle.totem_names.specs.declared.fault.TextFault.{TextFault}
-use Rattle.totem_names.specs.Sources.{Parsed, ◌>>=◌}
-use Rattle.totem_names.specs.Processes.{process_text, IsProcessIn}
-use Rattle.totem_names.proofs.Spelled.{after, parsed_is}
-use Rattle.totem_evs.specs.Certificates.{Numbering}
-use Rattle.totem_evs.specs.RunText.{line}
+use Rattle.totem_certificate.proofs.Common.{◌==◌, codes, ◌≡◌, ℕ, zero, suc, ◌<◌, List, [], ◌∷◌, ◌++◌, Option, Some, None, Ok, Err, false, refl, sym, ◌∙◌, ap, subst, append_assoc, arith, flat_map, nat_tests, Version, TextFault, Parsed, ◌>>=◌, process_text, IsProcessIn, after, parsed_is, Numbering, line, IsClear, head_text, IsHead, begin_parts, head_is, head_again, header_is, header_again, CertRecord, IsLineIn, IsCertificateOf, IsOfText, numbers_text, line_text, header_text, cert_text}
 use Rattle.totem_evs.specs.Heads.{records_at, HasVersion, head_at, by_head, header_at}
-use Rattle.totem_evs.proofs.SpelledHeads.{IsClear, head_text, IsHead, begin_parts, head_is, head_again, header_is, header_again}
-use Rattle.totem_certificate.specs.CertRecord.{CertRecord}
-use Rattle.totem_certificate.specs.Keeping.{IsLineIn, IsCertificateOf, IsOfText}
-use Rattle.totem_certificate.specs.CertText.{numbers_text, line_text, header_text, cert_text}
-use Rattle.totem_certificate.specs.CertGrammar.{cert_words, numbers_at, lines_at, cert_at}
+use Rattle.totem_certificate.specs.CertGrammar.{cert_words, numbers_at, lines_at, cert_at, numbering}
 use Rattle.totem_certificate.proofs.LinesFromLeft.{NumbersFrom, are_numbers, numbers_from, LinesFrom, is_certificate, certificate_from}
-use Rattle.totem_certificate.specs.CertGrammar.{numbering}
 use Rattle.totem_certificate.proofs.SpelledNumbers.{numbers_is, numbers_tail}
 
 -- ---- the words of a certificate's text
@@ -27,14 +11,10 @@ pub cert_clear : IsClear cert_words
 cert_clear = record { letter = refl; behind = refl }
 
 pub of_text : (version : Version) → HasVersion cert_words version → IsOfText version
-of_text One has = tt
-of_text Two has = tt
-of_text Three has = absurd cc
+of_text version h = grind arith
 
 pub has_version : (version : Version) → IsOfText version → HasVersion cert_words version
-has_version One is = tt
-has_version Two is = tt
-has_version Three is = absurd is
+has_version version h = grind arith
 
 -- ---- lines
 
@@ -99,9 +79,7 @@ lines_again version (suc room) last (l ∷ lines) rest is =
 -- ---- certificates
 
 pub cert_parts : (cert : CertRecord) (rest : List ℕ) → cert_text cert ++ rest ≡ header_text cert.version ++ lines_text cert.version cert.lines rest
-cert_parts cert rest =
-    append_assoc (header_text cert.version ++ flat_map (line_text (process_text cert.version)) cert.lines) (line (codes "end")) rest
-    ∙ append_assoc (header_text cert.version) (flat_map (line_text (process_text cert.version)) cert.lines) (line (codes "end") ++ rest)
+cert_parts cert rest = grind (arith, append_assoc)
 
 -- what is read is spelled so
 pub cert_is : (cert : CertRecord) (bytes rest : List ℕ) → cert_at bytes ≡ Ok (cert, rest) → IsCertificateOf cert × (bytes ≡ cert_text cert ++ rest)

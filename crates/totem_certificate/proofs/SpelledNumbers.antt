@@ -1,13 +1,7 @@
 -- What is read is spelled so, and what is spelled so is read: the numbers of a line.
-use Rattle.std.specs.Prelude.{decimal, ◌==◌}
-use Rattle.std.proofs.Common.{◌≡◌, ℕ, zero, suc, inl, inr, List, [], ◌∷◌, ◌++◌, Ok, Err, cond, refl, sym, ◌∙◌, ap, append_assoc, arith}
-use Rattle.std.proofs.lemmas.Bool.{eqb-true}
-use Rattle.std.proofs.lemmas.List.{append-nil}
+use Rattle.totem_certificate.proofs.Common.{decimal, ◌==◌, ◌≡◌, ℕ, zero, suc, inl, inr, List, [], ◌∷◌, ◌++◌, Ok, Err, cond, refl, sym, ◌∙◌, ap, append_assoc, arith, eqb-true, append-nil, ◌>>=◌, after, taken, guard_then, parsed_is, number_is, number_again, numbers_text}
 use Rattle.totem_names.specs.declared.fault.TextFault.TheVariants as faults
-use Rattle.totem_names.specs.Sources.{◌>>=◌}
 use Rattle.totem_names.specs.Numbers.{number_at}
-use Rattle.totem_names.proofs.Spelled.{after, taken, guard_then, parsed_is, number_is, number_again}
-use Rattle.totem_certificate.specs.CertText.{numbers_text}
 use Rattle.totem_certificate.specs.CertGrammar.{numbers_at}
 use Rattle.totem_certificate.proofs.LinesFromLeft.{NumbersFrom}
 

@@ -1,8 +1,6 @@
 -- The result of a certificate's grammar doesn't change with what follows.
-use Rattle.std.proofs.Common.{◌≡◌, ℕ, zero, suc, List, [], false, Err, refl}
-use Rattle.totem_names.specs.declared.fault.TextFault.{TextFault}
+use Rattle.totem_certificate.proofs.Common.{◌≡◌, ℕ, zero, suc, List, [], false, Err, refl, TextFault, Steady, FirstBreak, is_short}
 use Rattle.totem_names.specs.declared.fault.TextFault.TheVariants as faults
-use Rattle.totem_names.specs.Sources.{Steady, FirstBreak, is_short}
 use Rattle.totem_names.specs.Numbers.{word_at}
 use Rattle.totem_names.proofs.Steady.{gives_steady, fault_steady, bind_steady, cond_steady, number_steady, first_break}
 use Rattle.totem_evs.specs.Heads.{header_at}

@@ -1,18 +1,8 @@
 -- A run has a list of its regular configurations.
-use Rattle.std.specs.Prelude.{◌↔◌}
-use Rattle.std.proofs.Common.{◌≡◌, ◌⊎◌, ◌<◌, ℕ, zero, suc, inl, inr, List, [], ◌∷◌, length, get_or, slice_get, Some, refl, sym, subst, ◌∙◌, arith}
-use Rattle.std.specs.Prelude.{AllPairs, Contains}
-use Rattle.std.proofs.lemmas.Option.{get_or_from_slice_get, slice_get-get_or}
+use Rattle.totem_pass_d.proofs.Common.{◌≡◌, ◌⊎◌, ◌<◌, ℕ, zero, suc, inl, inr, List, [], ◌∷◌, length, get_or, slice_get, Some, refl, sym, subst, ◌∙◌, arith, get_or_from_slice_get, slice_get-get_or, RingId, Regular, Transitional, Entry, Conf, Send, Deliver, Fail, Log, ChangesTo, IsRing, AreRings, log_of_cases, log_of_at}
+use Rattle.std.specs.Prelude.{◌↔◌, AllPairs, Contains}
 use Rattle.totem_names.specs.Orders.{RingBelow}
-use Rattle.totem_names.specs.declared.ring.RingId.{RingId}
-use Rattle.totem_names.specs.declared.conf.ConfId.TheVariants.{Regular, Transitional}
-use Rattle.totem_evs.specs.declared.entry.Entry.{Entry}
-use Rattle.totem_evs.specs.declared.entry.Entry.TheVariants.{Conf, Send, Deliver, Fail}
-use Rattle.totem_evs.specs.declared.log.Log.{Log}
-use Rattle.totem_evs.specs.Events.{ChangesTo}
-use Rattle.totem_evs.specs.Answers.{IsRing, AreRings}
 use Rattle.totem_evs.specs.Runs.{IsRun}
-use Rattle.totem_evs.proofs.LogOf.{log_of_cases, log_of_at}
 use Rattle.totem_names.proofs.Orderings.{ring_strict}
 
 first_or_rest : (a : RingId) (xs : List RingId) (c : RingId) → Contains (a ∷ xs) c → (a ≡ c) ⊎ Contains xs c

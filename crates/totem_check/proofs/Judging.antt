@@ -1,18 +1,12 @@
 -- From what the passes list, and what is observed, to the judgement on a run whose events have an order.
-use Rattle.std.specs.Prelude.{Contains}
-use Rattle.std.proofs.Common.{◌≡◌, ◌≢◌, inl, inr, List, [], ◌∷◌, Ok, refl}
-use Rattle.totem_names.specs.declared.ring.RingId.{RingId}
-use Rattle.totem_evs.specs.declared.log.Log.{Log}
+use Rattle.totem_judge.proofs.Common.{Contains, RingId, Log, IsRun, Numbering, Certified, Agree}
+use Rattle.totem_evs.proofs.Common.{◌≡◌, ◌≢◌, inl, inr, List, [], ◌∷◌, Ok, refl, MeetsIn}
 use Rattle.totem_evs.specs.declared.fault.Fault.{Fault}
 use Rattle.totem_evs.specs.declared.spec.SpecNo.{SpecNo}
-use Rattle.totem_evs.specs.Runs.{IsRun}
-use Rattle.totem_evs.specs.RingFaults.{MeetsIn}
 use Rattle.totem_evs.specs.Answers.{No, IsAnswered, HasCertificate, Lists, ListsRings, ListsConfigurations, MeetsPasses, pass_a, pass_b}
-use Rattle.totem_evs.specs.Certificates.{Numbering, Certified}
 use Rattle.totem_evs.proofs.Synchronous.{MeetsConfigurations, MeetsEach, meets_passes, meets_configurations, synchronous}
 use Rattle.totem_pass_ab.specs.Listed.{ListsFirst}
 use Rattle.totem_judge.specs.declared.judging.View.{View}
-use Rattle.totem_judge.specs.Judged.{Agree}
 use Rattle.totem_judge.proofs.Settled.{configurations}
 use Rattle.totem_outcome.specs.declared.accepted.Accepted.{Accepted}
 use Rattle.totem_outcome.specs.Checks.{ListsOpen, Checks}

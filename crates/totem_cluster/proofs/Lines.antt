@@ -1,6 +1,5 @@
 -- Lines for the stream of errors.
-use Rattle.std.proofs.Common.{◌≡◌, codes, refl}
-use Rattle.totem_evs.specs.RunText.{line}
+use Rattle.totem_certificate.proofs.Common.{◌≡◌, codes, refl, line}
 use Rattle.totem_script.specs.declared.script_fault.ScriptFault.{ScriptFault}
 use Rattle.totem_script.specs.declared.script_fault.ScriptFault.TheVariants as script_faults
 use Rattle.totem_script.specs.ScriptFaults.{fault_number as script_fault_number, fault_name as script_fault_name}

@@ -1,14 +1,10 @@
 -- Reading a script: byte after byte, and no further than is looked at.
-use Rattle.std.proofs.Common.{◌≡◌, ◌≢◌, ◌⊎◌, ℕ, zero, suc, ◌==◌, ◌≤◌, List, [], ◌∷◌, ◌++◌, length, take, cond, Bool, true, false, Option, None, Some, Ok, Err, IfSome, inl, inr, refl, sym, ap, ◌∙◌, arith}
-use Rattle.std.specs.Io.KnownBytes.{Consumes, Keeps, IsAtEnd}
-use Rattle.std.proofs.lemmas.List.{take_all, append-nil}
+use Rattle.totem_names.proofs.Common.{◌≡◌, ◌≢◌, ◌⊎◌, ℕ, zero, suc, ◌==◌, ◌≤◌, List, [], ◌∷◌, ◌++◌, length, take, cond, Bool, true, false, Option, None, Some, Ok, Err, IfSome, inl, inr, refl, sym, ap, ◌∙◌, arith, Consumes, Keeps, IsAtEnd, take_all, append-nil, Seen}
+use Rattle.totem_script.proofs.Common.{logs_in, run_of}
 use Rattle.std.proofs.Math.Seq.{take-append_seam}
-use Rattle.totem_names.specs.Sources.{Seen}
 use Rattle.totem_names.specs.Writing.{Held}
 use Rattle.totem_evs.specs.declared.run.Run.{Run}
 use Rattle.totem_script.specs.Lines.{longer_line, lines_of}
-use Rattle.totem_script.specs.Casts.{logs_in}
-use Rattle.totem_script.specs.Versions.{run_of}
 use Rattle.totem_script.specs.declared.script_fault.FaultyLine.{FaultyLine}
 use Rattle.totem_script.specs.declared.script_fault.ScriptFault.{ScriptFault}
 use Rattle.totem_script.specs.declared.script_fault.ScriptFault.TheVariants as script_faults

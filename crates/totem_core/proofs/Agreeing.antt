@@ -1,19 +1,7 @@
 -- At consensus the commit token decides the step.
-use Rattle.std.proofs.Common.{◌≡◌, ℕ, Bool, true, false, List, [], ◌∷◌, max, Option, None, Some, Result, Ok, Err, refl, sym, ap, ◌∙◌, subst, ⊎_elim}
-use Rattle.std.specs.Prelude.{if◌then◌else◌}
-use Rattle.std.specs.List.{list_all}
-use Rattle.std.proofs.lemmas.Bool.{cases_Bool}
-use Rattle.totem_packets.specs.declared.commit.CommitToken.{CommitToken}
-use Rattle.totem_packets.specs.declared.join.Join.{Join}
-use Rattle.totem_packets.specs.Sets.{is_least}
-use Rattle.totem_ring.specs.Visits.{Sending}
+use Rattle.totem_core.proofs.Common.{◌≡◌, ℕ, Bool, true, false, List, [], ◌∷◌, max, Option, None, Some, Result, Ok, Err, refl, sym, ap, ◌∙◌, subst, ⊎_elim, if◌then◌else◌, list_all, cases_Bool, CommitToken, Join, is_least, Sending, Gather, gathered, agrees, consensus, is_stranger, after_join, first_commit, Node, Gathering, Stepped, sending, report, ◌>>=◌, Outcome, by_member, Fails, join_broadcast, committing, makes_commit, look_at_consensus, gathering_anew}
 use Rattle.totem_member.specs.declared.fault.MemberFault.{MemberFault}
-use Rattle.totem_member.specs.Gathers.{Gather, gathered, agrees, consensus, is_stranger, after_join}
-use Rattle.totem_member.specs.Commits.{first_commit}
 use Rattle.totem_core.specs.declared.fault.NodeFault.{NodeFault}
-use Rattle.totem_core.specs.Nodes.{Node, Gathering, Stepped, sending, report}
-use Rattle.totem_core.specs.Outcomes.{Outcome, ◌>>=◌, by_member, Fails}
-use Rattle.totem_core.specs.Gathering.{join_broadcast, committing, makes_commit, look_at_consensus, gathering_anew}
 use Rattle.totem_core.specs.Transitions.{view_at, token_at}
 
 -- the node after it looked at consensus, with the commit token that it made

@@ -1,17 +1,9 @@
 -- A member that enters a new ring may begin its recovery.
-use Rattle.std.proofs.Common.{◌≡◌, ℕ, ◌==◌, ◌&&◌, ◌||◌, ◌≤◌, not, List, [], ◌∷◌, length, map, filter, Bool, true, false, cond, Option, None, Some, refl, sym, ap, ◌∙◌, subst}
-use Rattle.std.specs.Prelude.{if◌then◌else◌}
-use Rattle.std.proofs.lemmas.Bool.{and_parts, true≢false}
-use Rattle.totem_packets.specs.declared.commit.CommitToken.{CommitToken}
+use Rattle.totem_core.proofs.Common.{◌≡◌, ℕ, ◌==◌, ◌&&◌, ◌||◌, ◌≤◌, not, List, [], ◌∷◌, length, map, filter, Bool, true, false, cond, Option, None, Some, refl, sym, ap, ◌∙◌, subst, if◌then◌else◌, and_parts, true≢false, CommitToken, Report, has, is_least, same_processes, Ring, CommitView, report_of, is_report, is_first, may_enter, IsReady}
+use Rattle.std.proofs.Math.Bool.{or-true}
 use Rattle.totem_packets.specs.declared.commit_member.CommitMember.{CommitMember}
-use Rattle.totem_packets.specs.declared.commit_member.Report.{Report}
 use Rattle.totem_packets.specs.OldRings.{same_ring, reports_ring, transitional_set, obligation_union}
-use Rattle.totem_packets.specs.Sets.{has, is_least, same_processes}
-use Rattle.totem_ring.specs.Rings.{Ring}
-use Rattle.totem_member.specs.declared.views.CommitView.{CommitView}
 use Rattle.totem_packets.specs.declared.commit.Round.TheVariants.{Second}
-use Rattle.totem_member.specs.Commits.{report_of, is_report, is_first, may_enter}
-use Rattle.totem_recover.specs.Exchange.{IsReady}
 
 -- who reported this reports its ring
 reports_its_ring : (reported : Option Report) (r : Report) → is_report reported r ≡ true → reports_ring r.ring reported ≡ true
@@ -20,10 +12,6 @@ reports_its_ring (Some own) r e =
     let ring = (own.life == r.life) && same_ring own.ring r.ring in
     (and_parts (own.life == r.life) (same_ring own.ring r.ring) (and_parts ring (own.aru == r.aru) (and_parts (ring && (own.aru == r.aru)) (own.delivered == r.delivered) (and_parts _ (same_processes own.obligation r.obligation) e).0).0).0).1
 
-or_true : (a : Bool) → (a || true) ≡ true
-or_true true = refl
-or_true false = refl
-
 -- with one more member: whether it is this process, and whether it comes from this ring
 one_member : (m : CommitMember) (ms : List CommitMember) (p : ℕ) (r : Report) (same from : Bool) → (m.proc == p) ≡ same → reports_ring r.ring m.report ≡ from
     → (is_report (report_of ms p) r ≡ true → has (transitional_set r.ring ms) p ≡ true)
@@ -31,7 +19,7 @@ one_member : (m : CommitMember) (ms : List CommitMember) (p : ℕ) (r : Report) 
     → has (map (λ n. n.proc) (cond from (m ∷ filter (λ n. reports_ring r.ring n.report) ms) (filter (λ n. reports_ring r.ring n.report) ms))) p ≡ true
 one_member m ms p r true true is reports others e = ap (λ b. b || has (transitional_set r.ring ms) p) is
 one_member m ms p r true false is reports others e = absurd (true≢false (sym (reports_its_ring m.report r e) ∙ reports))
-one_member m ms p r false true is reports others e = ap (λ b. (m.proc == p) || b) (others e) ∙ or_true (m.proc == p)
+one_member m ms p r false true is reports others e = ap (λ b. (m.proc == p) || b) (others e) ∙ or-true (m.proc == p)
 one_member m ms p r false false is reports others e = others e
 
 -- a member that reported this comes from its ring

@@ -1,50 +1,20 @@
 -- A node of a first life to which nothing of later lives comes stays so, and gives nothing of them.
-use Rattle.std.proofs.Common.{◌≡◌, ℕ, ◌+◌, ◌^◌, ◌==◌, ◌&&◌, not, Bool, true, false, List, [], ◌∷◌, ◌++◌, length, map, filter, Option, None, Some, Result, Ok, Err, refl, ⊎_elim, nat_le, nat_lt, max, arith}
-use Rattle.std.specs.Prelude.{if◌then◌else◌, IfOk, IfSome, All, unwrap_or}
-use Rattle.std.specs.List.{filter_map, cons_option}
-use Rattle.std.proofs.lemmas.Bool.{cases_Bool}
-use Rattle.std.proofs.lemmas.List.Elements.{All-nil, All-cons, All-append, All-map, All-filter, All-weaker}
-use Rattle.totem_names.specs.Ranks.{life_of}
-use Rattle.totem_names.specs.declared.conf.ConfId.{ConfId}
-use Rattle.totem_names.specs.declared.conf.ConfId.TheVariants.{Regular}
-use Rattle.totem_packets.specs.declared.message.Body.{Body}
+use Rattle.totem_core.proofs.Common.{RingName, send_of, ◌≡◌, ℕ, ◌+◌, ◌^◌, ◌==◌, ◌&&◌, not, Bool, true, false, List, [], ◌∷◌, ◌++◌, length, map, filter, Option, None, Some, Result, Ok, Err, refl, ⊎_elim, nat_le, nat_lt, max, arith, if◌then◌else◌, IfOk, IfSome, All, unwrap_or, filter_map, cons_option, cases_Bool, All-nil, All-cons, All-append, All-map, All-filter, All-weaker, life_of, ConfId, Regular, Body, Message, Token, Join, CommitToken, Report, reported_life, member_rank, member_ranks, has, is_least, same_processes, Entry, AreFirst, Ring, first_token, message_refusal, token_refusal, Done, given, unless_refused, resent, after_message, after_token, Sending, broadcasts, numbered, visit, CommitView, Gather, gathered, consensus, on_join, on_timeout, filled_by, unfilled, on_commit, may_fill, may_enter, may_start, Leaving, held_above, new_recovery, next_bodies, on_ring, is_done, last_mark, delivery, deliveries, regular_part, rest_from, between_rings, finish, Node, State, Operational, Gathering, Committing, InRecovery, Recovering, Stepped, Told, sending, on_its_ring, is_sealed, report, commit_view, ◌>>=◌, Outcome, by_ring, by_member, look_at_consensus, commit_begun, gather_begun, taking, to_gather, join_broadcast, send, sends, message_told, visit_told, visit_new, after_visit, finishing_entries, visit_entries}
 use Rattle.totem_packets.specs.declared.message.Body.TheVariants.{App, Old, Mark}
-use Rattle.totem_packets.specs.declared.message.Message.{Message}
-use Rattle.totem_packets.specs.declared.token.Token.{Token}
-use Rattle.totem_packets.specs.declared.join.Join.{Join}
-use Rattle.totem_packets.specs.declared.commit.CommitToken.{CommitToken}
 use Rattle.totem_packets.specs.declared.commit_member.CommitMember.{CommitMember}
-use Rattle.totem_packets.specs.declared.commit_member.Report.{Report}
 use Rattle.totem_packets.specs.declared.packet.Packet.{Packet}
 use Rattle.totem_packets.specs.declared.packet.Packet.TheVariants as packet
-use Rattle.totem_packets.specs.Lives.{reported_life, member_rank, member_ranks}
 use Rattle.totem_packets.specs.OldRings.{processes_of, same_ring, reports_ring, obligation_union}
-use Rattle.totem_packets.specs.Sets.{has, is_least, same_processes}
-use Rattle.totem_evs.specs.declared.entry.Entry.{Entry}
 use Rattle.totem_evs.specs.declared.entry.Entry.TheVariants.{Conf}
-use Rattle.totem_evs.specs.Lives.{AreFirst}
 use Rattle.totem_ring.specs.declared.fault.RingFault.{RingFault}
-use Rattle.totem_ring.specs.Rings.{Ring, first_token}
-use Rattle.totem_ring.specs.Refusals.{message_refusal, token_refusal}
-use Rattle.totem_ring.specs.Steps.{Done, given, unless_refused, resent, after_message, after_token}
-use Rattle.totem_ring.specs.Visits.{Sending, broadcasts, numbered, visit}
 use Rattle.totem_member.specs.declared.views.Act.{Act}
 use Rattle.totem_member.specs.declared.views.Act.TheVariants.{Filled, Entered, Started}
 use Rattle.totem_member.specs.declared.views.CommitOut.{CommitOut}
-use Rattle.totem_member.specs.declared.views.CommitView.{CommitView}
 use Rattle.totem_member.specs.declared.views.Phase.{Phase}
 use Rattle.totem_member.specs.declared.views.Phase.TheVariants as phase
 use Rattle.totem_member.specs.declared.fault.MemberFault.{MemberFault}
-use Rattle.totem_member.specs.Gathers.{Gather, gathered, consensus, on_join, on_timeout}
-use Rattle.totem_member.specs.Commits.{filled_by, unfilled, on_commit, may_fill, may_enter, may_start}
-use Rattle.totem_recover.specs.Exchange.{Leaving, held_above, new_recovery, next_bodies, on_ring, is_done, last_mark}
-use Rattle.totem_recover.specs.Finish.{delivery, deliveries, regular_part, rest_from, between_rings, finish}
 use Rattle.totem_core.specs.declared.input.Input.{Input}
 use Rattle.totem_core.specs.declared.input.Input.TheVariants as input
-use Rattle.totem_core.specs.Nodes.{Node, State, Operational, Gathering, Committing, InRecovery, Recovering, Stepped, Told, sending, on_its_ring, is_sealed, report, commit_view}
-use Rattle.totem_core.specs.Outcomes.{Outcome, ◌>>=◌, by_ring, by_member}
-use Rattle.totem_core.specs.Gathering.{look_at_consensus, commit_begun, gather_begun, taking, to_gather, join_broadcast}
-use Rattle.totem_core.specs.Visiting.{send, sends, message_told, visit_told, visit_new, after_visit, finishing_entries, visit_entries}
 use Rattle.totem_core.specs.Table.{on_message, on_token, is_late, says_nothing_new, join_in_commit, on_join_in, starting, acted, commit_taken, on_commit_in, is_quiet, on_timer, on_packet, taken, step}
 use Rattle.totem_core.specs.FirstLives.{AreFirstReports, IsFirstSending, IsFirstInput, IsFirstPacket, IsFirstEntry, IsFirstRecovery, IsFirstState, IsFirstNode, IsFirstStep}
 
@@ -56,13 +26,20 @@ by_test b then_so else_so = ⊎_elim then_so else_so (cases_Bool b)
 abbrev pub Stays : Outcome Stepped → Type 0
 Stays outcome = IfOk outcome IsFirstStep
 
-if_holds : {A E : Type 0} (P : A → Type 0) (b : Bool) (v w : Result A E) → IfOk v P → IfOk w P → IfOk (if b then v else w) P
+pub if_holds : {A E : Type 0} (P : A → Type 0) (b : Bool) (v w : Result A E) → IfOk v P → IfOk w P → IfOk (if b then v else w) P
 if_holds P true v w then_so else_so = then_so
 if_holds P false v w then_so else_so = else_so
 
-then_stays : {A : Type 0} (v : Outcome A) (f : A → Outcome Stepped) → ((x : A) → Stays (f x)) → Stays (v >>= f)
-then_stays (Ok x) f each = each x
-then_stays (Err fault) f each = tt
+pub then_holds : {A B E : Type 0} (P : A → Type 0) (Q : B → Type 0) (v : Result A E) (f : A → Result B E) → IfOk v P → ((x : A) → P x → IfOk (f x) Q) → IfOk (v >>= f) Q
+then_holds P Q (Ok x) f is each = each x is
+then_holds P Q (Err fault) f is each = tt
+
+abbrev pub Anything : {A : Type 0} → A → Type 0
+Anything x = Unit {0}
+
+pub anyway : {A E : Type 0} (v : Result A E) → IfOk v Anything
+anyway (Ok x) = tt
+anyway (Err fault) = tt
 
 member_stays : {A : Type 0} (P : A → Type 0) (v : Result A MemberFault) (f : A → Outcome Stepped) → IfOk v P → ((x : A) → P x → Stays (f x)) → Stays (by_member v >>= f)
 member_stays P (Ok x) f is each = each x is
@@ -124,16 +101,13 @@ delivery_first x m = by_body m.body refl
 delivered_first : (x : ConfId) (ms : List Message) → AreFirstEntries (deliveries x ms)
 delivered_first x ms = each_first (delivery x) (delivery_first x) ms
 
-send_first : (x : ConfId) (m : Message) → IfSome (send x m) IsFirstEntry
-send_first x m = by_body m.body refl
-  where
-    by_body : (b : Body) → m.body ≡ b → IfSome (send x m) IsFirstEntry
-    by_body (App service payload) is = rw is nobody
-    by_body (Old ring number sender service payload) is = rw is tt
-    by_body Mark is = rw is tt
+send_first : (x : ConfId) (ring : RingName) (number : ℕ) (b : Body) → IfSome (send_of x ring number b) IsFirstEntry
+send_first x ring number (App service payload) = nobody
+send_first x ring number (Old old n sender service payload) = tt
+send_first x ring number Mark = tt
 
 sent_first : (x : ConfId) (ms : List Message) → AreFirstEntries (sends x ms)
-sent_first x ms = each_first (send x) (send_first x) ms
+sent_first x ms = each_first (send x) (λ m. send_first x m.ring m.number m.body) ms
 
 both_first : (es fs : List Entry) → AreFirstEntries es → AreFirstEntries fs → AreFirstEntries (es ++ fs)
 both_first es fs first second = record { each = All-append IsFirstEntry es fs first.each second.each }
@@ -233,9 +207,9 @@ looked n g (Some members) packets life all =
 
 gathers : (n : Node) (extra : List ℕ) (cause : Option Join) → n.life ≡ 1 → Stays (to_gather n extra cause)
 gathers n extra cause life =
-    then_stays (gather_begun n extra) _
-    (λ new. then_stays (taking new cause) _
-    (λ g. looked (record n { quiet = 0 }) g (consensus g) (join_broadcast g ∷ []) life (one_sent (join_broadcast g) tt)))
+    then_holds Anything IsFirstStep (gather_begun n extra) _ (anyway (gather_begun n extra))
+    (λ new any. then_holds Anything IsFirstStep (taking new cause) _ (anyway (taking new cause))
+    (λ g also. looked (record n { quiet = 0 }) g (consensus g) (join_broadcast g ∷ []) life (one_sent (join_broadcast g) tt)))
 
 -- ---- on a ring
 
@@ -299,13 +273,6 @@ anew n g j life = if_holds IsFirstStep (says_nothing_new g j) _ _ tt (gathers n 
 again_first : (again : Bool) (g : Gather) → AreFirstSendings (if again then join_broadcast g ∷ [] else [])
 again_first true g = one_sent (join_broadcast g) tt
 again_first false g = none_sent
-
-abbrev pub Anything : {A : Type 0} → A → Type 0
-Anything x = Unit {0}
-
-anyway : {A E : Type 0} (v : Result A E) → IfOk v Anything
-anyway (Ok x) = tt
-anyway (Err fault) = tt
 
 join_stays : (n : Node) (j : Join) (s : State) → n.life ≡ 1 → Stays (on_join_in n j s)
 join_stays n j Operational life = gathers n [] (Some j) life

@@ -1,16 +1,9 @@
 -- Whether those with whom a gathering begins are too many.
-use Rattle.std.proofs.Common.{◌≡◌, ℕ, ◌<◌, ◌≤◌, List, [], length, Option, Result, Ok, Err, refl, arith}
-use Rattle.std.specs.Prelude.{IsErr}
-use Rattle.std.proofs.lemmas.Bool.{lt-ltb, le-ltb, false≢true}
-use Rattle.totem_packets.specs.declared.join.Join.{Join}
+use Rattle.totem_core.proofs.Common.{◌≡◌, ℕ, ◌<◌, ◌≤◌, List, [], length, Option, Result, Ok, Err, refl, arith, IsErr, lt-ltb, le-ltb, false≢true, Join, with_process, union, Node, committed_to, Gather, new_gather, set_of, gather_base, gathering_anew, to_gather}
 use Rattle.totem_packets.specs.declared.too_many.TooMany.{TooMany}
-use Rattle.totem_packets.specs.Sets.{with_process, union}
 use Rattle.totem_packets.proofs.Longer.{Rises, rises_union, longer_union, longer_with}
-use Rattle.totem_core.specs.Nodes.{Node, committed_to}
-use Rattle.totem_member.specs.Gathers.{Gather, new_gather}
 use Rattle.totem_member.specs.Steps.{Begins}
 use Rattle.totem_core.specs.declared.fault.NodeFault.TheVariants.{Stranger}
-use Rattle.totem_core.specs.Gathering.{set_of, gather_base, gathering_anew, to_gather}
 
 -- where a part of them are, all are
 base_rises : (n : Node) (extra : List ℕ) → Rises (gather_base n extra)

@@ -1,24 +1,6 @@
 -- Entries and steps that are written one after the other.
-use Rattle.std.proofs.Common.{◌≡◌, ℕ, suc, refl, ◌+◌, ◌<◌, ◌≤◌, List, [], ◌∷◌, ◌++◌, length, take, get_or, Bool, true, false, nat_le, nat_lt, filter, Option, None, Some, sym, ap, ◌∙◌, append_assoc, arith}
-use Rattle.std.specs.Prelude.{unwrap_or}
-use Rattle.std.specs.List.{cons_option}
-use Rattle.std.proofs.lemmas.Bool.{cond-true, cond-false}
-use Rattle.std.proofs.lemmas.Bool.Decides.{nat_tests}
-use Rattle.std.proofs.lemmas.List.{take_more, length-take-le, append-nil}
-use Rattle.std.proofs.lemmas.List.Elements.{filter_map-append, filter-append}
-use Rattle.totem_names.specs.Names.{RingName}
-use Rattle.totem_names.specs.declared.conf.ConfId.{ConfId}
-use Rattle.totem_names.specs.declared.conf.ConfId.TheVariants.{Regular}
-use Rattle.totem_packets.specs.declared.message.Body.{Body}
-use Rattle.totem_packets.specs.declared.message.Message.{Message}
-use Rattle.totem_evs.specs.declared.entry.Entry.{Entry}
-use Rattle.totem_ring.specs.Rings.{Ring}
-use Rattle.totem_ring.specs.Visits.{numbered}
-use Rattle.totem_ring.specs.Steps.{given}
+use Rattle.totem_core.proofs.Common.{◌≡◌, ℕ, suc, refl, ◌+◌, ◌<◌, ◌≤◌, List, [], ◌∷◌, ◌++◌, length, take, get_or, Bool, true, false, nat_le, nat_lt, filter, Option, None, Some, sym, ap, ◌∙◌, append_assoc, arith, unwrap_or, cons_option, cond-true, cond-false, nat_tests, take_more, length-take-le, append-nil, filter_map-append, filter-append, RingName, ConfId, Regular, Body, Message, Entry, Ring, numbered, given, Leaving, last_mark, delivery, deliveries, finish, send_of, send, sends, finishing_entries}
 use Rattle.totem_ring.proofs.Missing.{numbered_push}
-use Rattle.totem_recover.specs.Exchange.{Leaving, last_mark}
-use Rattle.totem_recover.specs.Finish.{delivery, deliveries, finish}
-use Rattle.totem_core.specs.Visiting.{send_of, send, sends, finishing_entries}
 
 -- one more delivery
 pub one_delivered : (x : ConfId) (before now items : List Entry) (ms : List Message) (i : ℕ) (m : Message)

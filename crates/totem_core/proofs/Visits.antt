@@ -1,23 +1,11 @@
 -- What a ring refuses, and what a visit needs.
-use Rattle.std.proofs.Common.{◌≡◌, ◌≢◌, ℕ, ◌+◌, ◌^◌, ◌<◌, Bool, true, false, not, List, length, Option, None, Some, Err, refl, sym, ap, ◌∙◌, subst, length-append, nat_le}
-use Rattle.std.specs.Prelude.{if◌then◌else◌}
-use Rattle.totem_packets.specs.declared.message.Body.{Body}
-use Rattle.totem_packets.specs.declared.message.Message.{Message}
-use Rattle.totem_packets.specs.declared.token.Token.{Token}
-use Rattle.totem_packets.specs.Sets.{has}
+use Rattle.totem_core.proofs.Common.{◌≡◌, ◌≢◌, ℕ, ◌+◌, ◌^◌, ◌<◌, Bool, true, false, not, List, length, Option, None, Some, Err, refl, sym, ap, ◌∙◌, subst, length-append, nat_le, if◌then◌else◌, Body, Message, Token, has, Ring, same_ring, holds, message_refusal, token_refusal, is_token_in_range, Done, given, unless_refused, on_message, after_message, AnswersUndoably, numbered, IsRefused, message_told}
 use Rattle.totem_ring.specs.declared.fault.RingFault.{RingFault}
 use Rattle.totem_ring.specs.declared.fault.RingFault.TheVariants as ring_fault
-use Rattle.totem_ring.specs.Rings.{Ring, same_ring, holds}
-use Rattle.totem_ring.specs.Refusals.{message_refusal, token_refusal, is_token_in_range}
-use Rattle.totem_ring.specs.Steps.{Done, given, unless_refused, on_message, after_message}
-use Rattle.totem_ring.specs.Undoing.{AnswersUndoably}
-use Rattle.totem_ring.specs.Visits.{numbered}
 use Rattle.totem_ring.proofs.Numbering.{length-numbered}
 use Rattle.totem_ring.proofs.VisitAnswers.{own_fits}
 use Rattle.totem_core.specs.declared.fault.NodeFault.TheVariants.{Memory}
 use Rattle.totem_core.specs.Faults.{of_ring}
-use Rattle.totem_core.specs.Outcomes.{IsRefused}
-use Rattle.totem_core.specs.Visiting.{message_told}
 
 -- where nothing refuses a token, there are numbers for all that waits
 pub room_with : (ring : Ring) (bodies : List Body) (t : Token) → token_refusal (given ring bodies) t ≡ None → t.seq + (length ring.waiting + length bodies) < 2 ^ 32

@@ -13,7 +13,8 @@ use Rattle.totem_member.specs.Gathers.{Gather, new_gather, join, gathered, conse
 use Rattle.totem_member.specs.Commits.{first_commit}
 use Rattle.totem_core.specs.declared.fault.NodeFault.TheVariants.{Stranger}
 use Rattle.totem_core.specs.Nodes.{Node, Gathering, Committing, Stepped, sending, committed_to, commit_view, report}
-use Rattle.totem_core.specs.Outcomes.{Outcome, ◌>>=◌, by_member}
+use Rattle.totem_names.specs.Sources.{◌>>=◌}
+use Rattle.totem_core.specs.Outcomes.{Outcome, by_member}
 
 abbrev pub join_broadcast : Gather → Sending
 join_broadcast g = (ToAll, AJoin (join g))

@@ -10,12 +10,6 @@ use Rattle.totem_core.specs.Faults.{of_ring, of_member}
 abbrev pub Outcome : Type 0 → Type 0
 Outcome A = Result A NodeFault
 
--- one part after the other, up to the first refusal
-infixl 10 ◌>>=◌
-abbrev pub ◌>>=◌ : {A B : Type 0} → Outcome A → (A → Outcome B) → Outcome B
-(Ok x) >>= f = f x
-(Err fault) >>= f = Err fault
-
 -- a ring's refusal as the node's
 abbrev pub by_ring : {A : Type 0} → Result A RingFault → Outcome A
 by_ring (Ok x) = Ok x

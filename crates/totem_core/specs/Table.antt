@@ -23,7 +23,8 @@ use Rattle.totem_core.specs.declared.fault.NodeFault.TheVariants.{Stopped, Other
 use Rattle.totem_core.specs.declared.input.Input.{Input}
 use Rattle.totem_core.specs.declared.input.Input.TheVariants as input
 use Rattle.totem_core.specs.Nodes.{Node, State, Operational, Gathering, Committing, InRecovery, Recovering, Stepped, sending, is_sealed, last_change, commit_view, report}
-use Rattle.totem_core.specs.Outcomes.{Outcome, ◌>>=◌, by_member}
+use Rattle.totem_names.specs.Sources.{◌>>=◌}
+use Rattle.totem_core.specs.Outcomes.{Outcome, by_member}
 use Rattle.totem_core.specs.Gathering.{join_broadcast, commit_passed_on, look_at_consensus, for_a_foreign_message, for_a_join, for_quiet}
 use Rattle.totem_core.specs.Visiting.{message_on_installed, message_on_new, visit_installed, visit_new, resend}
 

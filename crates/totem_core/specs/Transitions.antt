@@ -9,7 +9,8 @@ use Rattle.totem_member.specs.Gathers.{Gather, consensus}
 use Rattle.totem_core.specs.declared.fault.NodeFault.TheVariants.{Memory}
 use Rattle.totem_core.specs.declared.outcome.StepOut.{StepOut}
 use Rattle.totem_core.specs.declared.transition.Transition.{Transition}
-use Rattle.totem_core.specs.Outcomes.{Outcome, ◌>>=◌, by_member, Fails}
+use Rattle.totem_names.specs.Sources.{◌>>=◌}
+use Rattle.totem_core.specs.Outcomes.{Outcome, by_member, Fails}
 use Rattle.totem_core.specs.Nodes.{Node, Stepped, sending, report}
 use Rattle.totem_core.specs.Gathering.{join_broadcast, look_at_consensus}
 use Rattle.totem_core.specs.Table.{starting, on_timer, counting, counted}

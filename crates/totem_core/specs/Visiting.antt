@@ -19,7 +19,8 @@ use Rattle.totem_recover.specs.Exchange.{Leaving, next_bodies, on_ring, is_done,
 use Rattle.totem_recover.specs.Finish.{deliveries, finish}
 use Rattle.totem_core.specs.declared.ring_step.RingStep.{RingStep}
 use Rattle.totem_core.specs.Nodes.{Node, Operational, InRecovery, Recovering, Stepped, Told, on_its_ring}
-use Rattle.totem_core.specs.Outcomes.{Outcome, ◌>>=◌, by_ring}
+use Rattle.totem_names.specs.Sources.{◌>>=◌}
+use Rattle.totem_core.specs.Outcomes.{Outcome, by_ring}
 
 -- the send of a client's message in the configuration; carried old messages and marks write no entries
 abbrev pub send_of : ConfId → RingName → ℕ → Body → Option Entry

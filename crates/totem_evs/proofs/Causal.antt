@@ -1,19 +1,9 @@
 -- From pairs in one log to chains of any length.
-use Rattle.std.proofs.Common.{◌≡◌, ℕ, zero, suc, ◌<◌, ◌≤◌, ◌⊎◌, inl, inr, List, slice_get, Some, refl, sym, ◌∙◌, ap, arith}
-use Rattle.totem_names.specs.declared.ring.RingId.{RingId}
-use Rattle.totem_names.specs.declared.conf.ConfId.{ConfId}
-use Rattle.totem_names.specs.declared.conf.ConfId.TheVariants.{Regular}
-use Rattle.totem_names.specs.declared.message.MsgId.{MsgId}
-use Rattle.totem_names.specs.declared.place.Place.{Place}
+use Rattle.totem_evs.proofs.Common.{◌≡◌, ℕ, suc, ◌<◌, ◌≤◌, ◌⊎◌, inl, inr, List, slice_get, Some, refl, sym, ◌∙◌, ap, arith, RingId, ConfId, Regular, MsgId, Place, entry_at, log_of, ChangesTo, Sends, Delivers, Strict, Twin, Leads, here, strict, twin, Precedes, Com, StaysInPlace, StandsIn, Numbering, number_at, IsBelow, Certified}
 use Rattle.totem_evs.specs.declared.entry.Entry.{Entry}
 use Rattle.totem_evs.specs.declared.entry.Entry.TheVariants.{Conf, Send, Deliver}
 use Rattle.totem_evs.specs.declared.log.Log.{Log}
-use Rattle.totem_evs.specs.Events.{entry_at, at_place, log_of, ChangesTo, Sends, Delivers}
-use Rattle.totem_evs.specs.Steps.{Strict, Twin, Leads, here, strict, twin, Precedes}
-use Rattle.totem_evs.specs.Following.{Com}
 use Rattle.totem_evs.specs.Delivery.{DeliversWhatWasSent, DeliversOnce}
-use Rattle.totem_evs.specs.Changes.{StaysInPlace, StandsIn}
-use Rattle.totem_evs.specs.Certificates.{Numbering, number_at, IsBelow, Certified}
 use Rattle.totem_evs.specs.OneHop.{IsDeliveredBefore, OneHopIsFine, ChainsAreFine}
 use Rattle.totem_evs.proofs.Standing.{less_or_not, one_standing}
 
@@ -22,11 +12,7 @@ place p i = record { proc = p; at = suc i }
 
 -- an event is somewhere in its log
 index_of : (run : List Log) (e : Place) (x : Entry) → entry_at run e ≡ Some x → (i : ℕ) × (e ≡ place e.proc i) × (slice_get (log_of run e.proc) i ≡ Some x)
-index_of run e x at = go e.at refl at
-  where
-    go : (n : ℕ) → e.at ≡ n → at_place (log_of run e.proc) n ≡ Some x → (i : ℕ) × (e ≡ place e.proc i) × (slice_get (log_of run e.proc) i ≡ Some x)
-    go zero h k = absurd cc
-    go (suc i) h k = (i, ap (λ (a : ℕ). let e' : Place = record { proc = e.proc; at = a } in e') h, k)
+index_of run e x at = grind arith
 
 below_trans : (lines : List Numbering) (e f g : Place) → IsBelow lines e f → IsBelow lines f g → IsBelow lines e g
 below_trans lines e f g (i, j, at_e, at_f, lt) (k, l, at_f', at_g, lt') = let same : j ≡ k = cc in (i, l, at_e, at_g, omega arith)

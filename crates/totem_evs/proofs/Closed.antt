@@ -1,9 +1,6 @@
 -- Closed lists of steps.
-use Rattle.std.proofs.Common.{ℕ, ◌<◌, ◌≤◌, ◌⊎◌, inl, inr, List, [], ◌∷◌, arith}
-use Rattle.totem_names.specs.declared.place.Place.{Place}
+use Rattle.totem_evs.proofs.Common.{ℕ, ◌<◌, ◌≤◌, ◌⊎◌, inl, inr, List, [], ◌∷◌, arith, Place, Strict, Twin, Leads, here, strict, twin, Precedes, Numbers}
 use Rattle.totem_evs.specs.declared.log.Log.{Log}
-use Rattle.totem_evs.specs.Steps.{Strict, Twin, Leads, here, strict, twin, Precedes}
-use Rattle.totem_evs.specs.Agreement.{Numbers}
 use Rattle.totem_evs.specs.Places.{Chain, Somewhere, IsClosed, IsStep, IsOrderStep}
 use Rattle.totem_evs.specs.Delivery.{NoCycle}
 

@@ -1,25 +1,14 @@
 -- A run that meets a specification, everywhere or in one regular configuration, has nothing that breaks it there.
-use Rattle.std.proofs.Common.{ℕ, inl, inr, List, [], ◌∷◌, arith}
-use Rattle.totem_names.specs.declared.ring.RingId.{RingId}
-use Rattle.totem_names.specs.declared.conf.ConfId.{ConfId}
-use Rattle.totem_names.specs.declared.conf.ConfId.TheVariants.{Regular, Transitional}
-use Rattle.totem_names.specs.declared.place.Place.{Place}
+use Rattle.totem_evs.proofs.Common.{ℕ, inl, inr, List, [], ◌∷◌, arith, RingId, ConfId, Regular, Transitional, Place, log_of, IsRegular, IsTransitional, StaysInPlace, TakesTurns, AtomicityIn, CausalityIn, BreaksAtomicityIn, BreaksCausalityIn, BreaksIn, MeetsIn, Breaks, Meets, BreaksAreBreaks}
 use Rattle.totem_evs.specs.declared.entry.Entry.{Entry}
 use Rattle.totem_evs.specs.declared.log.Log.{Log}
 use Rattle.totem_evs.specs.declared.spec.SpecNo.{SpecNo}
 use Rattle.totem_evs.specs.declared.spec.SpecNo.TheVariants as spec
-use Rattle.totem_evs.specs.Events.{log_of, IsRegular, IsTransitional}
-use Rattle.totem_evs.specs.Changes.{StaysInPlace, TakesTurns}
 use Rattle.totem_evs.specs.Agreement.{Goes, OwnDeliveryIn, NoGapsIn, SafetyIn, InstalledIn}
-use Rattle.totem_evs.specs.RingAgreement.{AtomicityIn, CausalityIn}
 use Rattle.totem_evs.specs.Synchrony.{IsVirtuallySynchronous}
 use Rattle.totem_evs.specs.DeliveryFaults.{BreaksUnsent, BreaksTwice}
 use Rattle.totem_evs.specs.ChangeFaults.{IsMisplaced, BreaksEnd, BreaksPlace, BreaksConfiguration, AreWrongNeighbours, BreaksTurns}
 use Rattle.totem_evs.specs.AgreementFaults.{GoesAt, BreaksOwnDeliveryIn, BreaksAtomicity, BreaksCausality, BreaksGapIn, BreaksSafetyIn, BreaksInstalledIn}
-use Rattle.totem_evs.specs.RingFaults.{BreaksAtomicityIn, BreaksCausalityIn, BreaksIn, MeetsIn}
-use Rattle.totem_evs.specs.Faults.{Breaks}
-use Rattle.totem_evs.specs.Answers.{Meets}
-use Rattle.totem_evs.specs.Laws.{BreaksAreBreaks}
 use Rattle.totem_evs.proofs.Closed.{closed_cycles, closed_rises}
 
 -- ---- 1 and 2
@@ -29,9 +18,7 @@ not_both (Regular c) r t = t
 not_both (Transitional least next) r t = r
 
 unsent : (run : List Log) (places : List Place) → BreaksUnsent run places → Meets run spec.Unsent → ⊥
-unsent run (e ∷ []) (i, at, (m, d, delivers, never)) ok = never (ok e.proc i m d delivers)
-unsent run [] h ok = h
-unsent run (e ∷ f ∷ more) h ok = h
+unsent run places h k = grind arith
 
 twice : (run : List Log) (places : List Place) → BreaksTwice run places → Meets run spec.Twice → ⊥
 twice run (e ∷ []) (i, at, (m, x, sends, t)) ok = not_both x (ok.regular e.proc i m x sends) t
@@ -42,9 +29,7 @@ twice run [] h ok = h
 twice run (e ∷ f ∷ g ∷ more) h ok = h
 
 ends_alone : (run : List Log) (places : List Place) → BreaksEnd run places → Meets run spec.End → ⊥
-ends_alone run (e ∷ []) (i, at, (x, ms, q, quiet, last, member, never)) ok = never (ok e.proc i x ms q quiet last member)
-ends_alone run [] h ok = h
-ends_alone run (e ∷ f ∷ more) h ok = h
+ends_alone run places h k = grind arith
 
 -- what stays in place has nothing out of place
 pub placed_contradicts : (log : List Entry) (i : ℕ) → StaysInPlace log → IsMisplaced log i → ⊥
@@ -119,9 +104,7 @@ gap_in run c (e ∷ f ∷ []) h ok = h
 gap_in run c (e ∷ f ∷ g ∷ x ∷ more) h ok = h
 
 safety_in : (run : List Log) (c : RingId) (places : List Place) → BreaksSafetyIn run c places → SafetyIn run c → ⊥
-safety_in run c (e ∷ []) (i, at, (m, d, q, safe, delivers, stays, member, never)) ok = never (ok.each m e.proc i d q safe delivers stays member)
-safety_in run c [] h ok = h
-safety_in run c (e ∷ f ∷ more) h ok = h
+safety_in run c places h k = grind arith
 
 installed_in : (run : List Log) (c : RingId) (places : List Place) → BreaksInstalledIn run c places → InstalledIn run c → ⊥
 installed_in run c (e ∷ []) (i, at, (m, q, safe, delivers, member, never)) ok = let j = ok.each m e.proc i q safe delivers member in never j.0 j.1
@@ -129,13 +112,7 @@ installed_in run c [] h ok = h
 installed_in run c (e ∷ f ∷ more) h ok = h
 
 pub not_met_in : (run : List Log) (c : RingId) (k : SpecNo) (places : List Place) → BreaksIn run c k places → MeetsIn run c k → ⊥
-not_met_in run c spec.OwnDelivery places h ok = own_in run c places h ok
-not_met_in run c spec.Atomicity places h ok = atomicity_in run c places h ok
-not_met_in run c spec.Causality places h ok = causality_in run c places h ok
-not_met_in run c spec.Gap places h ok = gap_in run c places h ok
-not_met_in run c spec.Safety places h ok = safety_in run c places h ok
-not_met_in run c spec.Installed places h ok = installed_in run c places h ok
-not_met_in run c _ places h ok = h
+not_met_in run c k places h m = grind (arith, own_in, atomicity_in, causality_in, gap_in, safety_in, installed_in)
 
 -- ---- 3 to 7
 
@@ -175,20 +152,7 @@ not_met run spec.Installed places h ok = installed_in run h.0 places h.1 (ok h.0
 
 -- what a run that meets the specifications meets
 pub one_of : (run : List Log) → IsVirtuallySynchronous run → (k : SpecNo) → Meets run k
-one_of run ev spec.Cycle = ev.basic.no_cycle
-one_of run ev spec.Unsent = ev.basic.sent
-one_of run ev spec.Twice = ev.basic.once
-one_of run ev spec.End = ev.changes.together
-one_of run ev spec.Misplaced = ev.changes.in_place
-one_of run ev spec.Configuration = ev.changes.one
-one_of run ev spec.Turns = record { each = ev.changes.turns; origin = ev.changes.origin }
-one_of run ev spec.OwnDelivery = ev.own
-one_of run ev spec.Atomicity = ev.atomic
-one_of run ev spec.Causality = ev.causal
-one_of run ev spec.Order = ev.order
-one_of run ev spec.Gap = ev.no_gaps
-one_of run ev spec.Safety = ev.safe.reaches
-one_of run ev spec.Installed = ev.safe.installed
+one_of run h k = grind (arith, turns)
 
 pub breaks : BreaksAreBreaks
 breaks run k places h ev = not_met run k places h (one_of run ev k)

@@ -1,14 +1,7 @@
 -- A fault of a run's text is that of its first line or of one of its parts.
-use Rattle.totem_names.specs.declared.version.Version.{Version}
-use Rattle.std.specs.Prelude.{◌==◌, nat_lt, ◌↔◌}
-use Rattle.std.proofs.Common.{◌≡◌, ◌≢◌, ℕ, zero, suc, ◌<◌, ◌≤◌, List, [], ◌∷◌, ◌++◌, length, length-append, Bool, Option, Some, None, Ok, Err, refl, sym, ap, ◌∙◌, arith}
-use Rattle.totem_names.specs.declared.fault.TextFault.{TextFault}
+use Rattle.totem_evs.proofs.Common.{◌==◌, nat_lt, ◌↔◌, ◌≡◌, ◌≢◌, ℕ, zero, suc, ◌<◌, ◌≤◌, List, [], ◌∷◌, ◌++◌, length, length-append, Bool, Option, Some, None, Ok, Err, refl, sym, ap, ◌∙◌, arith, Version, TextFault, Parsed, ◌>>=◌, GatheredLogs, none_gathered, gathered, ReadsTo, IsInPart, HasFault, BreaksHeader, OrderIn, HasOrder, MembersIn, HasMembers, EndIn, HasEnd, TooManyIn, HasTooMany}
 use Rattle.totem_names.specs.declared.fault.TextFault.TheVariants as faults
-use Rattle.totem_names.specs.Sources.{Parsed, ◌>>=◌}
-use Rattle.totem_evs.specs.declared.entry.Entry.TheVariants.{Conf, Send, Deliver, Fail}
-use Rattle.totem_evs.specs.declared.ending.Ending.TheVariants.{Standing, Failed, Quiet}
 use Rattle.totem_evs.specs.declared.lines.Line.{Line}
-use Rattle.totem_evs.specs.declared.lines.Line.TheVariants as lines
 use Rattle.totem_evs.specs.declared.part.Part.{Part}
 use Rattle.totem_evs.specs.declared.part.Part.TheVariants as parts
 use Rattle.totem_evs.specs.declared.stage.Stage.{Stage}
@@ -16,8 +9,6 @@ use Rattle.totem_evs.specs.declared.stage.OpenLog.{OpenLog}
 use Rattle.totem_evs.specs.Heads.{head_at, by_head, header_at}
 use Rattle.totem_evs.specs.RunGrammar.{line_at, by_line, run_words, run_at}
 use Rattle.totem_evs.specs.Parts.{begun_at, within_at, next_at, part_at, first_stage, next_stage}
-use Rattle.totem_evs.specs.Gathered.{GatheredLogs, none_gathered, gathered}
-use Rattle.totem_evs.specs.TextFaults.{ReadsTo, IsInPart, HasFault, BreaksHeader, OrderIn, HasOrder, MembersIn, HasMembers, EndIn, HasEnd, TooManyIn, HasTooMany}
 use Rattle.totem_evs.proofs.SpelledLine.{line_text, line_is}
 use Rattle.totem_evs.proofs.SpelledHeads.{head_text, head_is}
 use Rattle.totem_evs.proofs.Folding.{as_part, line_part, rest_at, behind, step, first_step}
@@ -30,13 +21,7 @@ use Rattle.totem_evs.proofs.MembersFaults.{NotMembers, names_not_members, member
 -- ---- each part takes bytes
 
 line_some : (version : Version) (l : Line) → 0 < length (line_text version l)
-line_some version (lines.Entry (Conf x ms)) = omega arith
-line_some version (lines.Entry (Send m x s)) = omega arith
-line_some version (lines.Entry (Deliver m x)) = omega arith
-line_some version (lines.Entry (Fail x)) = omega arith
-line_some version (lines.Close Standing) = omega arith
-line_some version (lines.Close Failed) = omega arith
-line_some version (lines.Close Quiet) = omega arith
+line_some version l = grind arith
 
 head_some : (version : Version) (head : Option ℕ) → 0 < length (head_text run_words version head)
 head_some version None = omega arith
@@ -150,17 +135,11 @@ header_exactly bytes = (
 -- a part has the fault of its line
 between_fault : (version : Version) (logs last : ℕ) (bytes : List ℕ) (f : TextFault) → (begun_at version logs last bytes ≡ Err f) ↔ (head_at run_words version (logs == 32) last bytes ≡ Err f)
 unfolding begun_at
-between_fault version logs last bytes f = (
-  λ e. bind_case (head_at run_words version (logs == 32) last bytes) as_part f e (λ k. k) (λ x rest h k. absurd cc),
-  λ k. ap (λ (r : Parsed (Option ℕ)). r >>= as_part) k,
-)
+between_fault version logs last bytes f = grind (arith, bind_case, as_part)
 
 within_fault : (version : Version) (entries : ℕ) (failed : Bool) (bytes : List ℕ) (f : TextFault) → (within_at version entries failed bytes ≡ Err f) ↔ (line_at version (entries == 1000000) (nat_lt 0 entries) failed bytes ≡ Err f)
 unfolding within_at
-within_fault version entries failed bytes f = (
-  λ e. bind_case (line_at version (entries == 1000000) (nat_lt 0 entries) failed bytes) line_part f e (λ k. k) (λ x rest h k. absurd cc),
-  λ k. ap (λ (r : Parsed Line). r >>= line_part) k,
-)
+within_fault version entries failed bytes f = grind (arith, bind_case, line_part)
 
 both : {A B C : Type 0} → A ↔ B → B ↔ C → A ↔ C
 both f g = (λ a. g.0 (f.0 a), λ c. f.1 (g.1 c))

@@ -1,27 +1,16 @@
 -- A run from its parts: the result of each call of the reader of parts.
+use Rattle.std.proofs.Common.{arith}
+use Rattle.totem_evs.proofs.Common.{◌≡◌, [], subst, ℕ, List, ◌++◌, Some, None, Ok, Err, refl, sym, ap, ◌∙◌, append_assoc, RunRecord, IsRunOf, Consumes, Keeps, append-nil, Seen, Parsed, Comes, ◌>>=◌, called, failed, same_left, begins, breaks_at, wants_rest, run_text, part_at, first_stage, next_stage, ReadState, ReadsAs, HasBegun, BeginsRun, HasPart, HasEnded, FitsPart, LacksLog, ReadsPart, IsRead, FitsRun, LacksRun, ReadsRun, GatheredLogs, none_gathered, gathered}
 use Rattle.totem_names.specs.declared.life.WrittenProc.{WrittenProc}
-use Rattle.totem_evs.specs.RunRecord.{RunRecord}
-use Rattle.totem_evs.specs.Runs.{IsRunOf}
-use Rattle.std.specs.Io.KnownBytes.{Consumes, Keeps}
-use Rattle.std.proofs.KnownBytes.{Consumes-trans}
-use Rattle.std.proofs.lemmas.List.{append-nil}
-use Rattle.std.proofs.Common.{◌≡◌, [], subst, ℕ, List, ◌++◌, Some, None, Ok, Err, refl, sym, ap, ◌∙◌, append_assoc}
 use Rattle.totem_names.specs.declared.fault.TextFault.TheVariants as text
 use Rattle.totem_names.specs.declared.fault.ReadError.TheVariants as errors
-use Rattle.totem_names.specs.Sources.{Seen, Parsed, Comes, ◌>>=◌}
 use Rattle.totem_names.proofs.AtHand.{kept_none}
-use Rattle.totem_names.proofs.Readers.{called, failed, same_left, begins, breaks_at, wants_rest}
 use Rattle.totem_evs.specs.declared.part.Part.{Part}
 use Rattle.totem_evs.specs.declared.run_fault.RunFault.{RunFault}
 use Rattle.totem_evs.specs.declared.run_fault.RunFault.TheVariants as faults
-use Rattle.totem_evs.specs.RunText.{run_text}
 use Rattle.totem_evs.specs.RunGrammar.{run_words, run_at}
 use Rattle.totem_evs.specs.Heads.{header_at}
 use Rattle.totem_evs.proofs.SpelledRun.{run_is}
-use Rattle.totem_evs.specs.Parts.{part_at, first_stage, next_stage}
-use Rattle.totem_evs.specs.ReadState.{ReadState}
-use Rattle.totem_evs.specs.Reading.{ReadsAs, HasBegun, BeginsRun, HasPart, HasEnded, FitsPart, LacksLog, ReadsPart, IsRead, FitsRun, LacksRun, ReadsRun}
-use Rattle.totem_evs.specs.Gathered.{GatheredLogs, none_gathered, gathered}
 use Rattle.totem_evs.proofs.PassedOn.{run_none}
 use Rattle.totem_evs.proofs.Folding.{rest_at, behind, step, first_step}
 use Rattle.totem_evs.proofs.Gathers.{GathersIn, limits, goes_gathers, least_lacks}
@@ -70,18 +59,7 @@ follows a b s g h = same_left a b run_at (rest_at s.stage g) (λ more. part_at s
 
 -- nothing was read
 pub folded_still : (a b c : Seen) (s t : ReadState) (g : GatheredLogs) → Folded a b s g → Keeps b.remaining c.remaining → c.failures ≡ b.failures → t ≡ s → Folded a c t g
-folded_still a b c s t g h keeps failures same =
-    let none = kept_none b c (rest_at s.stage g) keeps failures in
-    rw same (record {
-      so_far = record {
-        read = h.so_far.read ++ none.read;
-        taken = Consumes-trans a.remaining b.remaining c.remaining h.so_far.read none.read h.so_far.taken none.taken;
-        failures = none.failures ∙ h.so_far.failures;
-        left = λ more. ap run_at (append_assoc h.so_far.read none.read more) ∙ h.so_far.left (none.read ++ more) ∙ none.left more;
-        before = wants_rest a b run_at (rest_at s.stage g) none.read h.so_far none.before;
-      };
-      gathers = h.gathers;
-    })
+folded_still a b c s t g h keeps failures same = grind (arith, kept_none, rest_at, append_assoc, wants_rest)
 
 -- a part was read
 pub part_folded : (a b c : Seen) (s t : ReadState) (g : GatheredLogs) (part : Part) → Folded a b s g → HasPart b c s part t → Folded a c t (gathered g part)

@@ -1,9 +1,5 @@
 -- A run from its parts: the logs so far, and what is still read.
-use Rattle.totem_evs.specs.RunRecord.{RunRecord}
-use Rattle.totem_names.specs.declared.version.Version.{Version}
-use Rattle.std.specs.Prelude.{nat_lt, ◌==◌}
-use Rattle.std.proofs.Common.{◌≡◌, ◌+◌, ◌-◌, ◌≤◌, ℕ, List, [], ◌∷◌, ◌++◌, true, Option, Some, None, Ok, Err, refl, ap, ◌∙◌, arith, rules}
-use Rattle.totem_names.specs.Sources.{Parsed, ◌>>=◌}
+use Rattle.totem_evs.proofs.Common.{nat_lt, ◌==◌, ◌≡◌, ◌+◌, ◌-◌, ◌≤◌, ℕ, List, [], ◌∷◌, ◌++◌, true, Option, Some, None, Ok, Err, refl, ap, ◌∙◌, arith, rules, RunRecord, Version, Parsed, ◌>>=◌, GatheredLogs, none_gathered, gathered}
 use Rattle.totem_evs.specs.declared.log.Log.{Log}
 use Rattle.totem_evs.specs.declared.lines.Line.{Line}
 use Rattle.totem_evs.specs.declared.lines.Line.TheVariants as lines
@@ -14,7 +10,6 @@ use Rattle.totem_evs.specs.declared.stage.OpenLog.{OpenLog}
 use Rattle.totem_evs.specs.RunGrammar.{is_failure, line_at, by_line, log_at, run_words, run_at}
 use Rattle.totem_evs.specs.Heads.{head_at, by_head, header_at}
 use Rattle.totem_evs.specs.Parts.{begun_at, within_at, next_at, part_at, first_stage, next_stage}
-use Rattle.totem_evs.specs.Gathered.{GatheredLogs, none_gathered, gathered}
 use Rattle.totem_evs.proofs.RunLoops.{with_logs, with_entries, logs_step, entries_step, log_first, as_run, run_first, full_is}
 
 -- what is still read, depending on whether a log has not ended
@@ -107,23 +102,11 @@ step_in version logs last (Some log) g few entries proc bytes = step_within vers
 
 -- the next part, and what is still read after it
 pub step : (stage : Stage) (g : GatheredLogs) → stage.logs ≤ 32 → FewEntries stage.log → OfLast stage.log stage.last g.proc → (bytes : List ℕ) → rest_at stage g bytes ≡ (part_at stage bytes >>= λ x. behind stage g x.0 x.1)
-step stage g few entries proc bytes = ap (λ (r : Parsed (List Log)). r >>= as_run stage.version) (step_in stage.version stage.logs stage.last stage.log g few entries proc bytes) ∙ go (part_at stage bytes)
-  where
-    one : (part : Option Part) (rest : List ℕ) → (logs_behind stage g part rest >>= as_run stage.version) ≡ behind stage g part rest
-    one None rest = refl
-    one (Some (parts.Log p)) rest = refl
-    one (Some (parts.Entry e)) rest = refl
-    one (Some (parts.Close ending)) rest = refl
-
-    go : (r : Parsed (Option Part)) → ((r >>= λ x. logs_behind stage g x.0 x.1) >>= as_run stage.version) ≡ (r >>= λ x. behind stage g x.0 x.1)
-    go (Ok x) = one x.0 x.1
-    go (Err f) = refl
+step stage g few entries proc bytes = grind (arith, as_run, step_in)
 
 -- the version of the text stays
 pub version_kept : (stage : Stage) (part : Part) → (next_stage stage part).version ≡ stage.version
-version_kept stage (parts.Log p) = refl
-version_kept stage (parts.Entry e) = refl
-version_kept stage (parts.Close ending) = refl
+version_kept stage part = grind arith
 
 -- the first line, and what is still read after it
 pub first_step : (bytes : List ℕ) → run_at bytes ≡ (header_at run_words bytes >>= λ v. rest_at (first_stage v.0) none_gathered v.1)

@@ -1,12 +1,6 @@
 -- Ascending lists, from left to right.
-use Rattle.std.proofs.Common.{ℕ, ◌<◌, ◌≤◌, List, length, arith}
-use Rattle.std.proofs.lemmas.List.Elements.{All-from_recursion, recursion_from_All}
-use Rattle.totem_names.specs.declared.version.Version.{Version}
-use Rattle.totem_names.specs.Processes.{IsProcessIn}
-use Rattle.totem_names.specs.Ranks.{id_of}
+use Rattle.totem_evs.proofs.Common.{ℕ, ◌<◌, ◌≤◌, List, length, arith, All-from_recursion, recursion_from_All, Version, IsProcessIn, id_of, IsMembersIn, IsLogIn, IsRunIn}
 use Rattle.totem_evs.specs.declared.log.Log.{Log}
-use Rattle.totem_evs.specs.Members.{IsMembersIn}
-use Rattle.totem_evs.specs.Runs.{IsLogIn, IsRunIn}
 use Rattle.totem_evs.proofs.RisingRecords.{RecordsRise, RecordsFrom, rise_each, rise_pairs, rise_from_none}
 
 -- ---- members
@@ -29,11 +23,7 @@ are_members version ms h = record {
 }
 
 pub members_from : (version : Version) (ms : List ℕ) → IsMembersIn version ms → MembersFrom version 32 0 ms
-members_from version ms is = record {
-  some = is.some;
-  few = is.few;
-  rises = rise_from_none id_of (IsProcessIn version) ms (λ p h. h.id_fits.positive) (recursion_from_All (IsProcessIn version) ms is.processes) is.rising;
-}
+members_from version ms is = grind (arith, rise_from_none, recursion_from_All)
 
 -- ---- logs
 
@@ -56,7 +46,4 @@ pub rank_above : (p : ℕ) → 0 < id_of p → 0 < p
 rank_above p h = omega (arith, h)
 
 pub run_from : (version : Version) (logs : List Log) → IsRunIn version logs → LogsFrom (IsLogIn version) 33 0 logs
-run_from version logs is = record {
-  few = omega (arith, is.few);
-  rises = rise_from_none proc_of (IsLogIn version) logs (λ log h. rank_above log.proc h.process.id_fits.positive) (recursion_from_All (IsLogIn version) logs is.each) is.rising;
-}
+run_from version logs is = grind (arith, rise_from_none, rank_above, recursion_from_All)

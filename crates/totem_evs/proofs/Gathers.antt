@@ -1,32 +1,14 @@
 -- What is known of the logs so far, part after part.
-use Rattle.totem_names.specs.declared.version.Version.{Version}
-use Rattle.totem_names.specs.declared.version.Version.TheVariants.{Three}
-use Rattle.totem_names.specs.Processes.{IsProcessIn}
-use Rattle.std.specs.Prelude.{nat_lt, ◌==◌, All, AllPairs, Contains, IsTrue, ◌↔◌}
-use Rattle.std.specs.List.{flat_map}
-use Rattle.std.proofs.Common.{◌≡◌, ◌⊎◌, ◌+◌, ◌-◌, ◌*◌, ◌<◌, ◌≤◌, ℕ, List, [], ◌∷◌, ◌++◌, length, Bool, true, false, Option, Some, None, inl, inr, refl, sym, ap, subst, ◌∙◌, append_assoc, arith}
-use Rattle.std.proofs.lemmas.List.{append-nil, length_push, get_or_push, get_or_append_left}
-use Rattle.std.proofs.lemmas.Option.{slice_get-get_or, get_or_from_slice_get}
-use Rattle.std.proofs.lemmas.Bool.{eqb-true, cases_lt}
+use Rattle.totem_evs.proofs.Common.{nat_lt, ◌==◌, All, AllPairs, Contains, IsTrue, ◌↔◌, ◌≡◌, ◌⊎◌, ◌+◌, ◌-◌, ◌*◌, ◌<◌, ◌≤◌, ℕ, List, [], ◌∷◌, ◌++◌, length, Bool, true, false, Option, Some, None, inl, inr, refl, sym, ap, subst, ◌∙◌, append_assoc, arith, Version, Three, IsProcessIn, flat_map, append-nil, length_push, get_or_push, get_or_append_left, slice_get-get_or, get_or_from_slice_get, eqb-true, cases_lt, All-push, Contains-push, Contains-push_cases, Contains-append_left, Contains-append_right, Contains-append_cases, nat_tests, IsEntry, IsFailure, IsEntries, EndsInFail, IsClosedBy, IsLog, IsBelowLog, is_failure, members_of, all_members, HasLog, EachHasLog, IsLeastMissing, next_stage, with_entry, ReadState, IsFirst, IsPart, Goes, MayCome, ComesIn, begun_by, named_by, GatheredLogs, none_gathered, gathered, MayGather}
 use Rattle.std.proofs.lemmas.List.Quantifiers.{all_pairs_push, Any-push}
-use Rattle.std.proofs.lemmas.List.Elements.{All-push, Contains-push, Contains-push_cases, Contains-append_left, Contains-append_right, Contains-append_cases}
 use Rattle.std.proofs.lemmas.Grind.{flat_map-append}
-use Rattle.std.proofs.lemmas.Bool.Decides.{nat_tests}
 use Rattle.totem_evs.specs.declared.ending.Ending.{Ending}
-use Rattle.totem_evs.specs.declared.ending.Ending.TheVariants.{Standing, Failed, Quiet}
 use Rattle.totem_evs.specs.declared.entry.Entry.{Entry}
-use Rattle.totem_evs.specs.declared.entry.Entry.TheVariants.{Conf, Send, Deliver, Fail}
 use Rattle.totem_evs.specs.declared.log.Log.{Log}
 use Rattle.totem_evs.specs.declared.part.Part.{Part}
 use Rattle.totem_evs.specs.declared.part.Part.TheVariants as parts
 use Rattle.totem_evs.specs.declared.stage.OpenLog.{OpenLog}
-use Rattle.totem_evs.specs.Runs.{IsEntry, IsFailure, IsEntries, EndsInFail, IsClosedBy, IsLog, IsBelowLog, IsRun}
-use Rattle.totem_evs.specs.RunGrammar.{is_failure}
-use Rattle.totem_evs.specs.Missing.{members_of, all_members, HasLog, EachHasLog, IsLeastMissing}
 use Rattle.totem_evs.specs.declared.stage.Stage.{Stage}
-use Rattle.totem_evs.specs.Parts.{next_stage, with_entry}
-use Rattle.totem_evs.specs.ReadState.{ReadState, IsFirst, IsPart, Goes, MayCome, ComesIn, begun_by, named_by}
-use Rattle.totem_evs.specs.Gathered.{GatheredLogs, none_gathered, gathered, MayGather}
 use Rattle.totem_evs.proofs.Waits.{Waits, in_none}
 use Rattle.totem_evs.proofs.Folding.{OfLast, FewEntries}
 use Rattle.totem_evs.proofs.Weaker.{any_ending}
@@ -100,10 +82,7 @@ none_fails : EndsInFail [] → ⊥
 none_fails h = omega (arith, h.2)
 
 failure_true : (e : Entry) → IsTrue (is_failure e) ↔ IsFailure e
-failure_true (Conf x ms) = ((λ h. absurd cc), (λ h. absurd h))
-failure_true (Send m x s) = ((λ h. absurd cc), (λ h. absurd h))
-failure_true (Deliver m x) = ((λ h. absurd cc), (λ h. absurd h))
-failure_true (Fail x) = ((λ h. tt), (λ h. refl))
+failure_true e = grind arith
 
 -- ---- members
 
@@ -124,13 +103,7 @@ waits_goes before now after begun more waiting next e keeps w h q = rw e (
 -- ---- logs
 
 has_push : (ls : List Log) (l : Log) (q : ℕ) → HasLog (ls ++ l ∷ []) q → HasLog ls q ⊎ (l.proc ≡ q)
-has_push ls l q h = elim (cases_lt h.0 (length ls)) [
-  | inl lt ↦ inl (h.0, h.1, lt, sym (get_or_append_left ls (l ∷ []) h.1 h.0 lt) ∙ h.3, h.4)
-  | inr le ↦
-      let last : length ls ≡ h.0 = omega (arith, length_push ls l, h.2) in
-      let same : l ≡ h.1 = sym (get_or_push ls l h.1 h.0 last) ∙ h.3 in
-      inr (ap (λ (x : Log). x.proc) same ∙ h.4)
-]
+has_push ls l q h = grind (arith, cases_lt, get_or_append_left, length_push, get_or_push)
 
 has_before : (ls : List Log) (l : Log) (q : ℕ) → HasLog ls q → HasLog (ls ++ l ∷ []) q
 has_before ls l q h = (h.0, h.1, omega (arith, length_push ls l, h.2), get_or_append_left ls (l ∷ []) h.1 h.0 h.2 ∙ h.3, h.4)
@@ -158,15 +131,7 @@ decided (x ∷ xs) q = elim (decided xs q) [
 
 -- before the first part
 none_yet : Gathers 0 0 None [] [] none_gathered
-none_yet = record {
-  inside = record { proc = refl; entries = refl; below = λ k d within. absurd (omega arith) };
-  count = refl;
-  few = omega arith;
-  rising = λ i j d lt within. absurd (omega arith);
-  each = λ k d within. absurd (omega arith);
-  has = λ q. ((λ c. absurd (in_none q c)), (λ c. elim c [ inl h ↦ absurd (omega (arith, h.2)) | inr e ↦ absurd cc ]));
-  waits = λ q. ((λ c. absurd (in_none q c)), (λ c. absurd (in_none q c.0)));
-}
+none_yet = grind (arith, in_none)
 
 pub first_gathers : (version : Version) (s : ReadState) → IsFirst version s → GathersIn s none_gathered
 first_gathers version s first = subst (λ (st : Stage). Gathers st.logs st.last st.log s.begun s.waiting none_gathered) (sym first.stage) (rw (first.begun, first.waiting) none_yet)
@@ -226,17 +191,7 @@ goes_entry version logs last (Some l) begun waiting next g e h is comes w = reco
 
 -- the entries of a log that ends may end so
 may_end : (version : Version) (logs last : ℕ) (log : OpenLog) (g : GatheredLogs) (ending : Ending) → Busy log last g → ComesIn version logs last (Some log) (Some (parts.Close ending)) → IsEntries g.entries × IsClosedBy g.entries ending
-may_end version logs last log g Standing b comes = (
-  record { some = omega (arith, above_none log.entries comes.0, b.count); few = omega (arith, b.count, b.few); each = b.each },
-  ((λ e. absurd cc), (λ f. absurd (let k = b.fails.1 f in let n = comes.1 in cc))),
-)
-may_end version logs last log g Failed b comes =
-    let ends = b.fails.0 comes in
-    (record { some = omega (arith, ends.2); few = omega (arith, b.count, b.few); each = b.each }, ((λ e. ends), (λ f. refl)))
-may_end version logs last log g Quiet b comes = (
-  record { some = omega (arith, above_none log.entries comes.1, b.count); few = omega (arith, b.count, b.few); each = b.each },
-  ((λ e. absurd cc), (λ f. absurd (let k = b.fails.1 f in let n = comes.2 in cc))),
-)
+may_end version logs last log g ending h k = grind (arith, above_none)
 
 goes_close : (version : Version) (logs last : ℕ) (log : Option OpenLog) (begun waiting next : List ℕ) (g : GatheredLogs) (ending : Ending) → Gathers logs last log begun waiting g → ComesIn version logs last log (Some (parts.Close ending)) → Waits waiting [] (begun ++ []) next
     → Gathers logs last None (begun ++ []) next (gathered g (parts.Close ending))
@@ -275,12 +230,7 @@ pub goes_gathers : (s t : ReadState) (part : Part) (g : GatheredLogs) → Gather
 goes_gathers s t part g h is comes goes = subst (λ (st : Stage). Gathers st.logs st.last st.log t.begun t.waiting (gathered g part)) (sym goes.stage) (goes_in s part t.begun t.waiting g h is comes goes.begun goes.waiting)
 
 may_gather_in : (version : Version) (logs last : ℕ) (log : Option OpenLog) (g : GatheredLogs) (part : Part) → InLog log last g → ComesIn version logs last log (Some part) → MayGather g part
-may_gather_in version logs last None g (parts.Log p) h comes = tt
-may_gather_in version logs last None g (parts.Entry e) h comes = tt
-may_gather_in version logs last None g (parts.Close ending) h comes = absurd comes
-may_gather_in version logs last (Some l) g (parts.Log p) h comes = tt
-may_gather_in version logs last (Some l) g (parts.Entry e) h comes = tt
-may_gather_in version logs last (Some l) g (parts.Close ending) h comes = λ p e. may_end version logs last l g ending h comes
+may_gather_in version logs last log g part h k = grind (arith, may_end)
 
 -- a log that ends may be gathered
 pub may_gather : (s : ReadState) (g : GatheredLogs) (part : Part) → GathersIn s g → MayCome s.stage (Some part) → MayGather g part
@@ -305,20 +255,12 @@ abbrev pub parts_left : Stage → ℕ
 parts_left stage = 1000003 * (33 - stage.logs) + pending stage.log
 
 falls_in : (version : Version) (logs last : ℕ) (log : Option OpenLog) (part : Part) → logs ≤ 32 → FewEntries log → ComesIn version logs last log (Some part) → parts_left (next_stage (record { version = version; logs = logs; last = last; log = log }) part) < parts_left (record { version = version; logs = logs; last = last; log = log })
-falls_in version logs last None (parts.Log p) few entries comes = omega arith
-falls_in version logs last None (parts.Entry e) few entries comes = absurd comes
-falls_in version logs last None (parts.Close ending) few entries comes = absurd comes
-falls_in version logs last (Some l) (parts.Log p) few entries comes = absurd comes
-falls_in version logs last (Some l) (parts.Entry e) few entries comes = omega (arith, entries)
-falls_in version logs last (Some l) (parts.Close ending) few entries comes = omega (arith, entries)
+falls_in version logs last log part h k m = grind arith
 
 pub falls : (s t : ReadState) (part : Part) (g : GatheredLogs) → GathersIn s g → MayCome s.stage (Some part) → Goes s part t → parts_left t.stage < parts_left s.stage
 falls s t part g h comes goes = rw goes.stage (falls_in s.stage.version s.stage.logs s.stage.last s.stage.log part h.few (limits s g h).0 comes)
 
 -- ---- the end
-
-pub gathers_run : (s : ReadState) (g : GatheredLogs) → GathersIn s g → IsRun g.logs
-gathers_run s g h = record { few = omega (arith, h.count, h.few); rising = h.rising; each = h.each }
 
 idle_in : (version : Version) (logs last : ℕ) (log : Option OpenLog) (g : GatheredLogs) → InLog log last g → ComesIn version logs last log None → Idle last g
 idle_in version logs last None g h comes = h

@@ -1,20 +1,10 @@
 -- Where a parser finds its text too short, some text continues it: the steps of parsers, words, numbers and names.
-use Rattle.std.specs.Prelude.{decimal, ◌==◌, codes}
-use Rattle.std.proofs.Common.{◌≡◌, ◌≢◌, ℕ, ◌+◌, ◌-◌, ◌*◌, ◌^◌, ◌<◌, ◌≤◌, inl, inr, ◌⊎◌, List, [], ◌∷◌, ◌++◌, Ok, Err, Bool, true, false, cond, refl, sym, ◌∙◌, ap, subst, append_assoc, arith}
-use Rattle.std.proofs.lemmas.Bool.{cases_lt, eqb-true}
+use Rattle.totem_evs.proofs.Common.{decimal, ◌==◌, codes, ◌≡◌, ℕ, ◌+◌, ◌-◌, ◌*◌, ◌^◌, ◌<◌, ◌≤◌, inl, inr, ◌⊎◌, List, [], ◌∷◌, ◌++◌, Ok, Err, Bool, true, false, cond, refl, sym, ◌∙◌, ap, subst, append_assoc, arith, cases_lt, eqb-true, append-nil, TextFault, ConfId, Regular, Transitional, RingName, MessageName, Parsed, is_short, ◌>>=◌, next_digit, next_over, next_other, decimal_push, byte_is, number_to_is, ring_is}
 use Rattle.std.proofs.lemmas.Fmt.{decimal_digit}
-use Rattle.std.proofs.lemmas.List.{append-nil}
-use Rattle.totem_names.specs.declared.fault.TextFault.{TextFault}
-use Rattle.totem_names.specs.declared.fault.TextFault.TheVariants.{Word, Number, Truncated}
-use Rattle.totem_names.specs.declared.conf.ConfId.{ConfId}
-use Rattle.totem_names.specs.declared.conf.ConfId.TheVariants.{Regular, Transitional}
-use Rattle.totem_names.specs.Names.{RingName, MessageName}
-use Rattle.totem_names.specs.Sources.{Parsed, is_short, ◌>>=◌}
+use Rattle.totem_names.specs.declared.fault.TextFault.TheVariants.{Word, Truncated}
 use Rattle.totem_names.specs.Numbers.{is_digit, byte_at, word_at, digits_at, number_at, number_to}
 use Rattle.totem_names.specs.Parsers.{ring_at, message_at, regular_at, transitional_at, conf_at}
 use Rattle.totem_names.specs.Texts.{ring_text, conf_text, message_text, IsUpTo, IsRing, IsConf, IsMessage}
-use Rattle.totem_names.proofs.Readers.{next_digit, next_over, next_other}
-use Rattle.totem_names.proofs.Spelled.{decimal_push, byte_is, number_to_is, ring_is}
 
 -- ---- steps
 
@@ -124,19 +114,7 @@ digits_cut max n (b ∷ bytes) fits pos small e = go (is_digit b) refl (λ d pos
 -- nothing, or the digits of a number in range
 pub number_cut : (max : ℕ) (bytes : List ℕ) → 9 ≤ max → max < 2 ^ 32 → number_at max bytes ≡ Err Truncated → (bytes ≡ []) ⊎ ((n : ℕ) × IsUpTo max n × (bytes ≡ decimal n))
 unfolding number_at
-number_cut max [] nine fits e = inl refl
-number_cut max (b ∷ bytes) nine fits e = inr (go (is_digit b) (b == 48) refl refl e)
-  where
-    go : (t u : Bool) → is_digit b ≡ t → (b == 48) ≡ u → cond t (cond u (Err Number) (digits_at max (b - 48) bytes)) (Err Number) ≡ Err Truncated → (n : ℕ) × IsUpTo max n × (b ∷ bytes ≡ decimal n)
-    go true true digit zero' k = absurd cc
-    go true false digit other k =
-        let bounds = digit_low b digit in
-        let differs : b ≢ 48 = λ e. absurd (let f : (48 == 48) ≡ false = rw e at other in cc) in
-        let found = digits_cut max (b - 48) bytes fits (omega (arith, bounds.0, differs)) (omega arith) k in
-        let code : 48 + (b - 48) ≡ b = omega arith in
-        let text : decimal (b - 48) ≡ b ∷ [] = rw code at (decimal_digit (b - 48) (omega arith)) in
-        (found.0, found.1, ap (λ (t : List ℕ). t ++ bytes) (sym text) ∙ found.2)
-    go false u digit zero' k = absurd cc
+number_cut max bytes h k m = grind (arith, digit_low, digits_cut, decimal_digit)
 
 -- a number in range, and a byte after it
 abbrev pub NumberTo : ℕ → ℕ → List ℕ → Type 0

@@ -1,11 +1,6 @@
 -- Ascending lists that grow at their end.
-use Rattle.std.specs.Prelude.{All, AllPairs}
-use Rattle.std.proofs.Common.{ℕ, ◌<◌, ◌≤◌, List, [], ◌∷◌, ◌++◌, length, arith}
+use Rattle.totem_evs.proofs.Common.{All, AllPairs, ℕ, ◌<◌, ◌≤◌, List, [], ◌∷◌, ◌++◌, length, arith, All-push, Three, IsProcessIn, id_of}
 use Rattle.std.proofs.lemmas.List.Quantifiers.{all_pairs_push}
-use Rattle.std.proofs.lemmas.List.Elements.{All-push}
-use Rattle.totem_names.specs.declared.version.Version.TheVariants.{Three}
-use Rattle.totem_names.specs.Processes.{IsProcessIn}
-use Rattle.totem_names.specs.Ranks.{id_of}
 use Rattle.totem_evs.specs.Members.{IsBelow, IsMembers}
 
 -- processes whose identifiers are ascending, up to that of the last one
@@ -16,11 +11,7 @@ pub record Rising (procs : List ℕ) (last : ℕ) : Type 0 where
 
 -- no element yet
 pub rising_none : (last : ℕ) → Rising [] last
-rising_none last = record {
-  below = λ k d within. absurd (omega arith);
-  rising = λ i j d lt within. absurd (omega arith);
-  processes = λ k d within. absurd (omega arith);
-}
+rising_none last = grind arith
 
 -- one more element
 pub rising_more : (procs : List ℕ) (last p : ℕ) → Rising procs last → last < id_of p → IsProcessIn Three p → Rising (procs ++ p ∷ []) (id_of p)

@@ -1,18 +1,8 @@
 -- Where a fault of a first line is, and one of the beginning of a record.
-use Rattle.std.specs.Prelude.{◌==◌, ◌&&◌, nat_le, ◌↔◌}
-use Rattle.std.proofs.Common.{◌≡◌, ◌≢◌, ℕ, ◌≤◌, inl, inr, List, [], ◌∷◌, ◌++◌, Bool, true, false, cond, Option, Some, Ok, Err, refl, sym, ap, ◌∙◌, arith, rules}
-use Rattle.std.proofs.lemmas.Bool.{eqb-true}
-use Rattle.std.proofs.lemmas.Bool.Decides.{nat_tests}
-use Rattle.totem_names.specs.declared.version.Version.{Version}
-use Rattle.totem_names.specs.declared.version.Version.TheVariants.{One, Two, Three}
-use Rattle.totem_names.specs.declared.fault.TextFault.{TextFault}
+use Rattle.totem_evs.proofs.Common.{◌==◌, ◌&&◌, nat_le, ◌↔◌, ◌≡◌, ◌≢◌, ℕ, ◌≤◌, inl, inr, List, [], ◌∷◌, ◌++◌, Bool, true, false, cond, Option, Some, Ok, Err, refl, sym, ap, ◌∙◌, arith, rules, eqb-true, nat_tests, Version, One, Two, Three, TextFault, Parsed, ◌>>=◌, process_then_is, process_then_again, taken, word_is, word_again, line, version_digit}
 use Rattle.totem_names.specs.declared.fault.TextFault.TheVariants as faults
-use Rattle.totem_names.specs.Sources.{Parsed, ◌>>=◌}
 use Rattle.totem_names.specs.Numbers.{byte_at, word_at}
-use Rattle.totem_names.specs.Processes.{process_text, process_then}
-use Rattle.totem_names.proofs.Lives.{process_then_is, process_then_again}
-use Rattle.totem_names.proofs.Spelled.{taken, word_is, word_again}
-use Rattle.totem_evs.specs.RunText.{line, version_digit}
+use Rattle.totem_names.specs.Processes.{process_then}
 use Rattle.totem_evs.specs.Heads.{Words, HasVersion, proc_at, begin_at, end_at, head_at, header_end, header_at}
 use Rattle.totem_evs.specs.HeadFaults.{Differs, BreaksFirstLine, BeginsBelow}
 use Rattle.totem_evs.proofs.OnlyFaults.{OfNames, fault_only, proc_only, word_only, process_only, end_only}
@@ -81,12 +71,7 @@ head_order words version full last bytes e =
 
 order_head : (words : Words) (version : Version) (full : Bool) (last : ℕ) (bytes : List ℕ) → BeginsBelow words version full last bytes → head_at words version full last bytes ≡ Err faults.Order
 unfolding head_at begin_at proc_at
-order_head words version full last bytes h =
-    let test : nat_le h.proc last ≡ true = (let le = h.below in grind (arith, nat_tests)) in
-    let same : (words.letter == words.letter) ≡ true = search rules in
-    rw (h.is, h.room) (rw same (
-    rw (word_again faults.Word words.word (process_text version h.proc ++ h.byte ∷ h.rest)) (
-    rw (process_then_again version h.proc h.byte h.rest h.complete h.fits, test) refl)))
+order_head words version full last bytes h = grind (arith, nat_tests, word_again, process_then_again)
 
 pub order_exactly : (words : Words) (version : Version) (full : Bool) (last : ℕ) (bytes : List ℕ) → (head_at words version full last bytes ≡ Err faults.Order) ↔ BeginsBelow words version full last bytes
 order_exactly words version full last bytes = (head_order words version full last bytes, order_head words version full last bytes)
@@ -186,9 +171,7 @@ breaks_end version bytes d = ap (λ (r : Parsed (Unit {0})). r >>= λ w. Ok (ver
 
 -- a digit that is of no version
 of_none : (words : Words) (v : ℕ) → (v == 49) ≡ false → (v == 50) ≡ false → (words.third && (v == 51)) ≡ false → (version : Version) → HasVersion words version → v ≢ version_digit version
-of_none words v one two three One has = not_same v 49 one
-of_none words v one two three Two has = not_same v 50 two
-of_none words v one two three Three has = not_same v 51 (let k : (true && (v == 51)) ≡ false = rw has at three in k)
+of_none words v h k m version o = grind (arith, not_same)
 
 header_breaks : (words : Words) (bytes : List ℕ) → header_at words bytes ≡ Err faults.Header → BreaksFirstLine words bytes
 unfolding header_at

@@ -1,17 +1,8 @@
 -- Where a first line or the beginning of a record is too short, some text continues it.
-use Rattle.std.specs.Prelude.{nat_le, ◌==◌, ◌&&◌, codes}
-use Rattle.std.proofs.Common.{◌≡◌, ℕ, List, [], ◌∷◌, ◌++◌, Option, Some, None, Ok, Err, Bool, false, cond, refl, sym, ◌∙◌, ap, append_assoc}
-use Rattle.std.proofs.lemmas.Bool.{eqb-true}
-use Rattle.totem_names.specs.declared.version.Version.{Version}
-use Rattle.totem_names.specs.declared.version.Version.TheVariants.{One, Two, Three}
+use Rattle.totem_evs.proofs.Common.{nat_le, ◌==◌, ◌&&◌, codes, ◌≡◌, ℕ, List, [], ◌∷◌, ◌++◌, Option, Some, None, Ok, Err, Bool, false, cond, refl, sym, ◌∙◌, ap, append_assoc, eqb-true, Version, One, Two, Three, ◌>>=◌, rank_of, process_then_is, byte_is, word_is, line, version_digit}
 use Rattle.totem_names.specs.declared.fault.TextFault.TheVariants as faults
-use Rattle.totem_names.specs.Sources.{◌>>=◌}
 use Rattle.totem_names.specs.Numbers.{byte_at, word_at}
-use Rattle.totem_names.specs.Ranks.{rank_of}
 use Rattle.totem_names.specs.Processes.{process_text, process_then, IsProcessIn}
-use Rattle.totem_names.proofs.Lives.{process_then_is}
-use Rattle.totem_names.proofs.Spelled.{byte_is, word_is}
-use Rattle.totem_evs.specs.RunText.{line, version_digit}
 use Rattle.totem_evs.specs.Heads.{Words, HasVersion, first_line, proc_at, begin_at, end_at, head_at, header_end, header_at}
 use Rattle.totem_evs.proofs.SpelledHeads.{head_text, both_hold}
 use Rattle.totem_evs.proofs.GoesOn.{Cut, ok_cut, fault_cut, test_cut, bind_cut, last_cut, byte_cut, word_cut}

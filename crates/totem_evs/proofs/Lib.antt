@@ -1,3 +1,4 @@
+pub mod Common
 pub mod Standing
 pub mod Precedence
 pub mod Causal

@@ -1,34 +1,17 @@
 -- Where a line of a log is too short, some line continues it.
-use Rattle.totem_names.specs.declared.version.Version.{Version}
-use Rattle.totem_names.specs.Ranks.{rank_of, id_of, life_of}
+use Rattle.totem_evs.proofs.Common.{decimal, nat_le, ◌==◌, codes, not, ◌&&◌, ◌≡◌, ℕ, zero, suc, inl, inr, List, [], ◌∷◌, ◌++◌, Ok, Err, Bool, true, false, cond, refl, sym, ◌∙◌, ap, append_assoc, arith, Version, rank_of, id_of, life_of, process_then_is, eqb-true, append-nil, ConfId, Regular, Agreed, Safe, MessageName, Parsed, ◌>>=◌, conf_text, message_text, service_text, IsUpTo, IsConf, IsMessage, service_is, byte_is, word_is, number_to_is, conf_is, line, members_text, writes_quiet, IsLooseMembers, IsLooseEntry}
 use Rattle.totem_names.specs.Processes.{writes_lives, process_text, first_life_then, life_then, process_then, IsProcessIn}
 use Rattle.totem_names.proofs.RankParts.{id_of_rank, life_of_rank}
-use Rattle.totem_names.proofs.Lives.{process_then_is}
-use Rattle.std.specs.Prelude.{decimal, nat_le, ◌==◌, codes, not, ◌&&◌}
-use Rattle.std.proofs.Common.{◌≡◌, ℕ, zero, suc, inl, inr, List, [], ◌∷◌, ◌++◌, Ok, Err, Bool, true, false, cond, refl, sym, ◌∙◌, ap, append_assoc, arith}
-use Rattle.std.proofs.lemmas.Bool.{eqb-true}
-use Rattle.std.proofs.lemmas.List.{append-nil}
 use Rattle.totem_names.specs.declared.fault.TextFault.TheVariants as faults
-use Rattle.totem_names.specs.declared.conf.ConfId.{ConfId}
-use Rattle.totem_names.specs.declared.conf.ConfId.TheVariants.{Regular}
 use Rattle.totem_names.specs.declared.message.Service.{Service}
-use Rattle.totem_names.specs.declared.message.Service.TheVariants.{Agreed, Safe}
-use Rattle.totem_names.specs.Names.{MessageName}
-use Rattle.totem_names.specs.Sources.{Parsed, ◌>>=◌}
 use Rattle.totem_names.specs.Numbers.{byte_at, word_at, number_at, number_to}
 use Rattle.totem_names.specs.Parsers.{conf_at, message_at}
 use Rattle.totem_names.specs.Services.{service_at}
-use Rattle.totem_names.specs.Texts.{conf_text, message_text, service_text, IsUpTo, IsConf, IsMessage}
-use Rattle.totem_names.proofs.ServiceSpelling.{service_is}
-use Rattle.totem_names.proofs.Spelled.{byte_is, word_is, number_to_is, conf_is}
 use Rattle.totem_evs.specs.declared.entry.Entry.TheVariants.{Conf, Send, Deliver, Fail}
 use Rattle.totem_evs.specs.declared.ending.Ending.TheVariants.{Standing, Failed, Quiet}
 use Rattle.totem_evs.specs.declared.lines.Line.{Line}
 use Rattle.totem_evs.specs.declared.lines.Line.TheVariants as lines
-use Rattle.totem_evs.specs.RunText.{line, members_text}
-use Rattle.totem_evs.specs.Endings.{writes_quiet}
 use Rattle.totem_evs.specs.RunGrammar.{members_at, change_at, send_at, delivery_at, open_at, quiet_at, failed_at, fail_at, ail_at, failure_at, line_at}
-use Rattle.totem_evs.specs.TextFronts.{IsLooseMembers, IsLooseEntry}
 use Rattle.totem_evs.proofs.LooseFrom.{LooseMembersFrom, loose_member, are_loose_members}
 use Rattle.totem_evs.proofs.SpelledLine.{IsLineOf, line_text, not_within}
 use Rattle.totem_evs.proofs.GoesOn.{Cut, ok_cut, fault_cut, test_cut, bind_cut, last_cut, cut_as, byte_cut, word_cut, number_cut, NumberTo, number_to_cut, ConfTo, conf_cut, MessageTo, message_cut, first_ring, first_ring_is}
@@ -41,10 +24,7 @@ ProcessTo version t = (p : ℕ) × IsProcessIn version p × (t ≡ process_text 
 
 -- a process from its parts
 made_process : (version : Version) (id life : ℕ) → IsUpTo 65535 id → IsUpTo 65535 life → (writes_lives version ≡ false → life ≡ 1) → IsProcessIn version (rank_of id life)
-made_process version id life id_fits life_fits first =
-    let i : id_of (rank_of id life) ≡ id = id_of_rank id life (omega (arith, life_fits.small)) in
-    let l : life_of (rank_of id life) ≡ life = life_of_rank id life (omega (arith, life_fits.small)) in
-    record { id_fits = rw i id_fits; life_fits = rw l life_fits; first = λ h. l ∙ first h }
+made_process version id life id_fits life_fits first = grind (arith, id_of_rank, life_of_rank)
 
 first_of_numbers : IsUpTo 65535 1
 first_of_numbers = record { positive = omega arith; small = omega arith }
@@ -296,9 +276,7 @@ delivery_cut version full some failed bytes =
 -- ---- closing words and failures
 
 both_true : (a b : Bool) → (a && not b) ≡ true → (a ≡ true) × (b ≡ false)
-both_true true true h = absurd cc
-both_true true false h = (refl, refl)
-both_true false b h = absurd cc
+both_true a b h = grind arith
 
 open_cut : (version : Version) (full some failed : Bool) (bytes : List ℕ) → Cut (open_at some failed bytes) (λ u. LineTo version full some failed (111 ∷ u)) bytes
 unfolding open_at

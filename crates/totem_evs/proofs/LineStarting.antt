@@ -1,19 +1,12 @@
 -- Lines of sends and deliveries, by what they begin with.
-use Rattle.std.specs.Prelude.{codes, ◌==◌}
-use Rattle.std.specs.List.{starts_with}
-use Rattle.std.proofs.Common.{◌≡◌, ◌+◌, ◌-◌, ℕ, List, [], ◌∷◌, ◌++◌, Bool, true, false, Ok, Err, length, take, drop, refl, sym, ◌∙◌, ap, subst, append_assoc, length-drop}
+use Rattle.std.proofs.Common.{arith}
+use Rattle.totem_evs.proofs.Common.{codes, ◌==◌, ◌≡◌, ◌+◌, ◌-◌, ℕ, List, [], ◌∷◌, ◌++◌, Bool, true, false, Ok, Err, length, take, drop, refl, sym, ◌∙◌, ap, subst, append_assoc, length-drop, starts_with, eqb-true, Decides-eqb, Version, RingName, MessageName, Parsed, Settles, ◌>>=◌, wants_both, gives}
 use Rattle.std.proofs.Math.Seq.{take-append-add, take-length}
-use Rattle.std.proofs.lemmas.Bool.{eqb-true}
-use Rattle.std.proofs.lemmas.Bool.Decides.{Decides-eqb}
 use Rattle.std.proofs.lemmas.Slice.Eq.{starts_is}
 use Rattle.totem_names.specs.declared.fault.TextFault.TheVariants as faults
-use Rattle.totem_names.specs.declared.version.Version.{Version}
-use Rattle.totem_names.specs.Names.{RingName, MessageName}
-use Rattle.totem_names.specs.Sources.{Parsed, Settles, ◌>>=◌}
 use Rattle.totem_names.specs.Numbers.{word_at, number_at, number_to}
 use Rattle.totem_names.specs.Parsers.{conf_at, ring_at, message_at}
 use Rattle.totem_names.specs.Services.{service_at}
-use Rattle.totem_names.proofs.Readers.{wants_both, gives}
 use Rattle.totem_evs.specs.declared.entry.Entry.TheVariants as entries
 use Rattle.totem_evs.specs.declared.lines.Line.{Line}
 use Rattle.totem_evs.specs.declared.lines.Line.TheVariants as lines
@@ -29,23 +22,13 @@ rest_at said bytes = number_to 4294967295 10 bytes >>= λ n. gives (lines.Entry 
 -- a message of a ring that was read
 message_rest : (ring : RingName × List ℕ) (k : MessageName → Line) (said : Said) → ((n : ℕ) → k (record { ring = ring.0; number = n }) ≡ lines.Entry (entry_of said n))
     → ((number_to 4294967295 10 ring.1 >>= λ n. gives {A = MessageName} (record { ring = ring.0; number = n.0 }) n.1) >>= λ m. gives (k m.0) m.1) ≡ rest_at said ring.1
-message_rest ring k said same = go (number_to 4294967295 10 ring.1)
-  where
-    go : (n : Parsed ℕ) → ((n >>= λ n. gives {A = MessageName} (record { ring = ring.0; number = n.0 }) n.1) >>= λ m. gives (k m.0) m.1) ≡ (n >>= λ n. gives (lines.Entry (entry_of said n.0)) n.1)
-    go (Ok n) = ap (λ line. gives line n.1) (same n.0)
-    go (Err f) = refl
+message_rest ring k said same = grind (arith, gives)
 
 -- a message, where only its ring was read
 message_of : (bytes : List ℕ) (k : MessageName → Line) (said : RingName → Said) → ((ring : RingName) (n : ℕ) → k (record { ring = ring; number = n }) ≡ lines.Entry (entry_of (said ring) n))
     → (message_at 10 bytes >>= λ m. gives (k m.0) m.1) ≡ ((ring_at 35 bytes >>= λ ring. gives (said ring.0) ring.1) >>= λ s. rest_at s.0 s.1)
 unfolding message_at
-message_of bytes k said same = go (ring_at 35 bytes)
-  where
-    go : (r : Parsed RingName)
-        → ((r >>= λ ring. (number_to 4294967295 10 ring.1 >>= λ n. gives {A = MessageName} (record { ring = ring.0; number = n.0 }) n.1)) >>= λ m. gives (k m.0) m.1)
-        ≡ ((r >>= λ ring. gives (said ring.0) ring.1) >>= λ s. rest_at s.0 s.1)
-    go (Ok ring) = message_rest ring k (said ring.0) (same ring.0)
-    go (Err f) = refl
+message_of bytes k said same = grind (arith, gives, message_rest)
 
 -- a step that both take
 both : {A : Type 0} (r : Parsed A) (p : A × List ℕ → Parsed Line) (q : A × List ℕ → Parsed Said)

@@ -1,9 +1,6 @@
 -- The log of a process in a run.
-use Rattle.std.proofs.Common.{◌≡◌, ℕ, zero, suc, ◌<◌, ◌⊎◌, inl, inr, List, [], ◌∷◌, slice_get, Some, Bool, true, false, refl, ap, arith, rules}
-use Rattle.std.specs.Prelude.{◌==◌, AllPairs}
-use Rattle.std.proofs.lemmas.Option.{slice_get_within, get_or_from_slice_get}
+use Rattle.totem_evs.proofs.Common.{◌≡◌, ℕ, zero, suc, ◌<◌, ◌⊎◌, inl, inr, List, [], ◌∷◌, slice_get, Some, Bool, true, false, refl, ap, arith, rules, ◌==◌, AllPairs, slice_get_within, get_or_from_slice_get, log_of}
 use Rattle.totem_evs.specs.declared.log.Log.{Log}
-use Rattle.totem_evs.specs.Events.{log_of}
 
 -- a process has no entries, or its log is somewhere in the run
 pub log_of_cases : (run : List Log) (p : ℕ) → (log_of run p ≡ []) ⊎ ((k : ℕ) × (log : Log) × (slice_get run k ≡ Some log) × (log.proc ≡ p) × (log_of run p ≡ log.entries))

@@ -1,16 +1,9 @@
 -- Lists that are ascending except for their last element, from left to right.
-use Rattle.std.specs.List.{AllByRecursion}
-use Rattle.std.proofs.Common.{ℕ, ◌<◌, ◌≤◌, List, [], ◌∷◌, length, arith}
-use Rattle.std.proofs.lemmas.List.Elements.{All-from_recursion, recursion_from_All}
-use Rattle.totem_names.specs.declared.version.Version.{Version}
-use Rattle.totem_names.specs.Processes.{IsProcessIn}
-use Rattle.totem_names.specs.Ranks.{id_of}
+use Rattle.std.proofs.lemmas.Grind.{common_steps}
+use Rattle.totem_evs.proofs.Common.{ℕ, ◌<◌, ◌≤◌, List, [], ◌∷◌, length, arith, AllByRecursion, All-from_recursion, recursion_from_All, Version, IsProcessIn, id_of, IsMembersIn, IsEntryIn, IsLogIn, but_last, IsLooseMembers, IsLooseEntry, IsLooseEntries, IsLooseLog, IsLooseRun}
 use Rattle.totem_evs.specs.declared.entry.Entry.{Entry}
 use Rattle.totem_evs.specs.declared.entry.Entry.TheVariants.{Conf, Send, Deliver, Fail}
 use Rattle.totem_evs.specs.declared.log.Log.{Log}
-use Rattle.totem_evs.specs.Members.{IsMembersIn}
-use Rattle.totem_evs.specs.Runs.{IsEntryIn, IsLogIn}
-use Rattle.totem_evs.specs.TextFronts.{but_last, IsLooseMembers, IsLooseEntry, IsLooseEntries, IsLooseLog, IsLooseRun}
 use Rattle.totem_evs.proofs.FromLeft.{members_from, proc_of}
 use Rattle.totem_evs.proofs.RisingRecords.{RiseLoosely, LooselyFrom, rise_loosely, rises_loosely, loosely_pairs, loosely_before, loosely_each}
 
@@ -68,12 +61,7 @@ entries_each version (e ∷ []) h = (h, tt)
 entries_each version (e ∷ f ∷ es) h = (loose_entry version e h.0, entries_each version (f ∷ es) h.1)
 
 pub loose_entries : (version : Version) (es : List Entry) → 0 < length es → length es ≤ 1000000 → EachLoosely version es → IsLooseEntries version es
-loose_entries version es some few h = record {
-  some = some;
-  few = few;
-  before = All-from_recursion (IsEntryIn version) (but_last es) (entries_before version es h);
-  each = All-from_recursion (IsLooseEntry version) es (entries_each version es h);
-}
+loose_entries version es some few h = grind (arith, common_steps, entries_before, entries_each)
 
 all_loosely : (version : Version) (es : List Entry) → AllByRecursion (IsEntryIn version) es → EachLoosely version es
 all_loosely version [] h = tt

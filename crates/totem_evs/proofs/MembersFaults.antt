@@ -1,28 +1,13 @@
 -- Where a fault of a run's text is: members that are not ascending, and what a limit refuses.
-use Rattle.totem_names.specs.declared.version.Version.{Version}
+use Rattle.totem_evs.proofs.Common.{◌==◌, nat_le, codes, not, ◌&&◌, ◌↔◌, ◌≡◌, ℕ, zero, suc, ◌<◌, ◌≤◌, ◌⊎◌, inl, inr, List, [], ◌∷◌, ◌++◌, length, Bool, true, false, cond, Ok, Err, refl, sym, ap, subst, ◌∙◌, append_assoc, arith, Version, id_of, process_then_is, process_then_again, nat_tests, ConfId, TextFault, ◌>>=◌, conf_text, IsConf, last_of, taken, word_is, word_again, conf_is, conf_again, IsMembersIn, members_text, writes_quiet, BeginsEntry, HasManyMembers, IsMemberBelow}
 use Rattle.totem_names.specs.Processes.{process_text, process_then, IsProcessIn}
-use Rattle.totem_names.specs.Ranks.{id_of}
-use Rattle.totem_names.proofs.Lives.{process_then_is, process_then_again}
-use Rattle.std.specs.Prelude.{◌==◌, nat_le, codes, not, ◌&&◌, ◌↔◌}
-use Rattle.std.proofs.Common.{◌≡◌, ℕ, zero, suc, ◌<◌, ◌≤◌, ◌⊎◌, inl, inr, List, [], ◌∷◌, ◌++◌, length, Bool, true, false, cond, Ok, Err, refl, sym, ap, subst, ◌∙◌, append_assoc, arith}
-use Rattle.std.proofs.lemmas.Bool.Decides.{nat_tests}
-use Rattle.totem_names.specs.declared.conf.ConfId.{ConfId}
-use Rattle.totem_names.specs.declared.fault.TextFault.{TextFault}
 use Rattle.totem_names.specs.declared.fault.TextFault.TheVariants as faults
-use Rattle.totem_names.specs.Sources.{◌>>=◌}
 use Rattle.totem_names.specs.Numbers.{is_digit, word_at}
 use Rattle.totem_names.specs.Parsers.{conf_at}
-use Rattle.totem_names.specs.Texts.{conf_text, IsConf}
-use Rattle.totem_names.proofs.Readers.{last_of}
-use Rattle.totem_names.proofs.Spelled.{taken, word_is, word_again, conf_is, conf_again}
 use Rattle.totem_evs.specs.declared.lines.Line.{Line}
 use Rattle.totem_evs.specs.declared.lines.Line.TheVariants as lines
 use Rattle.totem_evs.specs.declared.entry.Entry.TheVariants.{Conf}
-use Rattle.totem_evs.specs.Members.{IsMembersIn}
-use Rattle.totem_evs.specs.RunText.{members_text}
-use Rattle.totem_evs.specs.Endings.{writes_quiet}
 use Rattle.totem_evs.specs.RunGrammar.{members_at, change_at, send_at, delivery_at, fail_at, ail_at, failure_at, line_at}
-use Rattle.totem_evs.specs.TextFaults.{BeginsEntry, HasManyMembers, IsMemberBelow}
 use Rattle.totem_evs.proofs.FromLeft.{Rises, are_members, members_from}
 use Rattle.totem_evs.proofs.SpelledLine.{not_within, members_first}
 use Rattle.totem_evs.proofs.OnlyFaults.{OfNames, ok_only, fault_only, word_only, process_only, conf_only, sent_only, delivered_only, lost_only, open_only, quiet_only, failed_only}

@@ -1,10 +1,7 @@
 -- The next change of a log, and its first one to a configuration: there is one at most.
-use Rattle.std.proofs.Common.{◌≡◌, ℕ, ◌+◌, ◌<◌, inl, inr, List, slice_get, Some, arith}
-use Rattle.totem_names.specs.declared.conf.ConfId.{ConfId}
+use Rattle.totem_evs.proofs.Common.{◌≡◌, ℕ, ◌+◌, ◌<◌, inl, inr, List, slice_get, Some, arith, ConfId, IsChange, IsNextChange, IsFirstChange}
 use Rattle.totem_evs.specs.declared.entry.Entry.{Entry}
 use Rattle.totem_evs.specs.declared.entry.Entry.TheVariants.{Conf}
-use Rattle.totem_evs.specs.Events.{IsChange}
-use Rattle.totem_evs.specs.Following.{IsNextChange, IsFirstChange}
 use Rattle.totem_evs.proofs.LogOf.{less_or_not}
 
 -- one change is the next
@@ -24,9 +21,6 @@ same_first log x i j a b = elim (less_or_not i j) [
 -- no change is after i and before n
 pub record NoneBetween (log : List Entry) (i n : ℕ) : Type 0 where
   pub none : (k : ℕ) → i < k → k < n → IsChange log k → ⊥
-
-pub none_between_yet : (log : List Entry) (i : ℕ) → NoneBetween log i (i + 1)
-none_between_yet log i = record { none = λ k lt below h. omega arith }
 
 pub no_change : (log : List Entry) (i : ℕ) (e : Entry) → slice_get log i ≡ Some e → ((x : ConfId) (ms : List ℕ) → e ≡ Conf x ms → ⊥) → IsChange log i → ⊥
 no_change log i e at other (x, (ms, h)) = other x ms cc

@@ -1,29 +1,17 @@
 -- Number is the fault of a number that the grammar reads.
-use Rattle.totem_names.specs.declared.version.Version.{Version}
-use Rattle.totem_names.specs.declared.version.Version.TheVariants.{One, Two, Three}
-use Rattle.totem_names.specs.Ranks.{id_of}
+use Rattle.totem_evs.proofs.Common.{◌==◌, decimal, ◌↔◌, ◌≡◌, ◌≢◌, ℕ, zero, suc, ◌+◌, ◌-◌, ◌*◌, ◌^◌, ◌<◌, ◌≤◌, ◌⊎◌, inl, inr, List, [], ◌∷◌, ◌++◌, Bool, true, false, cond, Option, Some, None, Ok, Err, refl, sym, ap, subst, ◌∙◌, append_assoc, arith, Version, One, Two, Three, id_of, cases_lt, eqb-true, TextFault, Agreed, Safe, Parsed, ◌>>=◌, first_other, next_digit, next_over, next_other, byte_is, decimal_push, reads_decimal, number_is, number_again, writes_quiet, IsPast, IsNoNumber, BreaksNumber}
 use Rattle.totem_names.specs.Processes.{writes_lives, first_life_then, life_then, process_then}
-use Rattle.std.specs.Prelude.{◌==◌, decimal, ◌↔◌}
-use Rattle.std.proofs.Common.{◌≡◌, ◌≢◌, ℕ, zero, suc, ◌+◌, ◌-◌, ◌*◌, ◌^◌, ◌<◌, ◌≤◌, ◌⊎◌, inl, inr, List, [], ◌∷◌, ◌++◌, Bool, true, false, cond, Option, Some, None, Ok, Err, refl, sym, ap, subst, ◌∙◌, append_assoc, arith}
-use Rattle.std.proofs.lemmas.Bool.{cases_lt, eqb-true}
 use Rattle.std.proofs.lemmas.Fmt.{decimal_digit}
-use Rattle.totem_names.specs.declared.fault.TextFault.{TextFault}
 use Rattle.totem_names.specs.declared.fault.TextFault.TheVariants as faults
-use Rattle.totem_names.specs.declared.message.Service.TheVariants.{Agreed, Safe}
-use Rattle.totem_names.specs.Sources.{Parsed, ◌>>=◌}
 use Rattle.totem_names.specs.Numbers.{is_digit, byte_at, word_at, digits_at, number_at, number_to}
 use Rattle.totem_names.specs.Parsers.{ring_at, message_at, regular_at, transitional_at, conf_at}
-use Rattle.totem_names.proofs.Readers.{first_other, next_digit, next_over, next_other}
-use Rattle.totem_names.proofs.Spelled.{byte_is, decimal_push, reads_decimal, number_is, number_again}
 use Rattle.totem_evs.specs.declared.entry.Entry.{Entry}
 use Rattle.totem_evs.specs.declared.ending.Ending.{Ending}
 use Rattle.totem_evs.specs.declared.lines.Line.{Line}
 use Rattle.totem_evs.specs.declared.lines.Line.TheVariants as lines
 use Rattle.totem_names.specs.Services.{service_at}
-use Rattle.totem_evs.specs.Endings.{writes_quiet}
 use Rattle.totem_evs.specs.RunGrammar.{is_failure, members_at, change_at, send_at, delivery_at, open_at, quiet_at, failed_at, fail_at, ail_at, failure_at, line_at, by_line, lines_at, log_at, run_words, run_at}
 use Rattle.totem_evs.specs.Heads.{records_at, Words, proc_at, begin_at, end_at, head_at, by_head, header_end, header_at}
-use Rattle.totem_evs.specs.TextFaults.{IsPast, IsNoNumber, BreaksNumber}
 use Rattle.totem_evs.proofs.PartFaults.{bind_case}
 
 -- ---- a parser takes its bytes, and each fault Number of it is that of a number
@@ -161,10 +149,7 @@ unfolding number_at
 zero_first max rest = refl
 
 pub none_number : (max : ℕ) (bytes : List ℕ) → max < 2 ^ 32 → IsNoNumber max bytes → number_at max bytes ≡ Err faults.Number
-none_number max bytes fits (inl (b, rest, is, inl other)) = rw is (first_other max b other rest)
-none_number max bytes fits (inl (b, rest, is, inr same)) = rw (is, same) (zero_first max rest)
-none_number max bytes fits (inr h) =
-    rw h.is (reads_decimal h.number max h.number (h.byte ∷ h.rest) (omega arith) h.fits.positive h.fits.small fits ∙ next_over max h.number h.byte (h.byte - 48) h.digit refl h.past h.rest)
+none_number max bytes h k = grind (arith, first_other, zero_first, reads_decimal, next_over)
 
 -- a limit of numbers
 pub limits : (max : ℕ) → ((max ≡ 65535) ⊎ (max ≡ 4294967295)) → (9 ≤ max) × (max < 2 ^ 32)
@@ -352,10 +337,7 @@ run_numbered = bind_numbered _ _ (header_numbered run_words) (λ v. bind_numbere
 
 -- Number is a number's fault, and a number's fault is Number
 pub number_exactly : {Y : Type 0} (parse : List ℕ → Parsed Y) → Numbered parse → (bytes : List ℕ) → (parse bytes ≡ Err faults.Number) ↔ BreaksNumber parse bytes
-number_exactly parse numbered bytes = (
-  numbered.breaks bytes,
-  λ h. ap parse h.is ∙ h.wants h.rest ∙ ap (λ (r : Parsed (ℕ × ℕ)). r >>= h.after) (none_number h.max h.rest (limits h.max h.limit).1 h.none),
-)
+number_exactly parse numbered bytes = grind (arith, none_number, limits)
 
 pub run_number : (bytes : List ℕ) → (run_at bytes ≡ Err faults.Number) ↔ BreaksNumber run_at bytes
 run_number = number_exactly run_at run_numbered

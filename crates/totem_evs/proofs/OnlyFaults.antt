@@ -1,18 +1,11 @@
 -- Which faults the grammar of a run's text can give.
-use Rattle.totem_names.specs.declared.version.Version.TheVariants.{One, Two, Three}
-use Rattle.totem_names.specs.declared.version.Version.{Version}
-use Rattle.totem_names.specs.Ranks.{id_of}
+use Rattle.std.proofs.Common.{arith}
+use Rattle.totem_evs.proofs.Common.{◌==◌, nat_le, ◌≡◌, ℕ, ◌+◌, ◌-◌, ◌*◌, zero, suc, List, [], ◌∷◌, Bool, true, false, cond, Option, Some, None, Ok, Err, refl, One, Two, Three, Version, id_of, TextFault, Agreed, Safe, Parsed, ◌>>=◌, writes_quiet}
 use Rattle.totem_names.specs.Processes.{writes_lives, first_life_then, life_then, process_then}
-use Rattle.std.specs.Prelude.{◌==◌, nat_le}
-use Rattle.std.proofs.Common.{◌≡◌, ℕ, ◌+◌, ◌-◌, ◌*◌, zero, suc, List, [], ◌∷◌, Bool, true, false, cond, Option, Some, None, Ok, Err, refl}
-use Rattle.totem_names.specs.declared.fault.TextFault.{TextFault}
 use Rattle.totem_names.specs.declared.fault.TextFault.TheVariants as faults
-use Rattle.totem_names.specs.declared.message.Service.TheVariants.{Agreed, Safe}
-use Rattle.totem_names.specs.Sources.{Parsed, ◌>>=◌}
 use Rattle.totem_names.specs.Numbers.{is_digit, byte_at, word_at, digits_at, number_at, number_to}
 use Rattle.totem_names.specs.Parsers.{ring_at, message_at, regular_at, transitional_at, conf_at}
 use Rattle.totem_names.specs.Services.{service_at}
-use Rattle.totem_evs.specs.Endings.{writes_quiet}
 use Rattle.totem_evs.specs.RunGrammar.{members_at, change_at, send_at, delivery_at, open_at, quiet_at, failed_at, fail_at, ail_at, failure_at, line_at}
 use Rattle.totem_evs.specs.Heads.{Words, proc_at, begin_at, end_at, head_at, by_head, records_at, header_end, header_at}
 
@@ -64,10 +57,7 @@ digits_only P max n (b ∷ bytes) is =
 
 pub number_only : (P : TextFault → Type 0) (max : ℕ) (bytes : List ℕ) → OfNames P → Only P (number_at max bytes)
 unfolding number_at
-number_only P max [] is = fault_only P faults.Truncated is.short
-number_only P max (b ∷ bytes) is =
-    cond_only P (is_digit b) (cond (b == 48) (Err faults.Number) (digits_at max (b - 48) bytes)) (Err faults.Number)
-    (cond_only P (b == 48) (Err faults.Number) (digits_at max (b - 48) bytes) (fault_only P faults.Number is.number) (digits_only P max (b - 48) bytes is)) (fault_only P faults.Number is.number)
+number_only P max bytes h = grind (arith, fault_only, cond_only, digits_only)
 
 number_to_only : (P : TextFault → Type 0) (max end : ℕ) (bytes : List ℕ) → OfNames P → Only P (number_to max end bytes)
 unfolding number_to

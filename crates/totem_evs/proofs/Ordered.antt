@@ -1,12 +1,6 @@
 -- A certificate excludes cycles, and is a total order.
-use Rattle.std.proofs.Common.{◌≡◌, ℕ, zero, suc, ◌<◌, List, [], ◌∷◌, length, get_or, Option, Some, Bool, true, false, refl, sym, ◌∙◌, ap}
-use Rattle.std.specs.Prelude.{unwrap_or, ◌==◌}
-use Rattle.std.proofs.lemmas.Option.{slice_get_within, slice_get-get_or}
-use Rattle.totem_names.specs.declared.place.Place.{Place}
+use Rattle.totem_evs.proofs.Common.{◌≡◌, ℕ, zero, suc, ◌<◌, List, [], ◌∷◌, length, get_or, Option, Some, Bool, true, false, refl, sym, ◌∙◌, ap, unwrap_or, ◌==◌, slice_get_within, slice_get-get_or, Place, log_of, at_place, IsEvent, Numbering, numbers_of, number_in, number_at, IsBelow, Matches, CertifiedIsOrdered}
 use Rattle.totem_evs.specs.declared.log.Log.{Log}
-use Rattle.totem_evs.specs.Events.{log_of, at_place, IsEvent}
-use Rattle.totem_evs.specs.Certificates.{Numbering, numbers_of, number_in, number_at, IsBelow, Matches}
-use Rattle.totem_evs.specs.Laws.{CertifiedIsOrdered}
 use Rattle.totem_evs.proofs.Causal.{precedes_rises, no_cycle}
 
 -- a line has as many numbers as the log of its process has entries

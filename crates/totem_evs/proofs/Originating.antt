@@ -1,17 +1,9 @@
 -- In a run in which the first two passes find no fault, each transitional configuration follows a regular one, and what is
 -- in a configuration is after a change to it.
-use Rattle.std.proofs.Common.{◌≡◌, ◌⊎◌, inl, inr, ℕ, zero, suc, ◌<◌, List, slice_get, Option, Some, None, refl, arith}
-use Rattle.totem_names.specs.declared.ring.RingId.{RingId}
-use Rattle.totem_names.specs.declared.conf.ConfId.{ConfId}
-use Rattle.totem_names.specs.declared.conf.ConfId.TheVariants.{Regular, Transitional}
-use Rattle.totem_names.specs.declared.message.MsgId.{MsgId}
+use Rattle.totem_evs.proofs.Common.{◌≡◌, ◌⊎◌, inl, inr, ℕ, zero, suc, ◌<◌, List, slice_get, Option, Some, None, refl, arith, RingId, ConfId, Regular, Transitional, MsgId, log_of, ChangesTo, IsChange, Sends, Delivers, IsRegular, IsTransitional, StandsIn, Follows, Com, IsNextChange, DeliversIn, MeetsPasses, IsRing}
 use Rattle.totem_evs.specs.declared.entry.Entry.{Entry}
 use Rattle.totem_evs.specs.declared.entry.Entry.TheVariants.{Conf, Send, Deliver, Fail}
 use Rattle.totem_evs.specs.declared.log.Log.{Log}
-use Rattle.totem_evs.specs.Events.{log_of, ChangesTo, IsChange, Sends, Delivers, IsRegular, IsTransitional}
-use Rattle.totem_evs.specs.Changes.{StandsIn}
-use Rattle.totem_evs.specs.Following.{Follows, Com, IsNextChange, DeliversIn}
-use Rattle.totem_evs.specs.Answers.{MeetsPasses, IsRing}
 use Rattle.totem_evs.proofs.Standing.{less_or_not}
 
 -- ---- the last change before an index

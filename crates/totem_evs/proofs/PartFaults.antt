@@ -1,20 +1,12 @@
 -- Where a fault of a run's text is: between logs and in a log.
-use Rattle.totem_names.specs.declared.version.Version.{Version}
-use Rattle.std.specs.Prelude.{◌==◌, codes, not, ◌&&◌, ◌↔◌}
-use Rattle.std.proofs.Common.{◌≡◌, ◌≢◌, ℕ, inl, inr, List, [], ◌∷◌, ◌++◌, Bool, true, false, cond, Ok, Err, refl, sym, ap, ◌∙◌}
-use Rattle.std.proofs.lemmas.Bool.{eqb-true}
-use Rattle.totem_names.specs.declared.fault.TextFault.{TextFault}
+use Rattle.std.proofs.Common.{arith}
+use Rattle.totem_evs.proofs.Common.{◌==◌, codes, not, ◌&&◌, ◌↔◌, ◌≡◌, ◌≢◌, ℕ, inl, inr, List, [], ◌∷◌, ◌++◌, Bool, true, false, cond, Ok, Err, refl, sym, ap, ◌∙◌, Version, eqb-true, TextFault, Parsed, ◌>>=◌, taken, word_is, line, writes_quiet, ClosesWrong}
 use Rattle.totem_names.specs.declared.fault.TextFault.TheVariants as faults
-use Rattle.totem_names.specs.Sources.{Parsed, ◌>>=◌}
 use Rattle.totem_names.specs.Numbers.{byte_at, word_at}
-use Rattle.totem_names.proofs.Spelled.{taken, word_is}
 use Rattle.totem_evs.specs.declared.lines.Line.{Line}
 use Rattle.totem_evs.specs.declared.lines.Line.TheVariants as lines
 use Rattle.totem_evs.specs.declared.ending.Ending.TheVariants.{Standing, Failed, Quiet}
-use Rattle.totem_evs.specs.RunText.{line}
-use Rattle.totem_evs.specs.Endings.{writes_quiet}
 use Rattle.totem_evs.specs.RunGrammar.{change_at, send_at, delivery_at, open_at, quiet_at, failed_at, fail_at, ail_at, failure_at, line_at}
-use Rattle.totem_evs.specs.TextFaults.{ClosesWrong}
 use Rattle.totem_evs.proofs.OnlyFaults.{OfNames, OfEntries, fault_only, word_only, change_only, send_only, delivery_only, fail_only}
 
 -- ---- steps and tests that failed
@@ -156,9 +148,7 @@ line_end version full some failed bytes e =
 
 end_line : (version : Version) (full some failed : Bool) (bytes : List ℕ) → ClosesWrong (writes_quiet version) full some failed bytes → line_at version full some failed bytes ≡ Err faults.End
 unfolding line_at open_at quiet_at failure_at ail_at failed_at word_at
-end_line version full some failed bytes (inl (rest, is, wrong)) = rw (is, wrong) refl
-end_line version full some failed bytes (inr (inl (rest, is, may, wrong))) = rw (is, may, wrong) refl
-end_line version full some failed bytes (inr (inr (rest, is, room, ends))) = rw (is, room, ends) refl
+end_line version full some failed bytes h = grind arith
 
 pub end_exactly : (version : Version) (full some failed : Bool) (bytes : List ℕ) → (line_at version full some failed bytes ≡ Err faults.End) ↔ ClosesWrong (writes_quiet version) full some failed bytes
 end_exactly version full some failed bytes = (line_end version full some failed bytes, end_line version full some failed bytes)

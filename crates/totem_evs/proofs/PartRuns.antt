@@ -1,13 +1,6 @@
 -- A run and its parts.
-use Rattle.totem_names.specs.declared.version.Version.{Version}
-use Rattle.totem_names.specs.Processes.{process_text}
-use Rattle.std.specs.Prelude.{nat_lt, ◌==◌, codes}
-use Rattle.std.specs.List.{flat_map}
-use Rattle.std.proofs.Common.{◌≡◌, ◌≤◌, ℕ, List, [], ◌∷◌, ◌++◌, Bool, Option, Some, None, Ok, refl, sym, ap, subst, ◌∙◌, append_assoc, arith}
-use Rattle.std.proofs.lemmas.List.{append-nil}
+use Rattle.totem_evs.proofs.Common.{nat_lt, ◌==◌, codes, ◌≡◌, ◌≤◌, ℕ, List, [], ◌∷◌, ◌++◌, Bool, Option, Some, None, Ok, refl, sym, ap, subst, ◌∙◌, append_assoc, arith, Version, process_text, flat_map, append-nil, Parsed, ◌>>=◌, after, parsed_is, line, entry_text, ending_text, log_text, header_text, writes_quiet, ComesBetween, ComesWithin, ComesIn, MayCome, GatheredLogs, none_gathered, gathered}
 use Rattle.std.proofs.lemmas.Grind.{flat_map-append}
-use Rattle.totem_names.specs.Sources.{Parsed, ◌>>=◌}
-use Rattle.totem_names.proofs.Spelled.{after, parsed_is}
 use Rattle.totem_evs.specs.declared.ending.Ending.TheVariants.{Standing, Failed, Quiet}
 use Rattle.totem_evs.specs.declared.entry.Entry.{Entry}
 use Rattle.totem_evs.specs.declared.lines.Line.{Line}
@@ -17,13 +10,9 @@ use Rattle.totem_evs.specs.declared.part.Part.{Part}
 use Rattle.totem_evs.specs.declared.part.Part.TheVariants as parts
 use Rattle.totem_evs.specs.declared.stage.Stage.{Stage}
 use Rattle.totem_evs.specs.declared.stage.OpenLog.{OpenLog}
-use Rattle.totem_evs.specs.RunText.{line, entry_text, ending_text, log_text, header_text}
 use Rattle.totem_evs.specs.RunGrammar.{line_at, by_line, run_words}
 use Rattle.totem_evs.specs.Heads.{head_at, by_head}
 use Rattle.totem_evs.specs.Parts.{begun_at, within_at, next_at, part_at, first_stage, next_stage, part_text, entry_parts, log_parts, run_parts}
-use Rattle.totem_evs.specs.Endings.{writes_quiet}
-use Rattle.totem_evs.specs.ReadState.{ComesBetween, ComesWithin, ComesIn, MayCome}
-use Rattle.totem_evs.specs.Gathered.{GatheredLogs, none_gathered, gathered}
 use Rattle.totem_evs.specs.PartLaws.{ReadsParts, PartsMakeTheRun, TextIsOfParts}
 use Rattle.totem_evs.proofs.SpelledLine.{IsLine, line_is}
 use Rattle.totem_evs.proofs.SpelledHeads.{IsHead, head_is}
@@ -75,12 +64,7 @@ pub record Stands (stage : Stage) (g : GatheredLogs) : Type 0 where
   pub placed : Placed stage.log stage.last g
 
 stands_in : (version : Version) (logs last : ℕ) (log : Option OpenLog) (g : GatheredLogs) (part : Part) → logs ≤ 32 → FewEntries log → Placed log last g → ComesIn version logs last log (Some part) → Stands (next_stage (record { version = version; logs = logs; last = last; log = log }) part) (gathered g part)
-stands_in version logs last None g (parts.Log p) few entries placed may = record { few = below_limit logs 32 may.0 few; entries = omega arith; placed = refl }
-stands_in version logs last None g (parts.Entry e) few entries placed may = absurd may
-stands_in version logs last None g (parts.Close ending) few entries placed may = absurd may
-stands_in version logs last (Some log) g (parts.Log p) few entries placed may = absurd may
-stands_in version logs last (Some log) g (parts.Entry e) few entries placed may = record { few = few; entries = below_limit log.entries 1000000 may entries; placed = placed }
-stands_in version logs last (Some log) g (parts.Close ending) few entries placed may = record { few = few; entries = tt; placed = refl }
+stands_in version logs last log g part h k m o = grind (arith, below_limit)
 
 pub stands_next : (stage : Stage) (g : GatheredLogs) (part : Part) → Stands stage g → MayCome stage (Some part) → Stands (next_stage stage part) (gathered g part)
 stands_next stage g part h may = stands_in stage.version stage.logs stage.last stage.log g part h.few h.entries h.placed may
@@ -114,20 +98,7 @@ abbrev given : GatheredLogs → List Part
 given g = run_parts g.logs ++ opened_parts g.proc g.entries
 
 given_in : (version : Version) (logs last : ℕ) (log : Option OpenLog) (g : GatheredLogs) (part : Part) → Placed log last g → ComesIn version logs last log (Some part) → given (gathered g part) ≡ given g ++ part ∷ []
-given_in version logs last None g (parts.Log p) placed may = rw placed (ap (λ (xs : List Part). xs ++ parts.Log p ∷ []) (sym (append-nil (run_parts g.logs))))
-given_in version logs last None g (parts.Entry e) placed may = absurd may
-given_in version logs last None g (parts.Close ending) placed may = absurd may
-given_in version logs last (Some log) g (parts.Log p) placed may = absurd may
-given_in version logs last (Some log) g (parts.Entry e) placed may = rw placed (
-    ap (λ (xs : List Part). run_parts g.logs ++ (parts.Log last ∷ xs)) (flat_map-append (λ (x : Entry). parts.Entry x ∷ []) g.entries (e ∷ []))
-    ∙ sym (append_assoc (run_parts g.logs) (parts.Log last ∷ entry_parts g.entries) (parts.Entry e ∷ [])))
-given_in version logs last (Some log) g (parts.Close ending) placed may =
-    let new : Log = record { proc = last; entries = g.entries; ending = ending } in
-    rw placed (
-    append-nil (run_parts (g.logs ++ new ∷ []))
-    ∙ flat_map-append log_parts g.logs (new ∷ [])
-    ∙ ap (λ (xs : List Part). run_parts g.logs ++ xs) (append-nil (log_parts new))
-    ∙ sym (append_assoc (run_parts g.logs) (parts.Log last ∷ entry_parts g.entries) (parts.Close ending ∷ [])))
+given_in version logs last log g part h k = grind (arith, append-nil, flat_map-append, append_assoc)
 
 ended_in : (version : Version) (logs last : ℕ) (log : Option OpenLog) (g : GatheredLogs) → Placed log last g → ComesIn version logs last log None → run_parts g.logs ≡ given g ++ []
 ended_in version logs last None g placed may = rw placed (sym (append-nil (run_parts g.logs ++ []) ∙ append-nil (run_parts g.logs)))

@@ -1,10 +1,6 @@
 -- What precedes what, in every run.
-use Rattle.std.proofs.Common.{◌≡◌, ◌⊎◌, inl, inr, ℕ, List, ap, sym, ◌∙◌, arith}
-use Rattle.totem_names.specs.declared.conf.ConfId.{ConfId}
-use Rattle.totem_names.specs.declared.place.Place.{Place}
+use Rattle.totem_evs.proofs.Common.{◌≡◌, ◌⊎◌, inl, inr, ℕ, List, sym, arith, ConfId, Place, ChangesAt, Twin, Leads, here, strict, twin, Precedes, EachLogIsOrdered, EachTwinsAgree}
 use Rattle.totem_evs.specs.declared.log.Log.{Log}
-use Rattle.totem_evs.specs.Steps.{ChangesAt, Twin, Leads, here, strict, twin, Precedes}
-use Rattle.totem_evs.specs.Laws.{EachLogIsOrdered, EachTwinsAgree}
 
 pub each_log_ordered : EachLogIsOrdered
 each_log_ordered run e f is_e is_f before = (e, f, here, inl (is_e, is_f, before), here)
@@ -19,19 +15,11 @@ same_or_not : (m n : ℕ) → (m ≡ n) ⊎ (m ≡ n → ⊥)
 same_or_not m n = grind arith
 
 place_is : (e f : Place) → e.proc ≡ f.proc → e.at ≡ f.at → e ≡ f
-place_is e f procs ats =
-    let place : ℕ → ℕ → Place = λ p i. record { proc = p; at = i } in
-    ap (λ (p : ℕ). place p e.at) procs ∙ ap (λ (i : ℕ). place f.proc i) ats
+place_is e f procs ats = grind arith
 
 -- two places are one, or not
 one_place : (e f : Place) → (e ≡ f) ⊎ (e ≡ f → ⊥)
-one_place e f = elim (same_or_not e.proc f.proc) [
-  | inl procs ↦ elim (same_or_not e.at f.at) [
-    | inl ats ↦ inl (place_is e f procs ats)
-    | inr other ↦ inr (λ same. other (ap (λ (g : Place). g.at) same))
-  ]
-  | inr other ↦ inr (λ same. other (ap (λ (g : Place). g.proc) same))
-]
+one_place e f = grind (arith, same_or_not, place_is)
 
 pub each_twins_agree : EachTwinsAgree
 each_twins_agree run = record { before = before; after = after }

@@ -1,6 +1,5 @@
 -- What is in a list to which one more element was appended.
-use Rattle.std.proofs.Common.{◌≡◌, ℕ, zero, suc, ◌+◌, ◌⊎◌, inl, inr, List, [], ◌∷◌, ◌++◌, length, slice_get, Some, refl, ◌∙◌, ap, arith}
-use Rattle.std.proofs.lemmas.List.{length_push}
+use Rattle.totem_evs.proofs.Common.{◌≡◌, ℕ, zero, suc, ◌+◌, ◌⊎◌, inl, inr, List, [], ◌∷◌, ◌++◌, length, slice_get, Some, refl, arith, length_push}
 
 -- nothing is in an empty list
 pub nothing : {X : Type 0} (k : ℕ) (x : X) → slice_get [] k ≡ Some x → ⊥
@@ -27,14 +26,5 @@ pub record Along {X Y : Type 0} (P : X → Y → Type 0) (xs : List X) (ys : Lis
   pub long : length ys ≡ n
   pub each : (k : ℕ) (x : X) (y : Y) → slice_get xs k ≡ Some x → slice_get ys k ≡ Some y → P x y
 
-pub along_none : {X Y : Type 0} (P : X → Y → Type 0) (xs : List X) → Along P xs [] 0
-along_none P xs = record { long = refl; each = λ k x y at here. absurd (nothing k y here) }
-
 pub along_more : {X Y : Type 0} (P : X → Y → Type 0) (xs : List X) (ys : List Y) (n : ℕ) (x : X) (y : Y) → slice_get xs n ≡ Some x → P x y → Along P xs ys n → Along P xs (ys ++ (y ∷ [])) (n + 1)
-along_more P xs ys n x y at holds before = record {
-  long = length_push ys y ∙ ap (λ m. m + 1) before.long;
-  each = λ k a b at_k here. elim (before_push ys y k b here) [
-    | inl old ↦ before.each k a b at_k old
-    | inr (last, same) ↦ (let there : slice_get xs n ≡ Some a = rw (last, before.long) at at_k in let one : x ≡ a = cc in rw (← one, ← same) holds)
-  ];
-}
+along_more P xs ys n x y at holds before = grind (arith, length_push, before_push)

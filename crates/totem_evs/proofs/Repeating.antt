@@ -1,20 +1,12 @@
 -- An entry whose line repeats, as the next part of a run.
-use Rattle.std.specs.Prelude.{Contains, ◌↔◌, ◌==◌, nat_lt}
-use Rattle.std.proofs.Common.{refl, ◌≡◌, ◌⊎◌, ℕ, List, [], false, inl, inr, Option, Some, Ok, sym, subst, arith}
-use Rattle.totem_names.specs.Sources.{Seen, Comes}
-use Rattle.totem_names.specs.declared.version.Version.{Version}
-use Rattle.totem_names.proofs.Readers.{begins, called}
+use Rattle.totem_evs.proofs.Common.{Contains, ◌↔◌, ◌==◌, nat_lt, refl, ◌≡◌, ◌⊎◌, ℕ, List, [], false, inl, inr, Option, Some, Ok, sym, subst, arith, Seen, Comes, Version, begins, called, members_of, ReadState, IsReadState, ComesIn, MayCome, HasPart, IsEntry}
 use Rattle.totem_evs.specs.declared.entry.Entry.{Entry}
 use Rattle.totem_evs.specs.declared.lines.Line.TheVariants as lines
 use Rattle.totem_evs.specs.declared.part.Part.TheVariants as parts
 use Rattle.totem_evs.specs.declared.stage.OpenLog.{OpenLog}
 use Rattle.totem_evs.specs.declared.stage.Stage.{Stage}
-use Rattle.totem_evs.specs.Missing.{members_of}
 use Rattle.totem_evs.specs.Parts.{next_at, next_stage, within_at}
-use Rattle.totem_evs.specs.ReadState.{ReadState, IsReadState, ComesIn, MayCome}
-use Rattle.totem_evs.specs.Reading.{HasPart}
 use Rattle.totem_evs.specs.RunGrammar.{by_line, line_at}
-use Rattle.totem_evs.specs.Runs.{IsEntry}
 use Rattle.totem_evs.proofs.States.{state_entry}
 
 -- the line of an entry, in a log that is not full

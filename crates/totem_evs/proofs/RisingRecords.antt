@@ -1,10 +1,6 @@
 -- Ascending lists, from left to right: records by their processes, members by their identifiers.
-use Rattle.std.specs.Prelude.{AllPairs}
-use Rattle.std.specs.List.{AllByRecursion}
-use Rattle.std.proofs.Common.{ℕ, suc, ◌<◌, ◌≤◌, List, [], ◌∷◌, length, arith}
+use Rattle.totem_evs.proofs.Common.{AllPairs, ℕ, suc, ◌<◌, ◌≤◌, List, [], ◌∷◌, length, arith, AllByRecursion, All-from_recursion, recursion_from_All, but_last}
 use Rattle.std.proofs.lemmas.List.Kept.{AllPairs-cons}
-use Rattle.std.proofs.lemmas.List.Elements.{All-from_recursion, recursion_from_All}
-use Rattle.totem_evs.specs.TextFronts.{but_last}
 
 -- above `last`, ascending, and each of this kind
 abbrev pub RecordsRise : {R : Type 0} → (R → ℕ) → (R → Type 0) → ℕ → List R → Type 0

@@ -1,14 +1,5 @@
 -- Where the text of a run is too short, some text continues it.
-use Rattle.totem_evs.specs.RunRecord.{RunRecord}
-use Rattle.totem_evs.specs.Endings.{writes_quiet}
-use Rattle.totem_names.specs.declared.version.Version.{Version}
-use Rattle.totem_names.specs.Processes.{process_text, IsProcessIn}
-use Rattle.std.specs.Prelude.{◌==◌}
-use Rattle.std.proofs.Common.{◌≡◌, ℕ, zero, suc, ◌<◌, List, [], ◌∷◌, ◌++◌, Option, Some, None, Ok, Err, Bool, true, false, refl, sym, ◌∙◌, ap, append_assoc, arith}
-use Rattle.std.proofs.lemmas.Bool.Decides.{nat_tests}
-use Rattle.std.proofs.lemmas.List.{append-nil}
-use Rattle.totem_names.specs.declared.conf.ConfId.TheVariants.{Regular}
-use Rattle.totem_names.specs.declared.fault.TextFault.{TextFault}
+use Rattle.totem_evs.proofs.Common.{◌==◌, ◌≡◌, ℕ, zero, suc, ◌<◌, List, [], ◌∷◌, ◌++◌, Option, Some, None, Ok, Err, Bool, true, false, refl, sym, ◌∙◌, ap, append_assoc, arith, RunRecord, writes_quiet, Version, process_text, IsProcessIn, nat_tests, append-nil, Regular, TextFault, line, entry_text, ending_text, header_text, run_text, IsFront, IsLooseEntry, IsLooseLog, IsLooseRun, IsLooseFront, IsFirstWrong}
 use Rattle.totem_names.specs.declared.fault.TextFault.TheVariants as faults
 use Rattle.totem_names.specs.Sources.{Parsed, Follows, FirstBreak, is_short, ◌>>=◌}
 use Rattle.totem_evs.specs.declared.entry.Entry.{Entry}
@@ -18,10 +9,8 @@ use Rattle.totem_evs.specs.declared.ending.Ending.TheVariants.{Failed}
 use Rattle.totem_evs.specs.declared.lines.Line.{Line}
 use Rattle.totem_evs.specs.declared.lines.Line.TheVariants as lines
 use Rattle.totem_evs.specs.declared.log.Log.{Log}
-use Rattle.totem_evs.specs.RunText.{line, entry_text, ending_text, header_text, run_text}
 use Rattle.totem_evs.specs.Heads.{records_at, head_at, by_head, header_at}
 use Rattle.totem_evs.specs.RunGrammar.{is_failure, line_at, by_line, lines_at, log_at, run_words, logs_at, run_at}
-use Rattle.totem_evs.specs.TextFronts.{IsFront, IsLooseEntry, IsLooseLog, IsLooseRun, IsLooseFront, IsFirstWrong}
 use Rattle.totem_evs.proofs.LooseFrom.{EachLoosely, entry_loosely, loose_entries, LooseLogsFrom, log_loosely, is_loose_run}
 use Rattle.totem_evs.proofs.SpelledLine.{IsLineOf, IsLine, line_text, line_is}
 use Rattle.totem_evs.proofs.SpelledLog.{entries_text, body_text, ends_in_failure, ending_if, ends_if, IsBodyOf, closing, closed_by, word_so, some_of, log_is}
@@ -71,12 +60,7 @@ lines_cut version (suc room) some failed bytes more so =
 -- ---- a log
 
 made_log : (version : Version) (p : ℕ) (es : List Entry) (ending : Ending) → IsProcessIn version p → IsBodyOf (EachLoosely version) (writes_quiet version) 1000001 false false es ending → IsLooseLog version (record { proc = p; entries = es; ending = ending })
-made_log version p es ending process body = record {
-  process = process;
-  entries = loose_entries version es (some_of es body.has) (omega (arith, body.few)) body.entries;
-  ending = closed_by (writes_quiet version) es ending body.ends;
-  word = word_so version (ends_in_failure false es) ending body.ends;
-}
+made_log version p es ending process body = grind (arith, loose_entries, some_of, closed_by, word_so, ends_in_failure)
 
 abbrev pub LogTo : Version → ℕ → List ℕ → Type 0
 LogTo version p t = (log : Log) × IsLooseLog version log × (log.proc ≡ p) × (t ≡ body_text version log.entries log.ending [])
@@ -96,9 +80,7 @@ body_more : (version : Version) (es : List Entry) (ending : Ending) (rest : List
 body_more version es ending rest = append_assoc (entries_text version es) (line (ending_text ending) ++ []) rest ∙ ap (λ (k : List ℕ). entries_text version es ++ k) (append_assoc (line (ending_text ending)) [] rest)
 
 joined : (version : Version) (p : ℕ) (log : Log) (logs : List Log) (t : List ℕ) → log.proc ≡ p → t ≡ logs_text version logs [] → head_text run_words version (Some p) ++ (body_text version log.entries log.ending [] ++ t) ≡ logs_text version (log ∷ logs) []
-joined version p log logs t same e =
-    ap (λ (k : List ℕ). head_text run_words version (Some p) ++ k) (body_more version log.entries log.ending t ∙ ap (λ (k : List ℕ). body_text version log.entries log.ending k) e)
-    ∙ ap (λ (k : ℕ). head_text run_words version (Some k) ++ body_text version log.entries log.ending (logs_text version logs [])) (sym same) ∙ sym (logs_parts version log logs [])
+joined version p log logs t same e = grind (arith, head_text, body_more, body_text, logs_text, logs_parts)
 
 -- a log of one failure
 first_log : ℕ → Log

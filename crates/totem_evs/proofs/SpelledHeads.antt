@@ -1,17 +1,8 @@
 -- What is read is spelled so, and what is spelled so is read: a first line, and the beginning of a record.
-use Rattle.std.specs.Prelude.{nat_le, ◌==◌, ◌&&◌, codes}
-use Rattle.std.proofs.Common.{◌≡◌, ℕ, ◌<◌, inl, inr, List, [], ◌∷◌, ◌++◌, Option, Some, None, Ok, Err, Bool, true, false, cond, refl, sym, ◌∙◌, ap, append_assoc, arith, rules}
-use Rattle.std.proofs.lemmas.Bool.{eqb-true}
-use Rattle.std.proofs.lemmas.Bool.Decides.{nat_tests}
-use Rattle.totem_names.specs.declared.version.Version.{Version}
-use Rattle.totem_names.specs.declared.version.Version.TheVariants.{One, Two, Three}
+use Rattle.totem_evs.proofs.Common.{nat_le, ◌==◌, ◌&&◌, codes, ◌≡◌, ℕ, ◌<◌, inl, inr, List, [], ◌∷◌, ◌++◌, Option, Some, None, Ok, Err, Bool, true, false, cond, refl, sym, ◌∙◌, ap, append_assoc, arith, rules, eqb-true, nat_tests, Version, One, Two, Three, ◌>>=◌, process_then_is, process_then_again, after, taken, guard_then, guard_else, parsed_is, byte_is, word_is, word_again, line, version_digit}
 use Rattle.totem_names.specs.declared.fault.TextFault.TheVariants as faults
-use Rattle.totem_names.specs.Sources.{◌>>=◌}
 use Rattle.totem_names.specs.Numbers.{is_digit, byte_at, word_at}
 use Rattle.totem_names.specs.Processes.{process_text, process_then, IsProcessIn}
-use Rattle.totem_names.proofs.Lives.{process_then_is, process_then_again}
-use Rattle.totem_names.proofs.Spelled.{after, taken, guard_then, guard_else, parsed_is, byte_is, word_is, word_again}
-use Rattle.totem_evs.specs.RunText.{line, version_digit}
 use Rattle.totem_evs.specs.Heads.{Words, HasVersion, first_line, proc_at, begin_at, end_at, head_at, header_end, header_at}
 use Rattle.totem_evs.proofs.SpelledLine.{not_within}
 
@@ -89,9 +80,7 @@ same_byte n = search rules
 
 begin_again : (words : Words) (version : Version) (last p : ℕ) (rest : List ℕ) → IsClear words → last < p → IsProcessIn version p → begin_at words version false last (words.word ++ (process_text version p ++ words.behind ∷ rest)) ≡ Ok (Some p, rest)
 unfolding begin_at proc_at
-begin_again words version last p rest clear lt fits =
-    let above : nat_le p last ≡ false = grind (arith, nat_tests) in
-    rw (word_again faults.Word words.word (process_text version p ++ words.behind ∷ rest), process_then_again version p words.behind rest clear.behind fits, above) (rw (same_byte words.behind) refl)
+begin_again words version last p rest clear lt fits = grind (arith, nat_tests, word_again, process_then_again, same_byte)
 
 end_again : (rest : List ℕ) → end_at (codes "nd" ++ 10 ∷ rest) ≡ Ok (None, rest)
 unfolding end_at
@@ -147,6 +136,4 @@ end_of version rest = refl
 
 pub header_again : (words : Words) (version : Version) (rest : List ℕ) → HasVersion words version → header_at words (first_line words version ++ rest) ≡ Ok (version, rest)
 unfolding header_at
-header_again words One rest has = rw (first_parts words One rest) (rw (word_again faults.Header words.title (49 ∷ 10 ∷ rest)) (end_of One rest))
-header_again words Two rest has = rw (first_parts words Two rest) (rw (word_again faults.Header words.title (50 ∷ 10 ∷ rest)) (end_of Two rest))
-header_again words Three rest has = rw (first_parts words Three rest) (rw (word_again faults.Header words.title (51 ∷ 10 ∷ rest)) (rw has (end_of Three rest)))
+header_again words version rest h = grind (arith, first_parts, word_again, end_of)

@@ -1,33 +1,16 @@
 -- What is read is spelled so, and what is spelled so is read: the lines of a log.
-use Rattle.totem_names.specs.declared.version.Version.{Version}
+use Rattle.totem_evs.proofs.Common.{nat_le, ◌==◌, codes, not, ◌&&◌, ◌≡◌, ℕ, zero, suc, ◌<◌, inl, inr, List, [], ◌∷◌, ◌++◌, Ok, Err, Bool, true, false, cond, refl, sym, ◌∙◌, ap, append_assoc, arith, Version, id_of, process_then_is, process_then_again, eqb-true, append-nil, nat_tests, ConfId, MessageName, ◌>>=◌, conf_text, message_text, service_text, IsConf, IsMessage, service_is, service_again, after, taken, guard_then, guard_else, parsed_is, byte_is, word_is, word_again, conf_is, conf_again, message_is, message_again, IsMembersIn, writes_quiet, IsEntryIn, line, members_text, entry_text, ending_text}
 use Rattle.totem_names.specs.Processes.{process_text, process_then, IsProcessIn}
-use Rattle.totem_names.specs.Ranks.{id_of}
-use Rattle.totem_names.proofs.Lives.{process_then_is, process_then_again}
-use Rattle.std.specs.Prelude.{nat_le, ◌==◌, codes, not, ◌&&◌}
-use Rattle.std.proofs.Common.{◌≡◌, ℕ, zero, suc, ◌<◌, inl, inr, List, [], ◌∷◌, ◌++◌, Ok, Err, Bool, true, false, cond, refl, sym, ◌∙◌, ap, append_assoc, arith}
-use Rattle.std.proofs.lemmas.Bool.{eqb-true}
-use Rattle.std.proofs.lemmas.List.{append-nil}
-use Rattle.std.proofs.lemmas.Bool.Decides.{nat_tests}
 use Rattle.totem_names.specs.declared.fault.TextFault.TheVariants as faults
-use Rattle.totem_names.specs.declared.conf.ConfId.{ConfId}
 use Rattle.totem_names.specs.declared.message.Service.{Service}
-use Rattle.totem_names.specs.Names.{MessageName}
-use Rattle.totem_names.specs.Sources.{◌>>=◌}
 use Rattle.totem_names.specs.Numbers.{byte_at, word_at}
 use Rattle.totem_names.specs.Parsers.{conf_at, message_at}
 use Rattle.totem_names.specs.Services.{service_at}
-use Rattle.totem_names.specs.Texts.{conf_text, message_text, service_text, IsConf, IsMessage}
-use Rattle.totem_names.proofs.ServiceSpelling.{service_is, service_again}
-use Rattle.totem_names.proofs.Spelled.{after, taken, guard_then, guard_else, parsed_is, byte_is, word_is, word_again, conf_is, conf_again, message_is, message_again}
 use Rattle.totem_evs.specs.declared.entry.Entry.{Entry}
 use Rattle.totem_evs.specs.declared.entry.Entry.TheVariants.{Conf, Send, Deliver, Fail}
 use Rattle.totem_evs.specs.declared.ending.Ending.TheVariants.{Standing, Failed, Quiet}
 use Rattle.totem_evs.specs.declared.lines.Line.{Line}
 use Rattle.totem_evs.specs.declared.lines.Line.TheVariants as lines
-use Rattle.totem_evs.specs.Members.{IsMembersIn}
-use Rattle.totem_evs.specs.Endings.{writes_quiet}
-use Rattle.totem_evs.specs.Runs.{IsEntryIn}
-use Rattle.totem_evs.specs.RunText.{line, members_text, entry_text, ending_text}
 use Rattle.totem_evs.specs.RunGrammar.{members_at, change_at, send_at, delivery_at, open_at, quiet_at, failed_at, fail_at, ail_at, failure_at, line_at}
 use Rattle.totem_evs.proofs.FromLeft.{MembersFrom, are_members, members_from}
 

@@ -1,23 +1,12 @@
 -- What is read is spelled so, and what is spelled so is read: a log.
-use Rattle.totem_names.specs.declared.version.Version.{Version}
-use Rattle.totem_names.specs.Processes.{process_text, IsProcessIn}
-use Rattle.std.specs.Prelude.{◌==◌, slice_get}
-use Rattle.std.specs.List.{flat_map, AllByRecursion}
-use Rattle.std.proofs.Common.{◌≡◌, ℕ, zero, suc, ◌+◌, ◌<◌, List, [], ◌∷◌, ◌++◌, length, Some, Ok, Bool, true, false, cond, refl, sym, ◌∙◌, ap, append_assoc, arith}
-use Rattle.std.proofs.lemmas.List.Elements.{All-from_recursion, recursion_from_All}
-use Rattle.std.proofs.lemmas.Bool.Decides.{nat_tests}
-use Rattle.totem_names.specs.Sources.{Parsed, ◌>>=◌}
-use Rattle.totem_names.proofs.Spelled.{after, parsed_is}
+use Rattle.std.proofs.lemmas.Grind.{common_steps}
+use Rattle.totem_evs.proofs.Common.{◌==◌, slice_get, ◌≡◌, ℕ, zero, suc, ◌+◌, ◌<◌, List, [], ◌∷◌, ◌++◌, length, Some, Ok, Bool, true, false, cond, refl, sym, ◌∙◌, ap, append_assoc, arith, Version, process_text, IsProcessIn, flat_map, AllByRecursion, recursion_from_All, nat_tests, Parsed, ◌>>=◌, after, parsed_is, writes_quiet, IsEndingIn, IsEntryIn, IsFailure, EndsInFail, IsClosedBy, IsLogIn, line, entry_text, ending_text}
 use Rattle.totem_evs.specs.declared.entry.Entry.{Entry}
-use Rattle.totem_evs.specs.declared.entry.Entry.TheVariants.{Conf, Send, Deliver, Fail}
 use Rattle.totem_evs.specs.declared.ending.Ending.{Ending}
 use Rattle.totem_evs.specs.declared.ending.Ending.TheVariants.{Standing, Failed, Quiet}
 use Rattle.totem_evs.specs.declared.lines.Line.{Line}
 use Rattle.totem_evs.specs.declared.lines.Line.TheVariants as lines
 use Rattle.totem_evs.specs.declared.log.Log.{Log}
-use Rattle.totem_evs.specs.Endings.{writes_quiet, IsEndingIn}
-use Rattle.totem_evs.specs.Runs.{IsEntryIn, IsFailure, EndsInFail, IsClosedBy, IsLogIn}
-use Rattle.totem_evs.specs.RunText.{line, entry_text, ending_text}
 use Rattle.totem_evs.specs.RunGrammar.{is_failure, line_at, by_line, lines_at, log_at}
 use Rattle.totem_evs.proofs.SpelledLine.{IsLineOf, IsLine, line_is, line_again}
 
@@ -32,16 +21,10 @@ abbrev pub ending_if : Bool → Ending
 ending_if failed = cond failed Failed Standing
 
 failure_is_one : (e : Entry) → IsFailure e → is_failure e ≡ true
-failure_is_one (Conf x members) h = absurd h
-failure_is_one (Send m x service) h = absurd h
-failure_is_one (Deliver m x) h = absurd h
-failure_is_one (Fail x) h = refl
+failure_is_one e h = grind arith
 
 one_is_failure : (e : Entry) → is_failure e ≡ true → IsFailure e
-one_is_failure (Conf x members) h = absurd cc
-one_is_failure (Send m x service) h = absurd cc
-one_is_failure (Deliver m x) h = absurd cc
-one_is_failure (Fail x) h = tt
+one_is_failure e h = grind arith
 
 -- the last entry is a failure, and the test says so
 last_fails : (before : Bool) (es : List Entry) (i : ℕ) (last : Entry) → length es ≡ i + 1 → slice_get es i ≡ Some last → IsFailure last → ends_in_failure before es ≡ true
@@ -77,9 +60,7 @@ closed_by written (e ∷ es) Failed h = (λ f. fails_last e es h, λ found. refl
 
 -- texts have the word
 pub word_so : (version : Version) (failed : Bool) (ending : Ending) → EndsSo (writes_quiet version) failed ending → IsEndingIn version ending
-word_so version failed Standing h = tt
-word_so version failed Failed h = tt
-word_so version failed Quiet h = h.0
+word_so version failed ending h = grind arith
 
 pub closes_by : (version : Version) (es : List Entry) (ending : Ending) → 0 < length es → IsClosedBy es ending → IsEndingIn version ending → EndsSo (writes_quiet version) (ends_in_failure false es) ending
 closes_by version [] ending some h word = absurd (omega (arith, some))
@@ -114,9 +95,7 @@ IsBody version room some failed es ending = IsBodyOf (AllByRecursion (IsEntryIn 
 
 pub closing : (E : Entry → Type 0) (Each : List Entry → Type 0) (none : Each []) (written : Bool) (room : ℕ) (full some failed : Bool) (ending : Ending) → (failed ≡ true → some ≡ true) → IsLineOf E written full some failed (lines.Close ending)
     → IsBodyOf Each written (suc room) some failed [] ending
-closing E Each none written room full some failed Standing so is = record { few = omega arith; entries = none; has = is.0; ends = is.1 }
-closing E Each none written room full some failed Failed so is = record { few = omega arith; entries = none; has = so is; ends = is }
-closing E Each none written room full some failed Quiet so is = record { few = omega arith; entries = none; has = is.1; ends = (is.0, is.2) }
+closing E Each none written room full some failed ending h k = grind arith
 
 pub lines_is : (version : Version) (room : ℕ) (some failed : Bool) (es : List Entry) (ending : Ending) (bytes rest : List ℕ) → (failed ≡ true → some ≡ true) → lines_at version room some failed bytes ≡ Ok ((es, ending), rest)
     → IsBody version room some failed es ending × (bytes ≡ entries_text version es ++ (line (ending_text ending) ++ rest))
@@ -182,12 +161,7 @@ some_of (e ∷ es) h = omega arith
 
 -- a log is made of what was read
 pub made_log : (version : Version) (p : ℕ) (es : List Entry) (ending : Ending) → IsProcessIn version p → IsBody version 1000001 false false es ending → IsLogIn version (record { proc = p; entries = es; ending = ending })
-made_log version p es ending proc body = record {
-  process = proc;
-  entries = record { some = some_of es body.has; few = omega (arith, body.few); each = All-from_recursion (IsEntryIn version) es body.entries };
-  ending = closed_by (writes_quiet version) es ending body.ends;
-  word = word_so version (ends_in_failure false es) ending body.ends;
-}
+made_log version p es ending proc body = grind (arith, common_steps, some_of, closed_by, word_so)
 
 pub log_is : (version : Version) (p : ℕ) (log : Log) (bytes rest : List ℕ) → IsProcessIn version p → log_at version p bytes ≡ Ok (log, rest) → IsLogIn version log × (log.proc ≡ p) × (bytes ≡ body_text version log.entries log.ending rest)
 unfolding log_at
@@ -201,15 +175,4 @@ log_is version p log bytes rest proc e =
 
 pub log_again : (version : Version) (log : Log) (rest : List ℕ) → IsLogIn version log → log_at version log.proc (body_text version log.entries log.ending rest) ≡ Ok (log, rest)
 unfolding log_at
-log_again version log rest is =
-    let body : IsBody version 1000001 false false log.entries log.ending = record {
-      few = omega (arith, is.entries.few);
-      entries = recursion_from_All (IsEntryIn version) log.entries is.entries.each;
-      has = has_of log.entries is.entries.some;
-      ends = closes_by version log.entries log.ending is.entries.some is.ending is.word;
-    } in
-    rw (lines_again version 1000001 false false log.entries log.ending rest body) refl
-  where
-    has_of : (es : List Entry) → 0 < length es → has_some false es ≡ true
-    has_of [] h = absurd (omega arith)
-    has_of (e ∷ es) h = refl
+log_again version log rest is = grind (arith, recursion_from_All, closes_by, lines_again)

@@ -1,16 +1,10 @@
 -- What is read as a part is spelled as that part, and so are all parts that are read one after the other.
-use Rattle.totem_names.specs.declared.version.Version.{Version}
-use Rattle.totem_names.specs.Processes.{process_text}
-use Rattle.std.specs.Prelude.{nat_lt, ◌==◌, codes}
-use Rattle.std.specs.List.{flat_map}
-use Rattle.std.proofs.Common.{◌≡◌, ℕ, List, [], ◌∷◌, ◌++◌, Bool, Option, Some, None, Ok, refl, sym, ap, ◌∙◌, append_assoc}
-use Rattle.totem_names.proofs.Spelled.{after, parsed_is}
+use Rattle.totem_evs.proofs.Common.{nat_lt, ◌==◌, codes, ◌≡◌, ℕ, List, [], ◌∷◌, ◌++◌, Bool, Option, Some, None, Ok, refl, sym, ap, ◌∙◌, append_assoc, Version, process_text, flat_map, after, parsed_is, line}
 use Rattle.totem_evs.specs.declared.lines.Line.{Line}
 use Rattle.totem_evs.specs.declared.lines.Line.TheVariants as lines
 use Rattle.totem_evs.specs.declared.part.Part.{Part}
 use Rattle.totem_evs.specs.declared.part.Part.TheVariants as parts
 use Rattle.totem_evs.specs.declared.stage.OpenLog.{OpenLog}
-use Rattle.totem_evs.specs.RunText.{line}
 use Rattle.totem_evs.specs.RunGrammar.{line_at, by_line, run_words}
 use Rattle.totem_evs.specs.Heads.{head_at, by_head}
 use Rattle.totem_evs.specs.Parts.{begun_at, within_at, next_at, next_stage, part_text}

@@ -1,18 +1,6 @@
 -- What is read is spelled so, and what is spelled so is read: a run.
-use Rattle.totem_evs.specs.RunRecord.{RunRecord}
-use Rattle.totem_names.specs.declared.version.Version.{Version}
-use Rattle.totem_names.specs.declared.version.Version.TheVariants.{One, Two, Three}
-use Rattle.totem_names.specs.Processes.{process_text}
-use Rattle.std.specs.Prelude.{◌==◌, codes}
-use Rattle.std.specs.List.{flat_map}
-use Rattle.std.proofs.Common.{◌≡◌, ℕ, zero, suc, ◌<◌, List, [], ◌∷◌, ◌++◌, Option, Some, None, Ok, Err, false, refl, sym, ◌∙◌, ap, subst, append_assoc, arith}
-use Rattle.std.proofs.lemmas.Bool.Decides.{nat_tests}
-use Rattle.totem_names.specs.declared.fault.TextFault.{TextFault}
-use Rattle.totem_names.specs.Sources.{Parsed, ◌>>=◌}
-use Rattle.totem_names.proofs.Spelled.{after, parsed_is}
+use Rattle.totem_evs.proofs.Common.{◌==◌, codes, ◌≡◌, ℕ, zero, suc, ◌<◌, List, [], ◌∷◌, ◌++◌, Option, Some, None, Ok, Err, false, refl, sym, ◌∙◌, ap, subst, append_assoc, arith, RunRecord, Version, process_text, flat_map, nat_tests, TextFault, Parsed, ◌>>=◌, after, parsed_is, IsLogIn, IsRunOf, line, ending_text, log_text, header_text, run_text}
 use Rattle.totem_evs.specs.declared.log.Log.{Log}
-use Rattle.totem_evs.specs.Runs.{IsLogIn, IsRunOf}
-use Rattle.totem_evs.specs.RunText.{line, ending_text, log_text, header_text, run_text}
 use Rattle.totem_evs.specs.Heads.{records_at, HasVersion, head_at, by_head, header_at}
 use Rattle.totem_evs.specs.RunGrammar.{run_words, log_at, logs_at, run_at}
 use Rattle.totem_evs.proofs.FromLeft.{LogsFrom, is_run, run_from}
@@ -78,9 +66,7 @@ logs_again version (suc room) last (log ∷ logs) rest is =
 -- ---- runs
 
 pub run_parts : (run : RunRecord) (rest : List ℕ) → run_text run ++ rest ≡ header_text run.version ++ logs_text run.version run.logs rest
-run_parts run rest =
-    append_assoc (header_text run.version ++ flat_map (log_text (process_text run.version)) run.logs) (line (codes "end")) rest
-    ∙ append_assoc (header_text run.version) (flat_map (log_text (process_text run.version)) run.logs) (line (codes "end") ++ rest)
+run_parts run rest = grind (arith, append_assoc)
 
 -- what is read is spelled so
 pub run_is : (run : RunRecord) (bytes rest : List ℕ) → run_at bytes ≡ Ok (run, rest) → IsRunOf run × (bytes ≡ run_text run ++ rest)
@@ -98,9 +84,7 @@ run_is run bytes rest e =
 
 -- there are runs of each version
 each_version : (version : Version) → HasVersion run_words version
-each_version One = tt
-each_version Two = tt
-each_version Three = refl
+each_version version = grind arith
 
 -- what is spelled so is read
 pub run_again : (run : RunRecord) (rest : List ℕ) → IsRunOf run → run_at (run_text run ++ rest) ≡ Ok (run, rest)

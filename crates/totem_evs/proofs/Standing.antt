@@ -1,10 +1,7 @@
 -- A log is in one configuration at a time.
-use Rattle.std.proofs.Common.{◌≡◌, ℕ, ◌<◌, ◌⊎◌, inl, inr, List, slice_get, Some, arith}
-use Rattle.totem_names.specs.declared.conf.ConfId.{ConfId}
+use Rattle.totem_evs.proofs.Common.{◌≡◌, ℕ, ◌<◌, ◌⊎◌, inl, inr, List, slice_get, Some, arith, ConfId, ChangesTo, StandsIn}
 use Rattle.totem_evs.specs.declared.entry.Entry.{Entry}
 use Rattle.totem_evs.specs.declared.entry.Entry.TheVariants.{Conf}
-use Rattle.totem_evs.specs.Events.{ChangesTo}
-use Rattle.totem_evs.specs.Changes.{StandsIn}
 
 pub less_or_not : (a b : ℕ) → (a < b) ⊎ ((b < a) ⊎ (a ≡ b))
 less_or_not a b = grind arith

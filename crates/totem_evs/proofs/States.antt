@@ -1,18 +1,11 @@
 -- The state of a reader of parts, part after part.
-use Rattle.std.specs.Prelude.{Contains, ◌↔◌, ◌==◌}
-use Rattle.totem_names.specs.declared.version.Version.{Version}
+use Rattle.totem_evs.proofs.Common.{Contains, ◌↔◌, ◌==◌, ◌≡◌, ◌≢◌, ◌⊎◌, ◌+◌, ◌≤◌, ℕ, List, [], ◌∷◌, ◌++◌, false, Option, Some, None, refl, sym, arith, Version, append-nil, length_push, nat_tests, members_of, next_stage, with_entry, ReadState, IsReadState, Goes, MayCome, ComesIn}
 use Rattle.std.specs.Option.{ForSome}
-use Rattle.std.proofs.Common.{◌≡◌, ◌≢◌, ◌⊎◌, ◌+◌, ◌≤◌, ℕ, List, [], ◌∷◌, ◌++◌, false, Option, Some, None, refl, sym, arith}
-use Rattle.std.proofs.lemmas.List.{append-nil, length_push}
-use Rattle.std.proofs.lemmas.Bool.Decides.{nat_tests}
 use Rattle.totem_evs.specs.declared.ending.Ending.{Ending}
 use Rattle.totem_evs.specs.declared.entry.Entry.{Entry}
 use Rattle.totem_evs.specs.declared.part.Part.TheVariants as parts
 use Rattle.totem_evs.specs.declared.stage.Stage.{Stage}
 use Rattle.totem_evs.specs.declared.stage.OpenLog.{OpenLog}
-use Rattle.totem_evs.specs.Missing.{members_of}
-use Rattle.totem_evs.specs.Parts.{next_stage, with_entry}
-use Rattle.totem_evs.specs.ReadState.{ReadState, IsReadState, Goes, MayCome, ComesIn}
 use Rattle.totem_evs.proofs.Waits.{waits_log, waits_entry, waits_still, waits_apart}
 
 -- below the limit one more is allowed
@@ -24,10 +17,7 @@ logs_left version logs last None p h = h.0
 logs_left version logs last (Some log) p h = absurd h
 
 entries_left : (version : Version) (logs last : ℕ) (log : Option OpenLog) (e : Entry) → ForSome log (λ l. l.entries ≤ 1000000) → ComesIn version logs last log (Some (parts.Entry e)) → ForSome (with_entry log e) (λ l. l.entries ≤ 1000000)
-entries_left version logs last None e few h = λ x is. absurd cc
-entries_left version logs last (Some log) e few h = λ x is.
-    let same : log.entries + 1 ≡ x.entries = cc in
-    omega (arith, below_limit log.entries 1000000 h (few log refl))
+entries_left version logs last log e h k = grind (arith, below_limit)
 
 -- a log begins
 pub state_log : (s : ReadState) (stage : Stage) (begun waiting : List ℕ) (p : ℕ) → IsReadState s → MayCome s.stage (Some (parts.Log p)) → stage ≡ next_stage s.stage (parts.Log p) → begun ≡ s.begun ++ p ∷ []

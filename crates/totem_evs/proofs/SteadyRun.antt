@@ -1,21 +1,12 @@
 -- The result of a run's grammar doesn't change with what follows.
-use Rattle.totem_names.specs.Ranks.{id_of}
-use Rattle.totem_names.specs.declared.version.Version.{Version}
-use Rattle.totem_names.specs.declared.version.Version.TheVariants.{One, Two, Three}
-use Rattle.totem_names.proofs.Lives.{process_then_steady}
-use Rattle.std.specs.Prelude.{◌==◌}
-use Rattle.std.proofs.Common.{◌≡◌, ℕ, zero, suc, List, [], ◌∷◌, Bool, true, false, Option, Some, None, Ok, Err, refl}
-use Rattle.totem_names.specs.declared.fault.TextFault.{TextFault}
+use Rattle.totem_evs.proofs.Common.{◌==◌, ◌≡◌, ℕ, zero, suc, List, [], ◌∷◌, Bool, true, false, Option, Some, None, Ok, Err, refl, id_of, Version, One, Two, Three, process_then_steady, TextFault, Parsed, Steady, FirstBreak, is_short, ◌>>=◌, service_steady, writes_quiet}
 use Rattle.totem_names.specs.declared.fault.TextFault.TheVariants as faults
-use Rattle.totem_names.specs.Sources.{Parsed, Steady, FirstBreak, is_short, ◌>>=◌}
 use Rattle.totem_names.specs.Numbers.{word_at}
-use Rattle.totem_names.proofs.ServiceSpelling.{service_steady}
 use Rattle.totem_names.proofs.Steady.{gives_steady, fault_steady, bind_steady, cond_steady, byte_steady, word_steady, conf_steady, message_steady, first_break}
 use Rattle.totem_evs.specs.declared.entry.Entry.{Entry}
 use Rattle.totem_evs.specs.declared.ending.Ending.{Ending}
 use Rattle.totem_evs.specs.declared.lines.Line.{Line}
 use Rattle.totem_evs.specs.declared.lines.Line.TheVariants as lines
-use Rattle.totem_evs.specs.Endings.{writes_quiet}
 use Rattle.totem_evs.specs.Heads.{records_at, Words, proc_at, begin_at, end_at, head_at, by_head, header_end, header_at}
 use Rattle.totem_evs.specs.RunGrammar.{is_failure, members_at, change_at, send_at, delivery_at, open_at, quiet_at, failed_at, fail_at, ail_at, failure_at, line_at, by_line, lines_at, log_at, run_words, run_at}
 

@@ -1,26 +1,14 @@
 -- What the passes find, and what it means: a run in which they find nothing meets the seven specifications, and the places
 -- of each fault break its specification.
+use Rattle.totem_evs.proofs.Common.{◌≢◌, ◌≡◌, ◌⊎◌, inl, inr, ℕ, zero, suc, ◌<◌, List, [], ◌∷◌, ◌++◌, refl, sym, arith, Contains, All, All-nil, All-cons, RingId, Regular, Transitional, log_of, Sends, Com, DeliversIn, OwnDeliveryIn, SelfDelivery, FailureAtomicity, NoGapsIn, NoGaps, SafetyIn, InstalledIn, SafeDelivery, AtomicityIn, CausalityIn, MeetsIn, Numbering, Certified, Breaks, Yes, No, ListsCycle, HasCertificate, Meets, MeetsPasses, Lists, ListsRings, ListsEach, ListsConfigurations, IsRing, AreRings, pass_a, pass_b, specs_d}
 use Rattle.totem_evs.specs.Meanings.{AnswersAreSound}
 use Rattle.totem_evs.proofs.Consistent.{breaks}
-use Rattle.std.proofs.Common.{◌≢◌, ◌≡◌, ◌⊎◌, inl, inr, ℕ, zero, suc, ◌<◌, List, [], ◌∷◌, ◌++◌, refl, sym, arith}
-use Rattle.std.specs.Prelude.{Contains, All}
-use Rattle.std.proofs.lemmas.List.Elements.{All-nil, All-cons}
-use Rattle.totem_names.specs.declared.ring.RingId.{RingId}
-use Rattle.totem_names.specs.declared.conf.ConfId.TheVariants.{Regular, Transitional}
 use Rattle.totem_evs.specs.declared.log.Log.{Log}
 use Rattle.totem_evs.specs.declared.fault.Fault.{Fault}
 use Rattle.totem_evs.specs.declared.spec.SpecNo.{SpecNo}
 use Rattle.totem_evs.specs.declared.spec.SpecNo.TheVariants as spec
-use Rattle.totem_evs.specs.Events.{log_of, Sends}
-use Rattle.totem_evs.specs.Following.{Com, DeliversIn}
-use Rattle.totem_evs.specs.Agreement.{OwnDeliveryIn, SelfDelivery, FailureAtomicity, NoGapsIn, NoGaps, SafetyIn, InstalledIn, SafeDelivery}
 use Rattle.totem_evs.specs.OneHop.{OneHopIsFine}
 use Rattle.totem_evs.specs.Synchrony.{IsVirtuallySynchronous}
-use Rattle.totem_evs.specs.RingAgreement.{AtomicityIn, CausalityIn}
-use Rattle.totem_evs.specs.RingFaults.{MeetsIn}
-use Rattle.totem_evs.specs.Certificates.{Numbering, Certified}
-use Rattle.totem_evs.specs.Faults.{Breaks}
-use Rattle.totem_evs.specs.Answers.{Yes, No, ListsCycle, HasCertificate, Meets, MeetsPasses, Lists, ListsRings, ListsEach, ListsConfigurations, IsRing, AreRings, pass_a, pass_b, specs_d}
 use Rattle.totem_evs.proofs.Ordered.{ordered}
 use Rattle.totem_evs.proofs.Precedence.{each_log_ordered, each_twins_agree}
 use Rattle.totem_evs.proofs.Causal.{place}

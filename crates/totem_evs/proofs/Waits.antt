@@ -1,12 +1,5 @@
 -- Which members wait for a log, part after part.
-use Rattle.std.specs.Prelude.{Contains, IsTrue, ◌↔◌}
-use Rattle.std.proofs.Common.{take, ◌<◌, ◌+◌, length, get_or, ap, sym, ◌∙◌, ◌≡◌, ◌≢◌, ◌⊎◌, ℕ, List, [], ◌∷◌, ◌++◌, Bool, true, false, inl, inr, refl, subst, arith}
-use Rattle.std.proofs.lemmas.List.{take_more}
-use Rattle.std.proofs.lemmas.List.Elements.{Contains-push, Contains-push_cases, Contains-append_left}
-use Rattle.totem_evs.specs.declared.entry.Entry.{Entry}
-use Rattle.totem_evs.specs.declared.entry.Entry.TheVariants.{Conf, Send, Deliver, Fail}
-use Rattle.totem_evs.specs.Runs.{IsFailure}
-use Rattle.totem_evs.specs.RunGrammar.{is_failure}
+use Rattle.totem_evs.proofs.Common.{Contains, ◌↔◌, take, ◌<◌, ◌+◌, length, get_or, ap, sym, ◌∙◌, ◌≡◌, ◌≢◌, ◌⊎◌, ℕ, List, [], ◌∷◌, ◌++◌, inl, inr, subst, arith, take_more, Contains-push, Contains-push_cases, Contains-append_left}
 
 -- nothing is in the empty list
 pub in_none : (q : ℕ) → Contains [] q → ⊥
@@ -68,17 +61,6 @@ waits_same waited begun ms waiting p h has q = (
     | inr new ↦ elim (Contains-push_cases ms p q new.0) [ inl old ↦ (h q).1 (inr (old, new.1)) | inr same ↦ absurd (new.1 (subst (λ (x : ℕ). Contains begun x) same has)) ]
   ]),
 )
-
--- the test of a failure, as a relation and as a function
-pub failure_is : (e : Entry) (b : Bool) → IsTrue b ↔ IsFailure e → b ≡ is_failure e
-failure_is (Conf x ms) true h = absurd (h.0 refl)
-failure_is (Conf x ms) false h = refl
-failure_is (Send m x s) true h = absurd (h.0 refl)
-failure_is (Send m x s) false h = refl
-failure_is (Deliver m x) true h = absurd (h.0 refl)
-failure_is (Deliver m x) false h = refl
-failure_is (Fail x) true h = refl
-failure_is (Fail x) false h = absurd (let k = h.1 tt in cc)
 
 -- one element more
 pub taken_more : (xs : List ℕ) (i x : ℕ) → i < length xs → x ≡ get_or xs i x → take (i + 1) xs ≡ take i xs ++ x ∷ []

@@ -1,21 +1,10 @@
 -- A run that a text of one version can write, and one with any lives and endings.
-use Rattle.std.proofs.Common.{◌≡◌, ℕ, List, false, refl}
-use Rattle.std.specs.Prelude.{◌≢◌, All}
-use Rattle.totem_names.specs.declared.version.Version.{Version}
-use Rattle.totem_names.specs.declared.version.Version.TheVariants.{One, Two, Three}
-use Rattle.totem_names.specs.Processes.{writes_lives, IsProcessIn}
-use Rattle.totem_names.specs.Ranks.{life_of}
+use Rattle.std.proofs.Common.{arith}
+use Rattle.totem_evs.proofs.Common.{◌≡◌, ℕ, List, false, ◌≢◌, All, Version, One, Two, Three, writes_lives, IsProcessIn, life_of, writes_quiet, IsEndingIn, IsMembersIn, members_of, IsEntryIn, IsLogIn, IsRunIn, IsRunOf, RunRecord, AreFirst, AreLoud, HasFirstLives, IsFirstVersion}
 use Rattle.totem_evs.specs.declared.entry.Entry.{Entry}
-use Rattle.totem_evs.specs.declared.entry.Entry.TheVariants.{Conf, Send, Deliver, Fail}
 use Rattle.totem_evs.specs.declared.ending.Ending.{Ending}
-use Rattle.totem_evs.specs.declared.ending.Ending.TheVariants.{Standing, Failed, Quiet}
+use Rattle.totem_evs.specs.declared.ending.Ending.TheVariants.{Quiet}
 use Rattle.totem_evs.specs.declared.log.Log.{Log}
-use Rattle.totem_evs.specs.Endings.{writes_quiet, IsEndingIn}
-use Rattle.totem_evs.specs.Members.{IsMembersIn}
-use Rattle.totem_evs.specs.Missing.{members_of}
-use Rattle.totem_evs.specs.Runs.{IsEntryIn, IsLogIn, IsRunIn, IsRunOf}
-use Rattle.totem_evs.specs.RunRecord.{RunRecord}
-use Rattle.totem_evs.specs.Lives.{AreFirst, AreLoud, HasFirstLives, IsFirstVersion}
 
 -- ---- any lives, any endings
 
@@ -26,24 +15,14 @@ members_any : (version : Version) (ms : List ℕ) → IsMembersIn version ms →
 members_any version ms is = record { some = is.some; few = is.few; rising = is.rising; processes = λ j d within. process_any version _ (is.processes j d within) }
 
 entry_any : (version : Version) (e : Entry) → IsEntryIn version e → IsEntryIn Three e
-entry_any version (Conf x members) is = (is.0, members_any version members is.1)
-entry_any version (Send m x service) is = is
-entry_any version (Deliver m x) is = is
-entry_any version (Fail x) is = is
+entry_any version e h = grind (arith, members_any)
 
 -- the last version has a word for each ending
 pub any_ending : (ending : Ending) → IsEndingIn Three ending
-any_ending Standing = tt
-any_ending Failed = tt
-any_ending Quiet = refl
+any_ending ending = grind arith
 
 log_any : (version : Version) (log : Log) → IsLogIn version log → IsLogIn Three log
-log_any version log is = record {
-  process = process_any version log.proc is.process;
-  entries = record { some = is.entries.some; few = is.entries.few; each = λ j d within. entry_any version _ (is.entries.each j d within) };
-  ending = is.ending;
-  word = any_ending log.ending;
-}
+log_any version log is = grind (arith, process_any, entry_any, any_ending)
 
 pub any_lives : (run : RunRecord) → IsRunOf run → IsRunIn Three run.logs
 any_lives run is = record { few = is.few; rising = is.rising; each = λ j d within. log_any run.version _ (is.each j d within) }
@@ -57,25 +36,13 @@ members_with : (version : Version) (ms : List ℕ) → (writes_lives version ≡
 members_with version ms first is = record { some = is.some; few = is.few; rising = is.rising; processes = λ j d within. process_with version _ (λ h. first h j d within) (is.processes j d within) }
 
 entry_with : (version : Version) (e : Entry) → (writes_lives version ≡ false → AreFirst (members_of e)) → IsEntryIn Three e → IsEntryIn version e
-entry_with version (Conf x members) first is = (is.0, members_with version members first is.1)
-entry_with version (Send m x service) first is = is
-entry_with version (Deliver m x) first is = is
-entry_with version (Fail x) first is = is
+entry_with version e h k = grind (arith, members_with)
 
 ending_with : (version : Version) (ending : Ending) → (writes_quiet version ≡ false → ending ≢ Quiet) → IsEndingIn version ending
-ending_with version Standing loud = tt
-ending_with version Failed loud = tt
-ending_with One Quiet loud = absurd (loud refl refl)
-ending_with Two Quiet loud = absurd (loud refl refl)
-ending_with Three Quiet loud = refl
+ending_with version ending h = grind arith
 
 log_with : (version : Version) (log : Log) → (writes_lives version ≡ false → HasFirstLives log) → (writes_quiet version ≡ false → log.ending ≢ Quiet) → IsLogIn Three log → IsLogIn version log
-log_with version log first loud is = record {
-  process = process_with version log.proc (λ h. (first h).0) is.process;
-  entries = record { some = is.entries.some; few = is.entries.few; each = λ j d within. entry_with version _ (λ h. (first h).1 j d within) (is.entries.each j d within) };
-  ending = is.ending;
-  word = ending_with version log.ending loud;
-}
+log_with version log first loud is = grind (arith, process_with, entry_with, ending_with)
 
 -- a text can write logs whose lives it writes or are first, and of which it says that they are quiet or none is
 pub in_version : (version : Version) (logs : List Log) → (writes_lives version ≡ false → All HasFirstLives logs) → (writes_quiet version ≡ false → AreLoud logs) → IsRunIn Three logs → IsRunIn version logs

@@ -1,11 +1,9 @@
 -- Word is the fault where no other one has its place.
-use Rattle.std.specs.Prelude.{◌↔◌}
-use Rattle.std.proofs.Common.{◌≡◌, List, ℕ, Err, false, refl, sym, ap, ◌∙◌}
-use Rattle.totem_names.specs.declared.fault.TextFault.{TextFault}
+use Rattle.std.proofs.lemmas.Grind.{common_steps}
+use Rattle.std.proofs.Common.{arith}
+use Rattle.totem_evs.proofs.Common.{◌↔◌, ◌≡◌, List, ℕ, Err, false, refl, sym, ap, ◌∙◌, TextFault, Parsed, is_short, HasNoOther}
 use Rattle.totem_names.specs.declared.fault.TextFault.TheVariants as faults
-use Rattle.totem_names.specs.Sources.{Parsed, is_short}
 use Rattle.totem_evs.specs.RunGrammar.{run_at}
-use Rattle.totem_evs.specs.TextFaults.{HasNoOther}
 use Rattle.totem_evs.proofs.OnlyFaults.{fault_only}
 use Rattle.totem_evs.proofs.FaultParts.{header_exactly, run_order, run_members, run_end, run_many}
 use Rattle.totem_evs.proofs.NumberFaults.{run_number}
@@ -26,14 +24,7 @@ pub one_fault : {Y : Type 0} (parse : List ℕ → Parsed Y) (bytes : List ℕ) 
 one_fault {Y = Y} parse bytes f is e k = (fault_only {A = Y} NotWord f is).fault faults.Word (sym k ∙ e)
 
 word_alone : (bytes : List ℕ) → run_at bytes ≡ Err faults.Word → HasNoOther bytes
-word_alone bytes e = record {
-  header = λ h. one_fault run_at bytes faults.Header tt e ((header_exactly bytes).1 h);
-  number = λ h. one_fault run_at bytes faults.Number tt e ((run_number bytes).1 h);
-  order = λ h. one_fault run_at bytes faults.Order tt e ((run_order bytes).1 h);
-  members = λ h. one_fault run_at bytes faults.Members tt e ((run_members bytes).1 h);
-  end = λ h. one_fault run_at bytes faults.End tt e ((run_end bytes).1 h);
-  many = λ h. one_fault run_at bytes faults.TooMany tt e ((run_many bytes).1 h);
-}
+word_alone bytes e = grind (arith, common_steps, one_fault, header_exactly, run_number, run_order, run_members, run_end, run_many)
 
 alone_word : (bytes : List ℕ) (f : TextFault) → is_short f ≡ false → run_at bytes ≡ Err f → HasNoOther bytes → f ≡ faults.Word
 alone_word bytes faults.Header long e h = absurd (h.header ((header_exactly bytes).0 e))

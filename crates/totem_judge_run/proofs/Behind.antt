@@ -1,16 +1,6 @@
 -- The change before another one, and what may follow it.
-use Rattle.std.proofs.Common.{◌≡◌, ◌↔◌, ℕ, ◌+◌, inl, inr, List, slice_get, Option, Some, None, sym, ◌∙◌, arith}
-use Rattle.std.specs.Prelude.{All, Contains}
-use Rattle.totem_names.specs.declared.ring.RingId.{RingId}
-use Rattle.totem_names.specs.declared.conf.ConfId.{ConfId}
-use Rattle.totem_names.specs.declared.conf.ConfId.TheVariants.{Regular, Transitional}
-use Rattle.totem_evs.specs.declared.entry.Entry.{Entry}
-use Rattle.totem_evs.specs.declared.entry.Entry.TheVariants.{Conf}
-use Rattle.totem_evs.specs.Events.{ChangesWith, IsChange, IsRegular, IsTransitional}
-use Rattle.totem_evs.specs.Changes.{ChangesNext}
-use Rattle.totem_evs.proofs.LogOf.{less_or_not}
+use Rattle.totem_judge_run.proofs.Common.{◌≡◌, ◌↔◌, ℕ, ◌+◌, inl, inr, List, slice_get, Option, Some, None, sym, ◌∙◌, arith, All, Contains, RingId, ConfId, Regular, Transitional, Entry, Conf, ChangesWith, IsChange, IsRegular, IsTransitional, ChangesNext, less_or_not, NoneBefore, StandsBefore, IsLastBefore, ComesFrom}
 use Rattle.totem_judge_run.specs.Succession.{IsWrongSuccession}
-use Rattle.totem_judge_run.specs.FirstChanges.{NoneBefore, StandsBefore, IsLastBefore, ComesFrom}
 use Rattle.totem_judge_run.proofs.Decisions.{neither_below, all_or_not, same_ring_or_not}
 
 -- ---- along a log
@@ -51,11 +41,7 @@ regular_first log at None x ms c last from none = (let is : x ≡ Regular c = fr
 regular_first log at (Some i) x ms c last from none = absurd (none.none i last.earlier last.change)
 
 pub same_entry : (log : List Entry) (i j : ℕ) (w v : ConfId) (ls ns : List ℕ) → i ≡ j → ChangesWith log i v ns → ChangesWith log j w ls → (v ≡ w) × (ns ≡ ls)
-same_entry log i j w v ls ns same first second =
-    let there : slice_get log j ≡ Some (Conf v ns) = rw same at first in
-    let here : slice_get log j ≡ Some (Conf w ls) = second in
-    let both : Conf v ns ≡ Conf w ls = cc in
-    (cc, cc)
+same_entry log i j w v ls ns same first second = grind arith
 
 pub turns_right : (log : List Entry) (at j : ℕ) (before : Option ℕ) (w x : ConfId) (ls ms : List ℕ) (c : RingId) → IsLastBefore log at before → ComesFrom log before x ms c → ChangesNext log j at w x ls ms → IsWrongSuccession w ls x ms → ⊥
 turns_right log at j None w x ls ms c last from next wrong = last.none j next.next.later (w, (ls, next.first))
@@ -75,10 +61,7 @@ one_origin log at j (Some i) d (Transitional l n) ls ms c trans last from next =
 
 -- a succession that is not wrong meets the requirements
 pub right_kinds : (x y : ConfId) (ms ns : List ℕ) → (IsWrongSuccession x ms y ns → ⊥) → IsRegular x ↔ IsTransitional y
-right_kinds (Regular c) (Regular d) ms ns right = absurd (right tt)
-right_kinds (Regular c) (Transitional l n) ms ns right = (λ _. tt, λ _. tt)
-right_kinds (Transitional l n) (Regular c) ms ns right = (λ h. h, λ h. h)
-right_kinds (Transitional l n) (Transitional k m) ms ns right = absurd (right tt)
+right_kinds x y ms ns h = grind arith
 
 pub right_from : (c : RingId) (y : ConfId) (ms ns : List ℕ) → IsTransitional y → (IsWrongSuccession (Regular c) ms y ns → ⊥) → All (Contains ms) ns
 right_from c (Regular d) ms ns trans right = absurd trans

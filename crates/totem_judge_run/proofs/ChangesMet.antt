@@ -1,36 +1,18 @@
 -- Entering the changes of a run, one after the other.
-use Rattle.std.proofs.Common.{below_more, ◌≡◌, ℕ, ◌+◌, ◌<◌, ◌≤◌, inl, inr, List, [], ◌∷◌, ◌++◌, length, slice_get, Option, Some, None, Result, Ok, Err, IfOk, Bool, true, false, cond, refl, sym, ◌∙◌, ap, arith}
-use Rattle.std.specs.Prelude.{Contains, IsTrue}
-use Rattle.std.specs.Bool.{OnTrue}
+use Rattle.totem_judge_run.proofs.Common.{below_more, ◌≡◌, ℕ, ◌+◌, ◌<◌, ◌≤◌, inl, inr, List, [], ◌∷◌, ◌++◌, length, slice_get, Option, Some, None, Result, IfOk, Bool, true, false, cond, refl, sym, ◌∙◌, ap, arith, Contains, IsTrue, OnTrue, slice_get_within, RingId, ConfId, Regular, Transitional, Entry, Conf, Log, ChangesWith, log_of, ChangesNext, TakesTurns, HasOneOrigin, log_of_cases, before_push, stands_before, stands_last, ChangesAgree, first_to, IsLastBefore, ComesFrom, IsMet, Keeps, Meets, IsRight, Enters, AreRight, EntersLog}
 use Rattle.std.specs.BTreeMap as tree
-use Rattle.std.proofs.lemmas.Option.{slice_get_within}
-use Rattle.totem_names.specs.declared.ring.RingId.{RingId}
-use Rattle.totem_names.specs.declared.conf.ConfId.{ConfId}
-use Rattle.totem_names.specs.declared.conf.ConfId.TheVariants.{Regular, Transitional}
 use Rattle.totem_names.proofs.Exact.{exact_conf, equal_at, apart_or_at}
-use Rattle.totem_evs.specs.declared.entry.Entry.{Entry}
-use Rattle.totem_evs.specs.declared.entry.Entry.TheVariants.{Conf}
-use Rattle.totem_evs.specs.declared.log.Log.{Log}
-use Rattle.totem_evs.specs.Events.{ChangesWith, log_of}
-use Rattle.totem_evs.specs.Changes.{ChangesNext, TakesTurns, HasOneOrigin}
-use Rattle.totem_evs.proofs.LogOf.{log_of_cases}
-use Rattle.totem_evs.proofs.Pushing.{before_push, stands_before, stands_last}
 use Rattle.totem_judge_run.specs.declared.changes_2_3.FirstChange.{FirstChange}
 use Rattle.totem_judge_run.specs.declared.first_changes.FirstChanges.{FirstChanges}
 use Rattle.totem_judge_run.specs.Indexed.{conf_order, AreIndexed}
-use Rattle.totem_judge_run.specs.Orderly.{ChangesAgree}
 use Rattle.totem_judge_run.specs.Succession.{IsWrongSuccession}
-use Rattle.totem_judge_run.specs.FirstChanges.{first_to, IsLastBefore, ComesFrom, IsMet, Keeps, Meets, IsRight, Enters, AreRight, EntersLog}
 use Rattle.totem_judge_run.proofs.Behind.{same_entry, regular_first, turns_right, one_origin, right_kinds, right_from, right_to, right_name}
 
 -- ---- one change
 
 -- the first change to y is still known after the one to x, which is another
 still_first : (old new : FirstChanges) (y : ConfId) (change f : FirstChange) (o : Option ℕ) → tree.get conf_order old.index y ≡ o → tree.get conf_order new.index y ≡ o → new.list.items ≡ old.list.items ++ change ∷ [] → first_to old y ≡ Some f → first_to new y ≡ Some f
-still_first old new y change f None was is list at = absurd (let none : first_to old y ≡ None = rw was refl in cc)
-still_first old new y change f (Some i) was is list at =
-    let there : slice_get old.list.items i ≡ Some f = rw was at at in
-    rw (is, list) (stands_before old.list.items change i f there)
+still_first old new y change f o h k m p = grind (arith, stands_before)
 
 none_first : (firsts : FirstChanges) (x : ConfId) (o : Option ℕ) (f : FirstChange) → o ≡ tree.get conf_order firsts.index x → ((i : ℕ) → o ≡ Some i → ⊥) → first_to firsts x ≡ Some f → ⊥
 none_first firsts x None f is none at = (let nowhere : first_to firsts x ≡ None = rw (← is) refl in cc)
@@ -52,11 +34,7 @@ met_first old new x o change n is none list last updates = record {
 -- it is not the first one, which is at i
 pub met_again : (old new : FirstChanges) (x : ConfId) (ms : List ℕ) (c : RingId) (i : ℕ) (first : FirstChange) (ok : Bool) → new.list ≡ old.list → new.index ≡ old.index → tree.get conf_order old.index x ≡ Some i
     → slice_get old.list.items i ≡ Some first → first.from.now ≡ c → (IsTrue ok → first.members.now ≡ ms) → OnTrue ok (Meets old new x ms c)
-met_again old new x ms c i first false list index at is from members = tt
-met_again old new x ms c i first true list index at is from members = record {
-  kept = record { each = λ y f there. rw (list, index) there };
-  met = record { change = first; is = rw (list, index, at) is; members = members refl; from = from };
-}
+met_again old new x ms c i first ok h k m o p q = grind arith
 
 -- the index has the place of the new change, if it is appended
 pub indexed_more : (list more : List FirstChange) (old new : tree.BTreeMap ConfId ℕ) (o : Option ℕ) (change : FirstChange) (n : ℕ) (ok : Bool) → o ≡ tree.get conf_order old change.conf.now → ((i : ℕ) → o ≡ Some i → ⊥) → n ≡ length list
@@ -78,9 +56,7 @@ indexed_more list more old new o change n ok is none last updates items so = rec
 
 -- if the result is `true`, what follows from P holds
 pub where_met : {E : Type 0} (r : Result Bool E) (P Q : Type 0) → (P → Q) → IfOk r (λ ok. OnTrue ok P) → IfOk r (λ ok. OnTrue ok Q)
-where_met (Ok true) P Q f h = f h
-where_met (Ok false) P Q f h = tt
-where_met (Err e) P Q f h = tt
+where_met r P Q h k = grind arith
 
 pub entered : (old new : FirstChanges) (at : ℕ) (before : Option ℕ) (log : Log) (e : Entry) (x : ConfId) (ms : List ℕ) (c : RingId) → slice_get log.entries at ≡ Some e → e ≡ Conf x ms → Contains ms log.proc → IsLastBefore log.entries at before
     → ComesFrom log.entries before x ms c → Meets old new x ms c → Enters old new log at
@@ -99,21 +75,10 @@ entered old new at before log e x ms c at_entry is own last from meets = record 
       origin = λ i d ls trans next. one_origin log.entries at i before d x ls ms c trans last from next;
     }
 
--- an entry that is no change needs nothing
-pub none_entered : (firsts : FirstChanges) (log : Log) (at : ℕ) (e : Entry) → slice_get log.entries at ≡ Some e → ((x : ConfId) (ms : List ℕ) → e ≡ Conf x ms → ⊥) → Enters firsts firsts log at
-none_entered firsts log at e at_entry never = record { right = λ x ms there. absurd (never x ms cc); kept = record { each = λ x f is. is } }
-
 -- ---- along the logs
 
 still_right : (old new : FirstChanges) (log : Log) (at : ℕ) (x : ConfId) (ms : List ℕ) → Keeps old new → IsRight old log at x ms → IsRight new log at x ms
-still_right old new log at x ms kept h = record {
-  own = h.own;
-  regular = h.regular;
-  turns = h.turns;
-  from = h.from;
-  met = record { change = h.met.change; is = kept.each x h.met.change h.met.is; members = h.met.members; from = h.met.from };
-  origin = h.origin;
-}
+still_right old new log at x ms kept h = grind arith
 
 pub more_right : (old new : FirstChanges) (log : Log) (j : ℕ) → Enters old new log j → AreRight old log j → AreRight new log (j + 1)
 more_right old new log j enters before = record {

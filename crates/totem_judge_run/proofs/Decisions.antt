@@ -1,22 +1,11 @@
 -- Facts that hold or do not.
-use Rattle.std.proofs.Common.{◌≡◌, ℕ, suc, ◌+◌, ◌<◌, ◌≤◌, ◌⊎◌, inl, inr, List, [], ◌∷◌, length, get_or, take, false, IsTrue, ◌↔◌, refl, ap, arith}
-use Rattle.std.specs.Prelude.{All, Contains}
+use Rattle.totem_judge_run.proofs.Common.{◌≡◌, ℕ, suc, ◌+◌, ◌<◌, ◌≤◌, ◌⊎◌, inl, inr, List, [], ◌∷◌, length, get_or, take, false, IsTrue, ◌↔◌, refl, ap, arith, All, Contains, All-nil, All-cons, All-head, All-tail, All-push, take_more, take_all, get_or_from_slice_get, slice_get-get_or, RingId, ConfId, Regular, Transitional, IsRegular, IsTransitional, less_or_not}
 use Rattle.std.proofs.lemmas.Bool.{cases_eq}
-use Rattle.std.proofs.lemmas.List.Elements.{All-nil, All-cons, All-head, All-tail, All-push}
-use Rattle.std.proofs.lemmas.List.{take_more, take_all}
 use Rattle.std.proofs.lemmas.Map.Made.{Contains-tail}
-use Rattle.std.proofs.lemmas.Option.{get_or_from_slice_get, slice_get-get_or}
-use Rattle.totem_names.specs.declared.ring.RingId.{RingId}
-use Rattle.totem_names.specs.declared.conf.ConfId.{ConfId}
-use Rattle.totem_names.specs.declared.conf.ConfId.TheVariants.{Regular, Transitional}
-use Rattle.totem_evs.specs.Events.{IsRegular, IsTransitional}
-use Rattle.totem_evs.proofs.LogOf.{less_or_not}
 
 -- both facts hold, or not both
 pub both_or_not : {P Q : Type 0} → P ⊎ (P → ⊥) → Q ⊎ (Q → ⊥) → (P × Q) ⊎ (P × Q → ⊥)
-both_or_not (inl p) (inl q) = inl (p, q)
-both_or_not (inl p) (inr never) = inr (λ h. never h.1)
-both_or_not (inr never) other = inr (λ h. never h.0)
+both_or_not h k = grind arith
 
 -- a fact that holds exactly where another does
 pub same_or_not : {P Q : Type 0} → P ⊎ (P → ⊥) → (P → Q) → (Q → P) → Q ⊎ (Q → ⊥)
@@ -24,19 +13,11 @@ same_or_not (inl p) to from = inl (to p)
 same_or_not (inr never) to from = inr (λ q. never (from q))
 
 pub below_or_not : (a b : ℕ) → (a < b) ⊎ (a < b → ⊥)
-below_or_not a b = elim (less_or_not a b) [
-  | inl lt ↦ inl lt
-  | inr (inl gt) ↦ inr (λ lt. omega arith)
-  | inr (inr same) ↦ inr (λ lt. omega arith)
-]
+below_or_not a b = grind (arith, less_or_not)
 
 -- two numbers of which neither is below the other
 pub neither_below : (a b : ℕ) → (a < b → ⊥) → (b < a → ⊥) → a ≡ b
-neither_below a b under over = elim (less_or_not a b) [
-  | inl lt ↦ absurd (under lt)
-  | inr (inl gt) ↦ absurd (over gt)
-  | inr (inr same) ↦ same
-]
+neither_below a b under over = grind (arith, less_or_not)
 
 pub contains_or_not : (xs : List ℕ) (p : ℕ) → Contains xs p ⊎ (Contains xs p → ⊥)
 contains_or_not [] p = inr (λ (k, lt, h). omega arith)
@@ -56,9 +37,7 @@ same_list_or_not (x ∷ xs) [] = inr (λ e. cc)
 same_list_or_not (x ∷ xs) (y ∷ ys) = same_or_not (both_or_not (cases_eq x y) (same_list_or_not xs ys)) (λ h. let a = h.0 in let b = h.1 in cc) (λ e. (cc, cc))
 
 same_ring : (c d : RingId) → c.seq ≡ d.seq → c.rep ≡ d.rep → c ≡ d
-same_ring c d seq rep =
-    let R : ℕ → ℕ → RingId = λ s r. record { seq = s; rep = r } in
-    let same : R c.seq c.rep ≡ R d.seq d.rep = cc in same
+same_ring c d seq rep = grind arith
 
 pub same_ring_or_not : (c d : RingId) → (c ≡ d) ⊎ (c ≡ d → ⊥)
 same_ring_or_not c d = same_or_not (both_or_not (cases_eq c.seq d.seq) (cases_eq c.rep d.rep)) (λ h. same_ring c d h.0 h.1) (λ e. (ap (λ (r : RingId). r.seq) e, ap (λ (r : RingId). r.rep) e))

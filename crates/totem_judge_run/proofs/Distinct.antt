@@ -1,28 +1,15 @@
 -- Messages that are sent or delivered twice stand twice in the list of all.
-use Rattle.std.proofs.Common.{◌≡◌, ◌≢◌, ℕ, zero, suc, ◌+◌, ◌<◌, ◌≤◌, inl, inr, List, [], ◌∷◌, ◌++◌, length, take, get_or, slice_get, Option, None, Some, Result, Ok, Err, IfOk, Bool, true, false, refl, sym, ◌∙◌, arith}
-use Rattle.std.specs.Bool.{OnTrue}
+use Rattle.totem_judge_run.proofs.Common.{◌≡◌, ◌≢◌, ℕ, zero, suc, ◌+◌, ◌<◌, ◌≤◌, inl, inr, List, [], ◌∷◌, ◌++◌, length, take, get_or, slice_get, Option, None, Some, Result, Ok, Err, IfOk, Bool, true, false, refl, sym, ◌∙◌, arith, OnTrue, eq_by_cmp, flat_map-append, append-nil, take_all, slice_get_within, get_or_from_slice_get, MsgId, Entry, Send, Deliver, Log, log_of, log_of_cases, IsNoSendBetween, RisesByOrder, message_in, message_order, messages_in, sent_in, DeliveriesAreOnce, SendsAreOnce}
 use Rattle.std.specs.List.{All, AllPairs, IsDistinct, cons_option}
-use Rattle.std.specs.Ordering.{eq_by_cmp}
 use Rattle.std.specs.List.Sorted.{IsPermutation}
 use Rattle.std.specs.declared.alloc.AllocError.{AllocError}
 use Rattle.std.proofs.Math.Seq.{take-suc}
 use Rattle.std.proofs.lemmas.Cmp.{eq_by_cmp_equiv}
-use Rattle.std.proofs.lemmas.Grind.{flat_map-append}
-use Rattle.std.proofs.lemmas.List.{append-nil, take_all}
 use Rattle.std.proofs.lemmas.List.Sorted.{IsPermutation-sym}
 use Rattle.std.proofs.lemmas.Map.Keys.{IsDistinct-IsPermutation, IsDistinct-from_sorted, apart_from_distinct, sorted_from_all_adjacent}
-use Rattle.std.proofs.lemmas.Option.{slice_get_within, get_or_from_slice_get}
 use Rattle.totem_names.specs.contracts.message.MsgIdOrd.TheImpl.Laws.{total-law}
-use Rattle.totem_names.specs.declared.message.MsgId.{MsgId}
-use Rattle.totem_evs.specs.declared.entry.Entry.{Entry}
-use Rattle.totem_evs.specs.declared.entry.Entry.TheVariants.{Send, Deliver}
-use Rattle.totem_evs.specs.declared.log.Log.{Log}
-use Rattle.totem_evs.specs.Events.{log_of}
-use Rattle.totem_evs.proofs.LogOf.{log_of_cases}
 use Rattle.totem_judge_run.specs.declared.once_1_4.Once.{Once}
 use Rattle.totem_judge_run.specs.declared.once_1_4.Once.TheVariants as once
-use Rattle.totem_judge_run.specs.Once.{IsNoSendBetween, RisesByOrder, message_in, message_order, messages_in, sent_in}
-use Rattle.totem_judge_run.specs.Orderly.{DeliveriesAreOnce, SendsAreOnce}
 use Rattle.totem_judge_run.proofs.Decisions.{neither_below}
 
 abbrev pub AreDistinct : List MsgId → Type 0

@@ -1,17 +1,5 @@
 -- In which configuration a log ends: that of its last change.
-use Rattle.std.proofs.Common.{◌≡◌, ◌↔◌, ◌-◌, ◌+◌, ◌<◌, ℕ, inl, inr, List, [], ◌∷◌, ◌++◌, length, slice_get, Option, None, Some, Bool, false, IsTrue, refl, arith}
-use Rattle.std.proofs.lemmas.Option.{slice_get_within}
-use Rattle.totem_names.specs.declared.conf.ConfId.{ConfId}
-use Rattle.totem_evs.specs.declared.entry.Entry.{Entry}
-use Rattle.totem_evs.specs.declared.entry.Entry.TheVariants.{Fail}
-use Rattle.totem_evs.specs.declared.log.Log.{Log}
-use Rattle.totem_evs.specs.Changes.{StaysInPlace}
-use Rattle.totem_evs.specs.Following.{LastChange}
-use Rattle.totem_evs.specs.Unsettled.{EndsIn}
-use Rattle.totem_evs.proofs.LogOf.{less_or_not}
-use Rattle.totem_evs.proofs.Pushing.{Along, along_more}
-use Rattle.totem_judge_run.specs.Ends.{GoesOn, IsLast}
-use Rattle.totem_judge_run.specs.Endings.{StandsAtEnd, EndsNowhere, IsEnd}
+use Rattle.totem_judge_run.proofs.Common.{◌≡◌, ◌↔◌, ◌-◌, ◌+◌, ◌<◌, ℕ, inl, inr, List, [], ◌∷◌, ◌++◌, length, slice_get, Option, None, Some, Bool, false, IsTrue, refl, arith, slice_get_within, ConfId, Entry, Fail, Log, StaysInPlace, LastChange, EndsIn, less_or_not, Along, along_more, GoesOn, IsLast, StandsAtEnd, EndsNowhere, IsEnd}
 
 -- a log that fails has the failure at its end
 pub goes_on : (log : List Entry) (e : Entry) → StaysInPlace log → 0 < length log → slice_get log (length log - 1) ≡ Some e → ((x : ConfId) → e ≡ Fail x → ⊥) → GoesOn log

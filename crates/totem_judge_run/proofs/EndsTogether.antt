@@ -1,22 +1,10 @@
 -- Whether the members of a quiet log's last configuration end there too.
-use Rattle.std.proofs.Common.{below_more, ◌≡◌, ◌↔◌, ◌+◌, ◌<◌, ◌≤◌, ℕ, inl, inr, List, [], ◌∷◌, ◌++◌, length, get_or, slice_get, Some, Bool, IsTrue, refl, sym, ◌∙◌, ap, arith}
-use Rattle.std.proofs.lemmas.Option.{slice_get_read, slice_get_within, get_or_from_slice_get, slice_get-get_or}
-use Rattle.totem_names.specs.declared.conf.ConfId.{ConfId}
-use Rattle.totem_names.specs.declared.place.Place.{Place}
-use Rattle.totem_evs.specs.declared.entry.Entry.{Entry}
-use Rattle.totem_evs.specs.declared.entry.Entry.TheVariants.{Conf}
-use Rattle.totem_evs.specs.declared.log.Log.{Log}
+use Rattle.totem_judge_run.proofs.Common.{below_more, ◌≡◌, ◌↔◌, ◌+◌, ◌<◌, ◌≤◌, ℕ, inl, inr, List, [], ◌∷◌, ◌++◌, length, get_or, slice_get, Some, Bool, IsTrue, sym, ◌∙◌, ap, arith, slice_get_read, slice_get_within, get_or_from_slice_get, slice_get-get_or, ConfId, Place, Entry, Conf, Log, IsQuiet, ending_of, log_of, IsLastChange, SharesEnd, EndsTogether, Rising, log_of_cases, log_of_at, in_order, less_or_not, GoesOn, HasNoChange, StandsLast, IsLast, IsLogEnd, LogShares, IsLogOf, HasNoLog, AllShare, SomeStrays, StraysAt, EndsWithAll, Along, along_more}
 use Rattle.totem_evs.specs.declared.ending.Ending.TheVariants.{Quiet}
 use Rattle.totem_evs.specs.declared.spec.SpecNo.TheVariants as spec
-use Rattle.totem_evs.specs.Events.{IsQuiet, ending_of, log_of}
-use Rattle.totem_evs.specs.Following.{IsLastChange}
-use Rattle.totem_evs.specs.Changes.{SharesEnd, EndsTogether}
 use Rattle.totem_evs.specs.ChangeFaults.{EndsAlone, BreaksEnd}
 use Rattle.totem_evs.specs.Answers.{ComesFirst, IsLeastBreak}
-use Rattle.totem_evs.proofs.LogOf.{Rising, log_of_cases, log_of_at, in_order, less_or_not}
 use Rattle.totem_judge_run.specs.declared.ends_2_1.LogEnd.{LogEnd}
-use Rattle.totem_judge_run.specs.Ends.{GoesOn, HasNoChange, StandsLast, IsLast, IsLogEnd, LogShares, IsLogOf, HasNoLog, AllShare, SomeStrays, StraysAt, EndsWithAll}
-use Rattle.totem_evs.proofs.Pushing.{Along, along_more}
 use Rattle.totem_judge_run.proofs.Placed.{same_place}
 use Rattle.totem_judge_run.proofs.Decisions.{neither_below}
 use Rattle.totem_judge_run.proofs.LogEnds.{ending_of_at}
@@ -37,20 +25,14 @@ pub record NoLogBefore (run : List Log) (p n : ℕ) : Type 0 where
   pub none : (j : ℕ) → j < n → (log : Log) → slice_get run j ≡ Some log → log.proc ≡ p → ⊥
 
 pub no_log_more : (run : List Log) (p n : ℕ) (log : Log) → slice_get run n ≡ Some log → (log.proc ≡ p → ⊥) → NoLogBefore run p n → NoLogBefore run p (n + 1)
-no_log_more run p n log at other before = record {
-  none = below_more (λ j. (l : Log) → slice_get run j ≡ Some l → l.proc ≡ p → ⊥) n before.none (λ l at_n same. (let one : l ≡ log = cc in other (rw one at same)));
-}
+no_log_more run p n log at other before = grind arith
 
 pub no_log : (run : List Log) (p n : ℕ) → length run ≤ n → NoLogBefore run p n → HasNoLog run p
 no_log run p n end before = record { none = λ (j, log, lt, at, same). before.none j (omega arith) log (rw at at (slice_get-get_or run j log lt)) same }
 
 -- what is read at the index of p's log is p's log
 pub read_there : (run logs : List Log) (p k : ℕ) (log : Log) → logs ≡ run → IsLogOf run p k → log ≡ get_or logs k log → (slice_get run k ≡ Some log) × (log.proc ≡ p)
-read_there run logs p k log same found is =
-    let within : k < length logs = rw same (slice_get_within run k found.log found.at) in
-    let there : slice_get run k ≡ Some log = rw same at (slice_get_read logs _ k log refl within is) in
-    let one : found.log ≡ log = (let at = found.at in cc) in
-    (there, rw one at found.proc)
+read_there run logs p k log same found is = grind (arith, slice_get_within, slice_get_read)
 
 -- ---- whether a member shares an end
 

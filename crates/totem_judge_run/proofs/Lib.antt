@@ -1,3 +1,4 @@
+pub mod Common
 pub mod Staying
 pub mod Distinct
 pub mod Decisions

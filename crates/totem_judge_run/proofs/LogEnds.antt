@@ -1,19 +1,7 @@
 -- Where one log ends.
-use Rattle.std.proofs.Common.{◌≡◌, ◌↔◌, ◌-◌, ◌+◌, ◌<◌, ◌≤◌, ℕ, zero, suc, inl, inr, List, [], ◌∷◌, length, slice_get, Option, None, Some, Bool, true, false, IsTrue, refl, ap, arith, rules, below_more}
-use Rattle.std.specs.Prelude.{◌==◌}
-use Rattle.std.proofs.lemmas.Option.{slice_get_within}
-use Rattle.totem_names.specs.declared.conf.ConfId.{ConfId}
-use Rattle.totem_evs.specs.declared.entry.Entry.{Entry}
-use Rattle.totem_evs.specs.declared.entry.Entry.TheVariants.{Conf, Send, Deliver, Fail}
+use Rattle.totem_judge_run.proofs.Common.{◌≡◌, ◌↔◌, ◌-◌, ◌+◌, ◌<◌, ◌≤◌, ℕ, zero, suc, inl, inr, List, [], ◌∷◌, length, slice_get, Option, None, Some, Bool, true, false, IsTrue, refl, ap, arith, rules, below_more, ◌==◌, slice_get_within, ConfId, Entry, Conf, Fail, Log, IsClosedBy, StaysInPlace, ChangesTo, IsChange, Fails, ending_of, LastChange, NeverFails, Rising, Rising-tail, in_order, less_or_not, IsChangeTo, NeverChangesTo, HasNoChange, StandsLast, IsLast}
 use Rattle.totem_evs.specs.declared.ending.Ending.{Ending}
 use Rattle.totem_evs.specs.declared.ending.Ending.TheVariants.{Failed, Quiet}
-use Rattle.totem_evs.specs.declared.log.Log.{Log}
-use Rattle.totem_evs.specs.Runs.{IsClosedBy}
-use Rattle.totem_evs.specs.Changes.{StaysInPlace}
-use Rattle.totem_evs.specs.Events.{ChangesTo, IsChange, Fails, ending_of}
-use Rattle.totem_evs.specs.Following.{LastChange, NeverFails}
-use Rattle.totem_evs.proofs.LogOf.{Rising, Rising-tail, in_order, less_or_not}
-use Rattle.totem_judge_run.specs.Ends.{IsChangeTo, NeverChangesTo, HasNoChange, StandsLast, IsLast}
 use Rattle.totem_judge_run.proofs.Decisions.{neither_below}
 
 -- ---- how the log of a process ends
@@ -76,10 +64,7 @@ never_last log (Some i) end not = absurd (not i refl)
 -- ---- whether a log changes to a configuration
 
 pub change_is : (e : Entry) (x : ConfId) → IsChangeTo e x → (ms : List ℕ) × (e ≡ Conf x ms)
-change_is (Conf y ms) x is = (ms, rw is refl)
-change_is (Send m y service) x is = absurd is
-change_is (Deliver m y) x is = absurd is
-change_is (Fail y) x is = absurd is
+change_is e x h = grind arith
 
 is_change : (e : Entry) (x : ConfId) (ms : List ℕ) → e ≡ Conf x ms → IsChangeTo e x
 is_change e x ms is = rw is refl

@@ -1,16 +1,6 @@
 -- What makes a run orderly. By a certificate the events of one log that are of one class are one event.
-use Rattle.std.proofs.Common.{◌≡◌, ℕ, suc, ◌<◌, inl, inr, List, Result, Ok, Err, IfOk, Bool, true, false, refl, arith}
-use Rattle.std.specs.Bool.{OnTrue}
-use Rattle.totem_names.specs.declared.conf.ConfId.{ConfId}
-use Rattle.totem_names.specs.declared.message.MsgId.{MsgId}
-use Rattle.totem_names.specs.declared.place.Place.{Place}
-use Rattle.totem_evs.specs.declared.entry.Entry.TheVariants.{Conf, Deliver}
-use Rattle.totem_evs.specs.declared.log.Log.{Log}
-use Rattle.totem_evs.specs.Events.{IsEvent, ChangesTo, Delivers, log_of}
+use Rattle.totem_judge_run.proofs.Common.{◌≡◌, ℕ, suc, ◌<◌, inl, inr, List, Result, IfOk, Bool, refl, arith, OnTrue, ConfId, MsgId, Place, Conf, Deliver, Log, IsEvent, ChangesTo, Delivers, log_of, Numbering, IsBelow, number_at, Certified, HasCertificate, SendsAreOnce, AllStayInPlace, ChangesAgree, IsOrderly}
 use Rattle.totem_evs.specs.Steps.{SameClass}
-use Rattle.totem_evs.specs.Certificates.{Numbering, IsBelow, number_at, Certified}
-use Rattle.totem_evs.specs.Answers.{HasCertificate, MeetsPasses}
-use Rattle.totem_judge_run.specs.Orderly.{SendsAreOnce, AllStayInPlace, ChangesAgree, IsOrderly}
 use Rattle.totem_judge_run.proofs.Decisions.{neither_below}
 
 abbrev place : ℕ → ℕ → Place
@@ -47,10 +37,5 @@ orderly run (lines, certified) = orderly_by run lines certified
 
 -- ---- beside the passes A and B
 
-pub passed_is_orderly : (run : List Log) → MeetsPasses run → IsOrderly run
-passed_is_orderly run meets = record { once = meets.once; placed = meets.placed; one = meets.one; turns = meets.turns }
-
 pub orderly_if : {E : Type 0} (run : List Log) (r : Result Bool E) → HasCertificate run → IfOk r (λ ok. OnTrue ok (SendsAreOnce run)) → AllStayInPlace run → ChangesAgree run → IfOk r (λ ok. OnTrue ok (IsOrderly run))
-orderly_if run (Ok true) has sends placed changes = orderly run has sends placed changes
-orderly_if run (Ok false) has sends placed changes = tt
-orderly_if run (Err e) has sends placed changes = tt
+orderly_if run r h k m o = grind (arith, orderly)

@@ -1,13 +1,5 @@
 -- What holds of each log of a run, log after log; and that they stay in place.
-use Rattle.std.proofs.Common.{below_more, ◌≡◌, ℕ, ◌+◌, ◌<◌, ◌≤◌, inl, inr, List, [], length, slice_get, Some, refl, arith}
-use Rattle.std.proofs.lemmas.Option.{slice_get_within}
-use Rattle.totem_names.specs.declared.place.Place.{Place}
-use Rattle.totem_evs.specs.declared.entry.Entry.{Entry}
-use Rattle.totem_evs.specs.declared.log.Log.{Log}
-use Rattle.totem_evs.specs.Changes.{StaysInPlace}
-use Rattle.totem_evs.specs.Events.{log_of}
-use Rattle.totem_evs.proofs.LogOf.{log_of_cases}
-use Rattle.totem_judge_run.specs.Orderly.{AllStayInPlace}
+use Rattle.totem_judge_run.proofs.Common.{below_more, ◌≡◌, ℕ, ◌+◌, ◌<◌, ◌≤◌, inl, inr, List, [], length, slice_get, Some, refl, arith, slice_get_within, Place, Entry, Log, StaysInPlace, log_of, log_of_cases, AllStayInPlace}
 
 module _ (P : List Entry → Type 0) where
   -- P holds of each log before the one at k
@@ -26,11 +18,7 @@ module _ (P : List Entry → Type 0) where
   ]
 
 empty_placed : StaysInPlace []
-empty_placed = record {
-  begins = λ lt. absurd (omega arith);
-  named = λ i x (e, at, names). absurd cc;
-  final = λ i j x fails lt below. omega arith;
-}
+empty_placed = grind arith
 
 pub all_logs : (run : List Log) (k : ℕ) → length run ≤ k → EachBefore StaysInPlace run k → AllStayInPlace run
 all_logs run k end placed = record { each = each_process StaysInPlace run k empty_placed end placed }

@@ -1,32 +1,14 @@
 -- A message was sent for a delivery, or it was not.
-use Rattle.std.proofs.Common.{below_more, ◌≡◌, ℕ, zero, suc, ◌<◌, ◌⊎◌, inl, inr, List, [], ◌∷◌, length, slice_get, Option, Some, None, refl, ap, arith}
+use Rattle.totem_judge_run.proofs.Common.{below_more, ◌≡◌, ℕ, zero, suc, ◌<◌, ◌⊎◌, inl, inr, List, [], ◌∷◌, length, slice_get, Option, Some, None, refl, ap, arith, slice_get_within, RingId, ConfId, Regular, Transitional, MsgId, Entry, Conf, Send, Deliver, Fail, Log, log_of, ChangesTo, IsChange, IsTransitional, IsFirstChange, IsNextChange, Follows, Com, IsChangeTo, log_of_cases, one_next, same_first}
 use Rattle.std.proofs.lemmas.Bool.{cases_eq}
-use Rattle.std.proofs.lemmas.Option.{slice_get_within}
-use Rattle.totem_names.specs.declared.ring.RingId.{RingId}
-use Rattle.totem_names.specs.declared.conf.ConfId.{ConfId}
-use Rattle.totem_names.specs.declared.conf.ConfId.TheVariants.{Regular, Transitional}
-use Rattle.totem_names.specs.declared.message.MsgId.{MsgId}
-use Rattle.totem_evs.specs.declared.entry.Entry.{Entry}
-use Rattle.totem_evs.specs.declared.entry.Entry.TheVariants.{Conf, Send, Deliver, Fail}
-use Rattle.totem_evs.specs.declared.log.Log.{Log}
-use Rattle.totem_evs.specs.Events.{log_of, ChangesTo, IsChange, IsTransitional}
-use Rattle.totem_evs.specs.Following.{IsFirstChange, IsNextChange, Follows, Com}
-use Rattle.totem_judge_run.specs.Ends.{IsChangeTo}
 use Rattle.totem_judge_run.specs.Sent.{WasSentTo, IsSendTo}
-use Rattle.totem_evs.proofs.LogOf.{log_of_cases}
-use Rattle.totem_evs.proofs.NextChanges.{one_next, same_first}
 use Rattle.totem_judge_run.proofs.Decisions.{both_or_not, same_or_not, below_or_not, same_ring_or_not}
 
 pub same_conf_or_not : (x y : ConfId) → (x ≡ y) ⊎ (x ≡ y → ⊥)
-same_conf_or_not (Regular c) (Regular d) = same_or_not (same_ring_or_not c d) (λ same. ap Regular same) (λ e. cc)
-same_conf_or_not (Regular c) (Transitional l n) = inr (λ e. cc)
-same_conf_or_not (Transitional l n) (Regular c) = inr (λ e. cc)
-same_conf_or_not (Transitional l n) (Transitional k m) = same_or_not (both_or_not (same_ring_or_not n m) (cases_eq l k)) (λ h. let a = h.0 in let b = h.1 in cc) (λ e. (cc, cc))
+same_conf_or_not x y = grind (arith, same_or_not, same_ring_or_not, both_or_not, cases_eq)
 
 same_message : (m n : MsgId) → m.ring ≡ n.ring → m.number ≡ n.number → m ≡ n
-same_message m n ring number =
-    let M : RingId → ℕ → MsgId = λ r k. record { ring = r; number = k } in
-    let same : M m.ring m.number ≡ M n.ring n.number = cc in same
+same_message m n ring number = grind arith
 
 pub same_message_or_not : (m n : MsgId) → (m ≡ n) ⊎ (m ≡ n → ⊥)
 same_message_or_not m n = same_or_not (both_or_not (same_ring_or_not m.ring n.ring) (cases_eq m.number n.number)) (λ h. same_message m n h.0 h.1) (λ e. (ap (λ (x : MsgId). x.ring) e, ap (λ (x : MsgId). x.number) e))
@@ -74,10 +56,7 @@ change_to_or_not x (Deliver m y) = inr (λ h. h)
 change_to_or_not x (Fail y) = inr (λ h. h)
 
 pub change_of : (log : List Entry) (i : ℕ) (x : ConfId) (e : Entry) → slice_get log i ≡ Some e → IsChangeTo e x → ChangesTo log i x
-change_of log i x (Conf y ms) at same = (ms, rw same at at)
-change_of log i x (Send m y s) at h = absurd h
-change_of log i x (Deliver m y) at h = absurd h
-change_of log i x (Fail y) at h = absurd h
+change_of log i x e h k = grind arith
 
 pub first_change_or_not : (log : List Entry) (x : ConfId) → ((i : ℕ) × IsFirstChange log x i) ⊎ ((i : ℕ) → ChangesTo log i x → ⊥)
 first_change_or_not log x = elim (first_or_none log (λ i e. IsChangeTo e x) (λ i e. change_to_or_not x e)) [
@@ -92,16 +71,10 @@ IsAnyChange (Deliver m y) = ⊥
 IsAnyChange (Fail y) = ⊥
 
 pub any_change_or_not : (e : Entry) → IsAnyChange e ⊎ (IsAnyChange e → ⊥)
-any_change_or_not (Conf y ms) = inl tt
-any_change_or_not (Send m y s) = inr (λ h. h)
-any_change_or_not (Deliver m y) = inr (λ h. h)
-any_change_or_not (Fail y) = inr (λ h. h)
+any_change_or_not e = grind arith
 
 pub any_change_of : (log : List Entry) (i : ℕ) (e : Entry) → slice_get log i ≡ Some e → IsAnyChange e → IsChange log i
-any_change_of log i (Conf y ms) at h = (y, (ms, at))
-any_change_of log i (Send m y s) at h = absurd h
-any_change_of log i (Deliver m y) at h = absurd h
-any_change_of log i (Fail y) at h = absurd h
+any_change_of log i e h k = grind arith
 
 pub next_change_or_not : (log : List Entry) (i : ℕ) → ((j : ℕ) × IsNextChange log i j) ⊎ ((j : ℕ) → IsNextChange log i j → ⊥)
 next_change_or_not log i = elim (first_or_none log (λ j e. (i < j) × IsAnyChange e) (λ j e. both_or_not (below_or_not i j) (any_change_or_not e))) [
@@ -184,14 +157,7 @@ has_send_or_not run log m d p = elim (first_or_none (log_of run p) (λ j e. IsSe
 
 has_send : (run : List Log) (log : List Entry) (m : MsgId) (d : ConfId) (p : ℕ) → HasSend run log m d p → WasSentTo run log m d
 unfolding HasSend
-has_send run log m d p found = go found.entry found.at found.has
-  where
-    go : (e : Entry) → slice_get (log_of run p) found.index ≡ Some e → IsSendTo log m d p found.index e → WasSentTo run log m d
-    go (Conf x ms) at h = absurd h
-    go (Send n (Regular c) s) at (same, inside) = (c, (p, found.index, (s, rw same at at)), inside)
-    go (Send n (Transitional l x) s) at h = absurd h
-    go (Deliver n x) at h = absurd h
-    go (Fail x) at h = absurd h
+has_send run log m d p found = grind arith
 
 has_no_send : (run : List Log) (log : List Entry) (m : MsgId) (d : ConfId) → ((p : ℕ) → HasSend run log m d p → ⊥) → WasSentTo run log m d → ⊥
 unfolding HasSend

@@ -1,16 +1,5 @@
 -- A change to a regular configuration, the next change and the one after that bound the stay in it.
-use Rattle.std.proofs.Common.{◌≡◌, ℕ, ◌-◌, ◌<◌, ◌≤◌, ◌⊎◌, inl, inr, List, length, slice_get, get_or, Some, refl, sym, arith}
-use Rattle.std.proofs.lemmas.Option.{slice_get_within, slice_get-get_or}
-use Rattle.totem_names.specs.declared.ring.RingId.{RingId}
-use Rattle.totem_names.specs.declared.conf.ConfId.{ConfId}
-use Rattle.totem_names.specs.declared.conf.ConfId.TheVariants.{Regular}
-use Rattle.totem_evs.specs.declared.entry.Entry.{Entry}
-use Rattle.totem_evs.specs.declared.entry.Entry.TheVariants.{Conf, Send, Deliver, Fail}
-use Rattle.totem_evs.specs.Events.{ChangesTo, IsChange}
-use Rattle.totem_evs.specs.Following.{IsNextChange, IsFirstChange, LastChange, Follows, Com, NeverFails, FailedIn, StaysIn, IsNextOrEnd}
-use Rattle.totem_evs.specs.Changes.{Names, NamesOnly, StandsIn, StaysInPlace, TakesTurns}
-use Rattle.totem_evs.proofs.LogOf.{less_or_not}
-use Rattle.totem_evs.proofs.NextChanges.{one_next, NoneBetween}
+use Rattle.totem_judge_run.proofs.Common.{◌≡◌, ℕ, ◌-◌, ◌<◌, ◌≤◌, ◌⊎◌, inl, inr, List, length, slice_get, get_or, Some, refl, arith, slice_get_within, slice_get-get_or, RingId, ConfId, Regular, Entry, Conf, Send, Deliver, Fail, ChangesTo, IsChange, IsNextChange, IsFirstChange, LastChange, Follows, Com, NeverFails, FailedIn, StaysIn, IsNextOrEnd, Names, StandsIn, StaysInPlace, TakesTurns, less_or_not, one_next, NoneBetween}
 use Rattle.totem_judge_run.specs.Stays.{Bounds, TurnsAt, IsStay}
 use Rattle.totem_judge_run.proofs.Decisions.{neither_below}
 
@@ -22,13 +11,7 @@ pub record KeepsRules (log : List Entry) : Type 0 where
 
 -- an entry that names a configuration is no change
 pub names_no_change : (log : List Entry) (i : ℕ) (x : ConfId) → Names log i x → IsChange log i → ⊥
-names_no_change log i x (e, at, names) change = go e at names change
-  where
-    go : (e : Entry) → slice_get log i ≡ Some e → NamesOnly e x → IsChange log i → ⊥
-    go (Conf z ms) h n c = n
-    go (Send m z s) h n (y, (ms, k)) = cc
-    go (Deliver m z) h n (y, (ms, k)) = cc
-    go (Fail z) h n (y, (ms, k)) = cc
+names_no_change log i x h k = grind arith
 
 pub names_within : (log : List Entry) (i : ℕ) (x : ConfId) → Names log i x → i < length log
 names_within log i x (e, at, names) = slice_get_within log i e at
@@ -97,22 +80,13 @@ follows log c from turn end rules bounds lt =
     }
 
 turn_or_end : (log : List Entry) (c : RingId) (from turn end : ℕ) → Bounds log c from turn end → (turn < length log) ⊎ ((length log ≡ turn) × (end ≡ turn))
-turn_or_end log c from turn end bounds = elim (less_or_not turn (length log)) [
-  | inl lt ↦ inl lt
-  | inr rest ↦ (let same : length log ≡ turn = elim rest [ inl gt ↦ omega (arith, bounds.two.first.within) | inr e ↦ sym e ] in inr (same, bounds.two.whole (omega arith)))
-]
+turn_or_end log c from turn end bounds = grind (arith, less_or_not)
 
 until : (log : List Entry) (c : RingId) (from turn end : ℕ) → Bounds log c from turn end → turn ≤ end
-until log c from turn end bounds = elim (turn_or_end log c from turn end bounds) [
-  | inl lt ↦ omega (arith, (bounds.two.second lt).later)
-  | inr past ↦ omega (arith, past.1)
-]
+until log c from turn end bounds = grind (arith, turn_or_end)
 
 end_within : (log : List Entry) (c : RingId) (from turn end : ℕ) → Bounds log c from turn end → end ≤ length log
-end_within log c from turn end bounds = elim (turn_or_end log c from turn end bounds) [
-  | inl lt ↦ (bounds.two.second lt).within
-  | inr past ↦ omega (arith, past.0, past.1)
-]
+end_within log c from turn end bounds = grind (arith, turn_or_end)
 
 -- if a change follows the change to c, or the stay continues after it
 has_turn : (log : List Entry) (c : RingId) (from turn end : ℕ) → Bounds log c from turn end → turn < end → turn < length log

@@ -1,15 +1,7 @@
 -- The walk along a log that looks for an entry out of place.
-use Rattle.std.proofs.Common.{◌≡◌, ℕ, ◌+◌, ◌<◌, ◌≤◌, inl, inr, List, length, slice_get, Option, Some, None, Bool, true, false, MatchOption, IsTrue, ◌↔◌, refl, sym, ◌∙◌, ap, arith, below_more}
-use Rattle.std.proofs.lemmas.Option.{slice_get_within}
-use Rattle.totem_names.specs.declared.conf.ConfId.{ConfId}
-use Rattle.totem_evs.specs.declared.entry.Entry.{Entry}
-use Rattle.totem_evs.specs.declared.entry.Entry.TheVariants.{Conf, Send, Deliver, Fail}
-use Rattle.totem_evs.specs.Runs.{IsFailure}
-use Rattle.totem_evs.specs.Events.{IsChange, Fails}
-use Rattle.totem_evs.specs.Changes.{Names, NamesOnly, StandsIn, StaysInPlace}
+use Rattle.totem_judge_run.proofs.Common.{◌≡◌, ℕ, ◌+◌, ◌<◌, ◌≤◌, inl, inr, List, length, slice_get, Option, Some, None, Bool, true, false, MatchOption, IsTrue, ◌↔◌, refl, ap, arith, below_more, slice_get_within, ConfId, Entry, Conf, Send, Deliver, Fail, IsFailure, IsChange, Fails, Names, NamesOnly, StandsIn, StaysInPlace, less_or_not}
 use Rattle.totem_evs.specs.ChangeFaults.{IsMisplaced}
 use Rattle.totem_judge_run.specs.Misplaced.{Fits, standing_after}
-use Rattle.totem_evs.proofs.LogOf.{less_or_not}
 use Rattle.totem_evs.proofs.Standing.{one_standing}
 use Rattle.totem_judge_run.proofs.Staying.{names_no_change}
 
@@ -22,23 +14,9 @@ pub record Knows (log : List Entry) (i : ℕ) (standing : Option ConfId) (failed
   pub named : (k : ℕ) → k < i → (x : ConfId) → Names log k x → StandsIn log k x
   pub final : (j k : ℕ) (x : ConfId) → Fails log j x → j < k → k < i → ⊥
 
--- nothing comes before the first entry
-pub none_known : (log : List Entry) → Knows log 0 None false
-none_known log = record {
-  stands = λ k lt change. omega arith;
-  failure = λ f. absurd cc;
-  no_failure = λ f k lt x fails. omega arith;
-  begins = λ lt. absurd (omega arith);
-  named = λ k lt x names. absurd (omega arith);
-  final = λ j k x fails lt below. omega arith;
-}
-
 -- two configurations that one entry names are one
 names_one : (e : Entry) (x y : ConfId) → NamesOnly e x → NamesOnly e y → x ≡ y
-names_one (Conf z ms) x y h k = absurd h
-names_one (Send m z s) x y h k = sym h ∙ k
-names_one (Deliver m z) x y h k = sym h ∙ k
-names_one (Fail z) x y h k = sym h ∙ k
+names_one e x y h k = grind arith
 
 -- an entry that names the configuration that the log is in leaves it there
 keeps : (log : List Entry) (i : ℕ) (standing : Option ConfId) → (IsChange log i → ⊥)
@@ -60,22 +38,7 @@ in_standing log i (Some y) x e stands = let same : y ≡ x = cc in rw same at st
 -- an entry that is no change and names the configuration that the log is in
 goes_on_named : (log : List Entry) (i : ℕ) (standing : Option ConfId) (e : Entry) (x : ConfId) (failed : Bool) → slice_get log i ≡ Some e → NamesOnly e x → standing ≡ Some x
     → (failed ≡ true → Fails log i x) → (failed ≡ false → (y : ConfId) → Fails log i y → ⊥) → Knows log i standing false → Knows log (i + 1) standing failed
-goes_on_named log i standing e x failed h n fits is_fail no_fail so_far =
-    let here = in_standing log i standing x fits so_far.stands in
-    record {
-      stands = keeps log i standing (names_no_change log i x (e, h, n)) so_far.stands;
-      failure = λ f. (i, x, omega arith, is_fail f);
-      no_failure = λ f. below_more (λ k. (y : ConfId) → Fails log k y → ⊥) i (so_far.no_failure refl) (no_fail f);
-      begins = λ lt. so_far.begins (omega (arith, here.before));
-      named = below_more (λ k. (y : ConfId) → Names log k y → StandsIn log k y) i so_far.named named_here;
-      final = λ j k y q lt below. so_far.no_failure refl j (omega arith) y q;
-    }
-  where
-    named_here : (y : ConfId) → Names log i y → StandsIn log i y
-    named_here y (f, at, names) =
-        let same : f ≡ e = cc in
-        let one : x ≡ y = names_one e x y n (rw same at names) in
-        rw one at (in_standing log i standing x fits so_far.stands)
+goes_on_named log i standing e x failed h n fits is_fail no_fail so_far = grind (arith, in_standing, keeps, names_no_change, names_one)
 
 goes_on_change : (log : List Entry) (i : ℕ) (standing : Option ConfId) (x : ConfId) (ms : List ℕ) → slice_get log i ≡ Some (Conf x ms) → Knows log i standing false → Knows log (i + 1) (Some x) false
 goes_on_change log i standing x ms h so_far = record {

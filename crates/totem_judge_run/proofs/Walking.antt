@@ -1,27 +1,13 @@
 -- One walk along a log, entry after entry.
-use Rattle.std.proofs.Common.{◌≡◌, ◌↔◌, ◌≤◌, ◌+◌, ◌++◌, ◌∷◌, [], ℕ, suc, List, length, take, slice_get, Option, None, Some, Bool, false, IsTrue, refl, sym, ap, ◌∙◌, arith}
-use Rattle.std.specs.Prelude.{option_to_list}
-use Rattle.std.specs.List.{AllWithin}
+use Rattle.totem_judge_run.proofs.Common.{◌≡◌, ◌↔◌, ◌≤◌, ◌+◌, ◌++◌, ◌∷◌, [], ℕ, suc, List, length, take, slice_get, Option, Some, Bool, false, IsTrue, refl, sym, ap, ◌∙◌, arith, option_to_list, append_assoc, AllWithin, take_all, slice_get_within, get_or_from_slice_get, All-from_all_within, AllWithin-more, at_read, filter_map-append, ConfId, MsgId, Entry, Conf, Send, Deliver, Fail, Log, IsFailure, AreRight, Enters, IsLastBefore, Keeps, AddsSend, IsNoSendBetween, message_in, messages_in}
 use Rattle.std.proofs.Math.Seq.{take-suc}
-use Rattle.std.proofs.lemmas.List.{append-nil, take_all}
-use mathlib.Core.List.{append_assoc}
-use Rattle.std.proofs.lemmas.Option.{slice_get_within, get_or_from_slice_get}
-use Rattle.std.proofs.lemmas.List.Elements.{All-from_all_within, AllWithin-more, at_read, filter_map-append}
-use Rattle.totem_names.specs.declared.conf.ConfId.{ConfId}
-use Rattle.totem_names.specs.declared.message.MsgId.{MsgId}
-use Rattle.totem_evs.specs.declared.entry.Entry.{Entry}
-use Rattle.totem_evs.specs.declared.entry.Entry.TheVariants.{Conf, Send, Deliver, Fail}
-use Rattle.totem_evs.specs.declared.log.Log.{Log}
-use Rattle.totem_evs.specs.Runs.{IsFailure}
 use Rattle.totem_judge_run.specs.declared.first_changes.FirstChanges.{FirstChanges}
 use Rattle.totem_judge_run.specs.declared.once_1_4.Once.TheVariants as once
-use Rattle.totem_judge_run.specs.FirstChanges.{AreRight, Enters, IsLastBefore, Keeps}
 use Rattle.totem_judge_run.specs.Misplaced.{Fits, standing_after}
-use Rattle.totem_judge_run.specs.Once.{AddsSend, IsNoSendBetween, message_in, messages_in}
 use Rattle.totem_judge_run.specs.Walked.{IsWalked, last_after}
 use Rattle.totem_judge_run.proofs.Behind.{now_before, still_before}
 use Rattle.totem_judge_run.proofs.ChangesMet.{more_right}
-use Rattle.totem_judge_run.proofs.Walk.{Knows, all_placed, goes_on, none_known}
+use Rattle.totem_judge_run.proofs.Walk.{Knows, all_placed, goes_on}
 
 -- what is known before the entry at `at`
 pub record SoFar (log : Log) (at : ℕ) (sent sending : List MsgId) (old new : FirstChanges) (standing : Option ConfId) (failed : Bool) (before : Option ℕ) : Type 0 where
@@ -33,10 +19,7 @@ pub record SoFar (log : Log) (at : ℕ) (sent sending : List MsgId) (old new : F
   pub last : IsLastBefore log.entries at before
 
 last_more : (entries : List Entry) (at : ℕ) (before : Option ℕ) (e : Entry) → slice_get entries at ≡ Some e → IsLastBefore entries at before → IsLastBefore entries (at + 1) (last_after before at e)
-last_more entries at before (Conf x ms) there last = now_before entries at (Conf x ms) x ms there refl
-last_more entries at before (Send m x s) there last = still_before entries at before (Send m x s) there (λ y ms is. cc) last
-last_more entries at before (Deliver m x) there last = still_before entries at before (Deliver m x) there (λ y ms is. cc) last
-last_more entries at before (Fail x) there last = still_before entries at before (Fail x) there (λ y ms is. cc) last
+last_more entries at before e h k = grind (arith, now_before, still_before)
 
 -- the list of what was sent has grown by the message of the entry
 sent_more : (entries : List Entry) (at : ℕ) (e : Entry) (sent sending more : List MsgId) → slice_get entries at ≡ Some e → more ≡ sending ++ option_to_list (message_in once.Send e)
@@ -51,16 +34,6 @@ sent_more entries at e sent sending more there adds before =
     one_message (Send m x s) = refl
     one_message (Deliver m x) = refl
     one_message (Fail x) = refl
-
-pub none_so_far : (log : Log) (sent : List MsgId) (firsts : FirstChanges) → SoFar log 0 sent sent firsts firsts None false None
-none_so_far log sent firsts = record {
-  placed = none_known log.entries;
-  adds = sym (append-nil sent);
-  regular = λ k d from under. absurd (omega arith);
-  right = record { each = λ i lt x ms there. absurd (omega arith) };
-  kept = record { each = λ x f is. is };
-  last = record { none = λ k lt change. absurd (omega arith) };
-}
 
 pub so_far_more : (log : Log) (at : ℕ) (e : Entry) (sent sending more : List MsgId) (old new firsts : FirstChanges) (standing : Option ConfId) (failed : Bool) (before : Option ℕ)
     → slice_get log.entries at ≡ Some e → Fits standing e → (IsTrue failed ↔ IsFailure e) → AddsSend sending more e → Enters new firsts log at

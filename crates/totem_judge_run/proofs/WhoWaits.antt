@@ -1,33 +1,16 @@
 -- Which processes wait, log by log.
-use Rattle.std.proofs.Common.{below_more, ◌≡◌, ◌⊎◌, ◌↔◌, ◌+◌, ◌<◌, ◌≤◌, ℕ, inl, inr, List, [], ◌∷◌, ◌++◌, length, slice_get, Some, false, IsTrue, refl, sym, arith}
-use Rattle.std.specs.Prelude.{AllPairs, Contains}
-use Rattle.std.proofs.lemmas.Option.{slice_get_within, slice_get_read, get_or_from_slice_get}
+use Rattle.totem_judge_run.proofs.Common.{below_more, ◌≡◌, ◌⊎◌, ◌↔◌, ◌+◌, ◌<◌, ◌≤◌, ℕ, inl, inr, List, [], ◌∷◌, ◌++◌, length, slice_get, Some, false, IsTrue, refl, sym, arith, AllPairs, Contains, slice_get_within, slice_get_read, get_or_from_slice_get, Contains-append_left, Contains-get_or, Contains-push, Contains-push_cases, ConfId, Entry, Conf, Log, log_of, IsMember, EndsIn, IsWaiting, WaitingBelow, AreWaiting, IsOrderly, Rising, log_of_cases, HasNoLog, StandsAtEnd, EndsNowhere, AreWaitingAt}
 use Rattle.std.proofs.lemmas.List.Quantifiers.{all_pairs_push}
-use Rattle.std.proofs.lemmas.List.Elements.{Contains-append_left, Contains-get_or, Contains-push, Contains-push_cases}
-use Rattle.totem_names.specs.declared.conf.ConfId.{ConfId}
 use Rattle.totem_names.proofs.Lives.{below_is_less}
 use Rattle.totem_evs.specs.Members.{IsBelow}
-use Rattle.totem_evs.specs.declared.entry.Entry.{Entry}
-use Rattle.totem_evs.specs.declared.entry.Entry.TheVariants.{Conf}
-use Rattle.totem_evs.specs.declared.log.Log.{Log}
 use Rattle.totem_evs.specs.declared.pending.Waiting.{Waiting}
-use Rattle.totem_evs.specs.Events.{log_of, IsChange, IsMember}
-use Rattle.totem_evs.specs.Unsettled.{EndsIn, IsWaiting, WaitingBelow, AreWaiting}
-use Rattle.totem_judge_run.specs.Orderly.{IsOrderly}
-use Rattle.totem_evs.proofs.LogOf.{Rising, log_of_cases}
-use Rattle.totem_judge_run.specs.Ends.{HasNoLog}
-use Rattle.totem_judge_run.specs.Endings.{StandsAtEnd, EndsNowhere, AreWaitingAt}
 use Rattle.totem_judge_run.proofs.Gathering.{HasLogBefore, Gathered, gathered_more, all_gathered}
 use Rattle.totem_judge_run.proofs.Decisions.{neither_below}
 
 -- ---- whether a process ends in a configuration
 
 pub no_log : (run : List Log) (p : ℕ) (x : ConfId) → HasNoLog run p → IsTrue false ↔ EndsIn (log_of run p) x
-no_log run p x none = (λ t. absurd cc, λ h. go (log_of_cases run p) h)
-  where
-    go : (log_of run p ≡ []) ⊎ ((j : ℕ) × (log : Log) × (slice_get run j ≡ Some log) × (log.proc ≡ p) × (log_of run p ≡ log.entries)) → EndsIn (log_of run p) x → IsTrue false
-    go (inl empty) h = absurd (let at : slice_get {X = Entry} [] h.last.index ≡ Some (Conf x h.last.change.0) = rw empty at h.last.change.1 in cc)
-    go (inr (j, log, at, same, is)) h = absurd (none.none (j, log, slice_get_within run j log at, get_or_from_slice_get run j log log at, same))
+no_log run p x none = grind (arith, log_of_cases, slice_get_within, get_or_from_slice_get)
 
 -- ---- for whom one process waits
 
@@ -158,10 +141,7 @@ pub waits_all_in : (run : List Log) (p i : ℕ) (x : ConfId) (ms : List ℕ) (n 
 waits_all_in run p i x ms n e entries list orderly is stands at entry end h = waits_all run p i x ms n list orderly end (rw is at stands) (rw (is, entry) at at) h
 
 pub change_at_end : (log : List Entry) (i : ℕ) (e : Entry) → StandsAtEnd log i → slice_get log i ≡ Some e → ((x : ConfId) (ms : List ℕ) → e ≡ Conf x ms → ⊥) → ⊥
-change_at_end log i e stands at not_conf = go stands.change
-  where
-    go : IsChange log i → ⊥
-    go (x, (ms, at_i)) = not_conf x ms cc
+change_at_end log i e stands at not_conf = grind arith
 
 pub end_within : (log : List Entry) (i : ℕ) → StandsAtEnd log i → i < length log
 end_within log i stands = slice_get_within log i _ stands.change.1.1

@@ -1,4 +1,5 @@
 -- All rules of one configuration.
+use Rattle.std.proofs.Common.{arith}
 use Rattle.totem_evs.specs.declared.spec.SpecNo.TheVariants as spec
 use Rattle.totem_judge_traffic.specs.declared.traffic.Traffic.{Traffic}
 use Rattle.totem_judge_traffic.specs.declared.agreed.Shown.{Shown}
@@ -6,16 +7,7 @@ use Rattle.totem_judge_traffic.specs.Clean.{Shows, ShowsAgreement, AreShown, IsA
 
 pub agreed : (traffic : Traffic) → Shows spec.OwnDelivery traffic → Shows spec.Atomicity traffic → Shows spec.Causality traffic → Shows spec.Gap traffic
     → Shows spec.Safety traffic → Shows spec.Installed traffic → ShowsAgreement traffic
-agreed traffic own atomicity causality gap safety installed = record {
-  met = λ run c meets is. record {
-    own = own.met run c meets is;
-    atomicity = atomicity.met run c meets is;
-    causality = causality.met run c meets is;
-    gap = gap.met run c meets is;
-    safety = safety.met run c meets is;
-    installed = installed.met run c meets is;
-  };
-}
+agreed traffic own atomicity causality gap safety installed = grind arith
 
 -- where all is shown, the run agrees
 pub shown_agreed : (traffic : Traffic) (shown : Shown) → AreShown traffic shown → IsAllShown shown → ShowsAgreement traffic

@@ -1,16 +1,8 @@
 -- 7.2 over the traffic of a configuration.
-use Rattle.std.proofs.Common.{inl, ℕ, List, refl}
-use Rattle.std.specs.Prelude.{All}
-use Rattle.totem_names.specs.declared.ring.RingId.{RingId}
-use Rattle.totem_names.specs.declared.conf.ConfId.TheVariants.{Regular}
-use Rattle.totem_names.specs.declared.message.MsgId.{MsgId}
-use Rattle.totem_evs.specs.declared.log.Log.{Log}
-use Rattle.totem_evs.specs.declared.entry.Entry.TheVariants.{Deliver}
+use Rattle.std.proofs.Common.{arith}
+use Rattle.totem_judge_traffic.proofs.Common.{inl, ℕ, List, refl, All, RingId, Regular, MsgId, Log, Deliver, ChangesTo, Delivers, IsSafe, IsMember, log_of, IsTrafficOf, AllHaveCome, IsNotSafeThere, Shows}
 use Rattle.totem_evs.specs.declared.spec.SpecNo.TheVariants as spec
-use Rattle.totem_evs.specs.Events.{ChangesTo, Delivers, IsSafe, IsMember, log_of}
 use Rattle.totem_judge_traffic.specs.declared.traffic.Traffic.{Traffic}
-use Rattle.totem_judge_traffic.specs.Traffics.{IsTrafficOf}
-use Rattle.totem_judge_traffic.specs.Clean.{AllHaveCome, IsNotSafeThere, Shows}
 use Rattle.totem_judge_traffic.proofs.Facts.{all_at, has_log, got_of}
 
 come : (run : List Log) (c : RingId) (traffic : Traffic) → AllHaveCome traffic → IsTrafficOf run c traffic
@@ -34,6 +26,4 @@ never run c traffic clean is m p i safe delivers =
     (all_at IsNotSafeThere traffic.got.items has.at has.got clean has.stands (got.safe.1 safe)).none log.0 ((got.regular.exact log.0 p log.1).1 (i, delivers))
 
 pub none_met : (traffic : Traffic) → All IsNotSafeThere traffic.got.items → Shows spec.Installed traffic
-none_met traffic clean = record {
-  met = λ run c meets is. record { each = λ m p i q safe delivers member. absurd (never run c traffic clean is m p i safe delivers) };
-}
+none_met traffic clean = grind (arith, never)

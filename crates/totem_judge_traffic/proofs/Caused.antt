@@ -1,25 +1,9 @@
 -- 5 over the traffic of a configuration.
-use Rattle.std.proofs.Common.{◌≡◌, ◌⊎◌, inl, inr, ℕ, zero, suc, ◌+◌, ◌<◌, List, length, slice_get, Some, refl, sym, ap, subst, arith}
-use Rattle.std.proofs.lemmas.Option.{slice_get_within}
-use Rattle.totem_names.specs.declared.ring.RingId.{RingId}
-use Rattle.totem_names.specs.declared.conf.ConfId.{ConfId}
-use Rattle.totem_names.specs.declared.conf.ConfId.TheVariants.{Regular}
-use Rattle.totem_names.specs.declared.message.MsgId.{MsgId}
-use Rattle.totem_names.specs.declared.place.Place.{Place}
-use Rattle.totem_evs.specs.declared.log.Log.{Log}
-use Rattle.totem_evs.specs.declared.entry.Entry.TheVariants.{Send}
+use Rattle.totem_judge_traffic.proofs.Common.{◌≡◌, ◌⊎◌, inl, inr, ℕ, ◌+◌, ◌<◌, List, length, slice_get, Some, refl, sym, ap, subst, arith, slice_get_within, RingId, ConfId, Regular, MsgId, Place, Log, Sends, Delivers, log_of, SendsAt, DeliversIn, HasDelivered, IsHop, MeetsPasses, less_or_not, IsLogAt, IsTrafficOf, HasSent, HasGot, IsBy, AreFewerTo, AreInOrderTo, AreCausalTo, Shows}
 use Rattle.totem_evs.specs.declared.spec.SpecNo.TheVariants as spec
-use Rattle.totem_evs.specs.Events.{Sends, Delivers, at_place, log_of}
-use Rattle.totem_evs.specs.Steps.{SendsAt}
-use Rattle.totem_evs.specs.Following.{DeliversIn, HasDelivered}
-use Rattle.totem_evs.specs.RingAgreement.{IsHop}
-use Rattle.totem_evs.specs.Answers.{MeetsPasses}
-use Rattle.totem_evs.proofs.LogOf.{less_or_not}
 use Rattle.totem_judge_traffic.specs.declared.traffic.Got.{Got}
 use Rattle.totem_judge_traffic.specs.declared.traffic.Traffic.{Traffic}
 use Rattle.totem_judge_traffic.specs.LogSets.{Has}
-use Rattle.totem_judge_traffic.specs.Traffics.{IsLogAt, IsTrafficOf, HasSent, HasGot}
-use Rattle.totem_judge_traffic.specs.Clean.{IsBy, AreFewerTo, AreInOrderTo, AreCausalTo, Shows}
 use Rattle.totem_judge_traffic.proofs.Facts.{got_of, one_log, by_or_not, is_by, by_delivers, in_logs, log_of_delivery, sender_of, stands_first}
 
 -- the index of a send
@@ -29,11 +13,7 @@ pub record SendIndex (run : List Log) (e : Place) (m : MsgId) (x : ConfId) : Typ
   pub sends : Sends (log_of run e.proc) index m x
 
 index_of_send : (run : List Log) (e : Place) (m : MsgId) (x : ConfId) → SendsAt run e m x → SendIndex run e m x
-index_of_send run e m x (service, here) = go e.at refl here
-  where
-    go : (k : ℕ) → e.at ≡ k → at_place (log_of run e.proc) k ≡ Some (Send m x service) → SendIndex run e m x
-    go zero is h = absurd cc
-    go (suc i) is h = record { index = i; at = omega arith; sends = (service, h) }
+index_of_send run e m x h = grind arith
 
 -- what the rules of 5 require
 pub record IsCausallyClean (traffic : Traffic) : Type 0 where

@@ -1,27 +1,11 @@
 -- What the traffic of a configuration says about the logs.
-use Rattle.std.proofs.Common.{◌≡◌, ◌⊎◌, inl, inr, ℕ, ◌<◌, List, [], slice_get, Some, refl, sym, ◌∙◌, ap, subst, arith}
-use Rattle.std.specs.Prelude.{◌↔◌, IsTrue, All}
-use Rattle.std.proofs.lemmas.Option.{slice_get_within, get_or_from_slice_get}
-use Rattle.totem_names.specs.declared.ring.RingId.{RingId}
-use Rattle.totem_names.specs.declared.conf.ConfId.{ConfId}
-use Rattle.totem_names.specs.declared.conf.ConfId.TheVariants.{Regular}
-use Rattle.totem_names.specs.declared.message.MsgId.{MsgId}
-use Rattle.totem_evs.specs.declared.entry.Entry.{Entry}
-use Rattle.totem_evs.specs.declared.log.Log.{Log}
-use Rattle.totem_evs.specs.declared.entry.Entry.TheVariants.{Deliver}
-use Rattle.totem_evs.specs.Events.{ChangesTo, Sends, Delivers, IsSafe, log_of}
-use Rattle.totem_evs.specs.Changes.{StandsIn}
+use Rattle.totem_judge_traffic.proofs.Common.{◌≡◌, ◌⊎◌, inl, inr, ℕ, ◌<◌, List, slice_get, Some, refl, sym, ◌∙◌, ap, subst, arith, ◌↔◌, IsTrue, All, slice_get_within, get_or_from_slice_get, RingId, ConfId, Regular, MsgId, Entry, Log, Deliver, ChangesTo, Sends, Delivers, IsSafe, log_of, StandsIn, DeliversIn, HasDelivered, MeetsPasses, Rising, log_of_cases, in_order, less_or_not, IsLogAt, AreLogsOf, DeliversBehind, IsTrafficOf, HasGot, IsBy}
 use Rattle.totem_evs.specs.Runs.{IsRun}
-use Rattle.totem_evs.specs.Following.{DeliversIn, HasDelivered}
-use Rattle.totem_evs.specs.Answers.{MeetsPasses}
 use Rattle.totem_evs.proofs.Originating.{delivered_in}
-use Rattle.totem_evs.proofs.LogOf.{Rising, log_of_cases, in_order, less_or_not}
 use Rattle.totem_judge_traffic.specs.declared.traffic.Sent.{Sent}
 use Rattle.totem_judge_traffic.specs.declared.traffic.Got.{Got}
 use Rattle.totem_judge_traffic.specs.declared.traffic.Traffic.{Traffic}
 use Rattle.totem_judge_traffic.specs.LogSets.{Has}
-use Rattle.totem_judge_traffic.specs.Traffics.{IsLogAt, AreLogsOf, DeliversBehind, IsTrafficOf, HasGot}
-use Rattle.totem_judge_traffic.specs.Clean.{IsBy}
 use Rattle.totem_judge_traffic.proofs.Sets.{has_or_not}
 
 -- what holds for all holds for each
@@ -30,21 +14,11 @@ all_at P xs k x all at = rw (get_or_from_slice_get xs k x x at) at (all k x (sli
 
 -- a process that has an entry has a log
 pub has_log : (run : List Log) (p i : ℕ) (x : Entry) → slice_get (log_of run p) i ≡ Some x → (index : ℕ) × IsLogAt run index p
-has_log run p i x at = elim (log_of_cases run p) [
-  | inl none ↦ absurd (empty (rw none at at))
-  | inr (k, log, stands, proc, is) ↦ (k, record { log = log; stands = stands; proc = proc })
-]
-  where
-    empty : slice_get {X = Entry} [] i ≡ Some x → ⊥
-    empty e = cc
+has_log run p i x at = grind (arith, log_of_cases)
 
 -- a process has one log
 pub one_log : (run : List Log) (j k p : ℕ) → Rising run → IsLogAt run j p → IsLogAt run k p → j ≡ k
-one_log run j k p rising a b = elim (less_or_not j k) [
-  | inl below ↦ absurd (let lt = in_order run j k a.log b.log rising a.stands b.stands below in omega (arith, lt, a.proc, b.proc))
-  | inr (inl above) ↦ absurd (let lt = in_order run k j b.log a.log rising b.stands a.stands above in omega (arith, lt, a.proc, b.proc))
-  | inr (inr same) ↦ same
-]
+one_log run j k p rising a b = grind (arith, less_or_not, in_order)
 
 -- what is known about the delivery of m
 pub record IsGotOf (run : List Log) (c : RingId) (m : MsgId) (got : Got) : Type 0 where
@@ -68,13 +42,7 @@ pub small : (run : List Log) (index p : ℕ) → IsRun run → IsLogAt run index
 small run index p is log = omega (arith, is.few, slice_get_within run index log.log log.stands)
 
 pub by_or_not : (got : Got) (log : ℕ) → IsBy got log ⊎ (IsBy got log → ⊥)
-by_or_not got log = elim (has_or_not got.regular log) [
-  | inl there ↦ inl (inl there)
-  | inr not_there ↦ elim (has_or_not got.transitional log) [
-    | inl behind ↦ inl (inr behind)
-    | inr not_behind ↦ inr (λ h. elim h [ inl there ↦ not_there there | inr behind ↦ not_behind behind ])
-  ]
-]
+by_or_not got log = grind (arith, has_or_not)
 
 -- a process that delivers m is among those that the traffic has for m
 pub is_by : (run : List Log) (c : RingId) (m : MsgId) (got : Got) (index p i : ℕ) → IsGotOf run c m got → IsLogAt run index p → DeliversIn (log_of run p) c m i → IsBy got index

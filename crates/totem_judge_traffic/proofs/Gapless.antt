@@ -1,18 +1,7 @@
 -- 6.3 over the traffic of a configuration.
-use Rattle.std.proofs.Common.{◌⊎◌, inl, inr, ℕ, ◌<◌, List, length}
-use Rattle.std.proofs.lemmas.Option.{slice_get_within}
-use Rattle.totem_names.specs.declared.ring.RingId.{RingId}
-use Rattle.totem_names.specs.declared.conf.ConfId.{ConfId}
-use Rattle.totem_names.specs.declared.message.MsgId.{MsgId}
-use Rattle.totem_evs.specs.declared.log.Log.{Log}
-use Rattle.totem_evs.specs.declared.entry.Entry.TheVariants.{Deliver}
+use Rattle.totem_judge_traffic.proofs.Common.{◌⊎◌, inl, inr, ℕ, ◌<◌, List, length, slice_get_within, RingId, ConfId, MsgId, Log, Deliver, Sends, Delivers, IsMember, log_of, Com, DeliversIn, HasDelivered, MeetsPasses, IsLogAt, IsTrafficOf, HasGot, IsBy, NoGapsTo, HasNoGap, Shows}
 use Rattle.totem_evs.specs.declared.spec.SpecNo.TheVariants as spec
-use Rattle.totem_evs.specs.Events.{Sends, Delivers, IsMember, log_of}
-use Rattle.totem_evs.specs.Following.{Com, DeliversIn, HasDelivered}
-use Rattle.totem_evs.specs.Answers.{MeetsPasses}
 use Rattle.totem_judge_traffic.specs.declared.traffic.Traffic.{Traffic}
-use Rattle.totem_judge_traffic.specs.Traffics.{IsLogAt, IsTrafficOf, HasGot}
-use Rattle.totem_judge_traffic.specs.Clean.{IsBy, NoGapsTo, HasNoGap, Shows}
 use Rattle.totem_judge_traffic.proofs.Facts.{has_log, got_of, small, by_or_not, is_by, by_delivers, in_logs, log_of_delivery, sender_of, stands_first}
 
 module _ (run : List Log) (c : RingId) (traffic : Traffic) (meets : MeetsPasses run) (is : IsTrafficOf run c traffic)

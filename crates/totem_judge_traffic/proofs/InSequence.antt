@@ -1,22 +1,15 @@
 -- Steps of the loops over what one sender sends.
-use Rattle.std.proofs.Common.{◌≡◌, ◌≢◌, ◌⊎◌, inl, inr, ℕ, ◌+◌, ◌<◌, ◌≤◌, List, length, slice_get, slice_index_or, slice_set, Some, refl, arith, length-set}
-use Rattle.std.specs.Prelude.{◌↔◌, slice_index}
+use Rattle.totem_judge_traffic.proofs.Common.{◌≡◌, ◌≢◌, ◌⊎◌, inl, inr, ℕ, ◌+◌, ◌<◌, ◌≤◌, List, length, slice_get, slice_index_or, slice_set, Some, refl, arith, length-set, ◌↔◌, slice_index, less_or_not, AreFewerTo, AreInOrderTo}
 use Rattle.std.proofs.lemmas.Grind.{get_or-set_at}
 use Rattle.std.proofs.lemmas.List.{get_or-set_other}
-use Rattle.totem_evs.proofs.LogOf.{less_or_not}
 use Rattle.totem_judge_traffic.specs.declared.log_set.LogSet.{LogSet}
 use Rattle.totem_judge_traffic.specs.declared.traffic.Sent.{Sent}
 use Rattle.totem_judge_traffic.specs.declared.traffic.Got.{Got}
 use Rattle.totem_judge_traffic.specs.LogSets.{Has, IsWithin}
-use Rattle.totem_judge_traffic.specs.Clean.{AreFewerTo, AreInOrderTo}
 use Rattle.totem_judge_traffic.proofs.Rowing.{before_or_at, one_at}
 
 same_or_not : (a b : ℕ) → (a ≡ b) ⊎ (a ≢ b)
-same_or_not a b = elim (less_or_not a b) [
-  | inl under ↦ inr (λ e. omega arith)
-  | inr (inl over) ↦ inr (λ e. omega arith)
-  | inr (inr same) ↦ inl same
-]
+same_or_not a b = grind (arith, less_or_not)
 
 -- ---- fewer and fewer
 
@@ -80,12 +73,7 @@ pub record OrderSoFar (gots : List Got) (n : ℕ) (begun : LogSet) (last : List 
   pub bounds : (j : ℕ) (a : Got) → j < n → slice_get gots j ≡ Some a → a.sent ≤ slice_index last a.sender
 
 pub order_none : (gots : List Got) (begun : LogSet) (last : List ℕ) → length last ≡ 32 → OrderSoFar gots 0 begun last
-order_none gots begun last long = record {
-  long = long;
-  clean = record { each = λ j k a b before lt at_j at_k same. absurd (omega arith) };
-  has = λ j a lt at. absurd (omega arith);
-  bounds = λ j a lt at. absurd (omega arith);
-}
+order_none gots begun last long = grind arith
 
 module _ (gots : List Got) (n : ℕ) (begun new : LogSet) (last : List ℕ) (b : Got) (at : slice_get gots n ≡ Some b) (few : b.sender < 32)
     (fresh : (Has begun b.sender → ⊥) ⊎ (slice_index last b.sender < b.sent)) (here : Has new b.sender) (others : (log : ℕ) → log ≢ b.sender → Has new log ↔ Has begun log)

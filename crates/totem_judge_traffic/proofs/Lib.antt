@@ -1,3 +1,4 @@
+pub mod Common
 pub mod Agreeing
 pub mod AllCome
 pub mod Caused

@@ -1,19 +1,10 @@
 -- What is pending, over the traffic of a configuration.
-use Rattle.std.proofs.Common.{◌≡◌, inl, inr, ℕ, ◌+◌, ◌<◌, List, [], ◌∷◌, ◌++◌, length, slice_get, Some, sym, ◌∙◌, ap, subst, arith}
-use Rattle.std.specs.Prelude.{Contains}
-use Rattle.std.proofs.lemmas.Option.{slice_get_within}
-use Rattle.std.proofs.lemmas.List.Elements.{Contains-push, Contains-push_cases, Contains-append_left}
+use Rattle.totem_judge_traffic.proofs.Common.{◌≡◌, inl, inr, ℕ, ◌+◌, ◌<◌, List, [], ◌∷◌, ◌++◌, length, slice_get, Some, sym, ◌∙◌, ap, subst, arith, Contains, slice_get_within, Contains-push, Contains-push_cases, Contains-append_left, RingId, MsgId, Log, Regular, Sends, log_of, IsLogAt, IsTrafficOf}
 use Rattle.totem_judge_traffic.proofs.Rowing.{before_or_at, one_at}
-use Rattle.totem_names.specs.declared.ring.RingId.{RingId}
-use Rattle.totem_names.specs.declared.message.MsgId.{MsgId}
-use Rattle.totem_evs.specs.declared.log.Log.{Log}
 use Rattle.totem_evs.specs.declared.pending.Pending.{Pending}
-use Rattle.totem_names.specs.declared.conf.ConfId.TheVariants.{Regular}
-use Rattle.totem_evs.specs.Events.{Sends, log_of}
 use Rattle.totem_judge_traffic.specs.declared.traffic.Sent.{Sent}
 use Rattle.totem_judge_traffic.specs.declared.traffic.Traffic.{Traffic}
 use Rattle.totem_judge_traffic.specs.LogSets.{Has}
-use Rattle.totem_judge_traffic.specs.Traffics.{IsLogAt, IsTrafficOf}
 use Rattle.totem_judge_traffic.specs.Pending.{IsPendingIn, IsMissingTo, AddsMissing, AddsPending}
 
 -- where the log is not open, nothing is pending
@@ -58,9 +49,7 @@ missing_pending traffic log q old new stands adds = record {
 -- ---- steps of the loop
 
 pub missing_none : (sents : List Sent) (log q : ℕ) (list : List Pending) → AddsMissing sents 0 log q list list
-missing_none sents log q list = record {
-  exact = λ x. (λ has. inl has, λ h. elim h [ inl has ↦ has | inr (proc, missing) ↦ absurd (let lt = missing.before in omega arith) ]);
-}
+missing_none sents log q list = grind arith
 
 later : (sents : List Sent) (n log : ℕ) (m : MsgId) → IsMissingTo sents n log m → IsMissingTo sents (n + 1) log m
 later sents n log m missing = record {

@@ -1,14 +1,7 @@
 -- 3 over the traffic of a configuration.
-use Rattle.std.proofs.Common.{inl, inr, ℕ, List}
-use Rattle.std.specs.Prelude.{All}
-use Rattle.totem_names.specs.declared.ring.RingId.{RingId}
-use Rattle.totem_names.specs.declared.message.MsgId.{MsgId}
-use Rattle.totem_evs.specs.declared.log.Log.{Log}
+use Rattle.totem_judge_traffic.proofs.Common.{inl, inr, ℕ, List, All, RingId, MsgId, Log, DeliversOrEnds, IsTrafficOf, HasSent, IsOwned, Shows}
 use Rattle.totem_evs.specs.declared.spec.SpecNo.TheVariants as spec
-use Rattle.totem_evs.specs.Following.{DeliversOrEnds}
 use Rattle.totem_judge_traffic.specs.declared.traffic.Traffic.{Traffic}
-use Rattle.totem_judge_traffic.specs.Traffics.{IsTrafficOf, HasSent}
-use Rattle.totem_judge_traffic.specs.Clean.{IsOwned, Shows}
 use Rattle.totem_judge_traffic.proofs.Facts.{all_at}
 
 owned : (run : List Log) (c : RingId) (traffic : Traffic) → All (IsOwned traffic.ended) traffic.sent.items → IsTrafficOf run c traffic

@@ -1,18 +1,13 @@
 -- Steps of the loops over rows.
-use Rattle.std.proofs.Common.{◌≡◌, ◌⊎◌, inl, inr, ℕ, ◌+◌, ◌<◌, ◌≤◌, List, length, get_or, replicate, slice_get, slice_index_or, slice_set, Some, length-set, sym, ◌∙◌, ap, arith}
-use Rattle.std.specs.Prelude.{◌↔◌}
+use Rattle.totem_judge_traffic.proofs.Common.{◌≡◌, ◌⊎◌, inl, inr, ℕ, ◌+◌, ◌<◌, ◌≤◌, List, length, get_or, replicate, slice_get, slice_index_or, slice_set, Some, length-set, sym, ◌∙◌, ap, arith, ◌↔◌, get_or_from_slice_get, slice_get-get_or, slice_get_within, less_or_not, RowHas, RowIsApart, RowsAreApart, KeepsRows, AddsToRows, IsBy, IsLacking, LacksTo, IsBehindWith, HasAllBehind, LacksBehindTo, NoGapsTo, IsCausal, AreCausalTo}
 use Rattle.std.proofs.lemmas.Grind.{get_or-set_at}
 use Rattle.std.proofs.lemmas.List.{get_or-replicate, get_or-set_other, length-replicate}
-use Rattle.std.proofs.lemmas.Option.{get_or_from_slice_get, slice_get-get_or, slice_get_within}
-use Rattle.totem_evs.proofs.LogOf.{less_or_not}
 use Rattle.totem_judge_traffic.specs.declared.log_set.LogSet.{LogSet}
 use Rattle.totem_judge_traffic.specs.declared.rows.Rows.{Rows}
 use Rattle.totem_judge_traffic.specs.declared.traffic.Sent.{Sent}
 use Rattle.totem_judge_traffic.specs.declared.traffic.Got.{Got}
 use Rattle.totem_judge_traffic.specs.declared.traffic.Following.{Following}
 use Rattle.totem_judge_traffic.specs.LogSets.{AreApart, AreIn, AreNoted, Has, IsEmpty, IsWithin}
-use Rattle.totem_judge_traffic.specs.Lacking.{RowHas, RowIsApart, RowsAreApart, KeepsRows, AddsToRows}
-use Rattle.totem_judge_traffic.specs.Clean.{IsBy, IsLacking, LacksTo, IsBehindWith, HasAllBehind, LacksBehindTo, NoGapsTo, IsCausal, AreCausalTo}
 
 -- ---- places of a list
 
@@ -37,28 +32,11 @@ keeps_on old mid new a b = record { each = λ log other has. b.each log other (a
 pub adds_none : (by lacking : LogSet) (rows : Rows) → AddsToRows by lacking 0 rows
 adds_none by lacking rows = record { each = λ log other lt a b. absurd (omega arith) }
 
-pub adds_nothing : (by lacking : LogSet) (end : ℕ) (rows : Rows) → ((other : ℕ) → Has lacking other → ⊥) → AddsToRows by lacking end rows
-adds_nothing by lacking end rows none = record { each = λ log other lt a b. absurd (none other b) }
-
 pub adds_row : (by lacking : LogSet) (n : ℕ) (old new : Rows) → KeepsRows old new → ((other : ℕ) → Has lacking other → RowHas new n other) → AddsToRows by lacking n old → AddsToRows by lacking (n + 1) new
-adds_row by lacking n old new keeps here adds = record {
-  each = λ log other lt a b. elim (before_or_at log n lt) [
-    | inl under ↦ keeps.each log other (adds.each log other under a b)
-    | inr same ↦ rw same (here other b)
-  ];
-}
+adds_row by lacking n old new keeps here adds = grind (arith, before_or_at)
 
 pub adds_no_row : (by lacking : LogSet) (n : ℕ) (rows : Rows) → (Has by n → ⊥) → AddsToRows by lacking n rows → AddsToRows by lacking (n + 1) rows
-adds_no_row by lacking n rows never adds = record {
-  each = λ log other lt a b. elim (before_or_at log n lt) [
-    | inl under ↦ adds.each log other under a b
-    | inr same ↦ absurd (never (rw same at a))
-  ];
-}
-
--- what holds for the rows before the end of the set holds for all
-pub adds_all : (by lacking : LogSet) (n : ℕ) (rows : Rows) → ((log : ℕ) → Has by log → log < n) → AddsToRows by lacking n rows → AddsToRows by lacking 32 rows
-adds_all by lacking n rows above adds = record { each = λ log other lt a b. adds.each log other (above log a) a b }
+adds_no_row by lacking n rows never adds = grind (arith, before_or_at)
 
 -- only the rows count
 pub keeps_again : (old mid new : Rows) → KeepsRows old mid → new.rows ≡ mid.rows → KeepsRows old new
@@ -88,9 +66,6 @@ pub ruleset rows_added = (keeps_all, keeps_on, adds_none, adds_row, adds_no_row)
 
 pub apart_none : (rows : Rows) (by others : LogSet) → RowsAreApart rows by others 0
 apart_none rows by others = record { none = λ log other lt a b h. omega arith }
-
-pub apart_nothing : (rows : Rows) (by others : LogSet) (end : ℕ) → ((other : ℕ) → Has others other → ⊥) → RowsAreApart rows by others end
-apart_nothing rows by others end none = record { none = λ log other lt a b h. none other h }
 
 pub apart_to_all : (rows : Rows) (by others : LogSet) (n : ℕ) → ((log : ℕ) → Has by log → log < n) → RowsAreApart rows by others n → RowsAreApart rows by others 32
 apart_to_all rows by others n above apart = record { none = λ log other lt a b h. apart.none log other (above log a) a b h }
@@ -178,12 +153,7 @@ behind_none list sender logs = record { each = λ k f other lt at member has. ab
 
 behind_more : (list : List Following) (sender n : ℕ) (f : Following) (old new : LogSet) → slice_get list n ≡ Some f
     → ((log : ℕ) → Has old log → Has new log) → ((log : ℕ) → Has f.members.logs sender → Has f.logs log → Has new log) → HasAllBehind list sender n old → HasAllBehind list sender (n + 1) new
-behind_more list sender n f old new at keeps here has = record {
-  each = λ k g other lt at_k member log. elim (before_or_at k n lt) [
-    | inl under ↦ keeps other (has.each k g other under at_k member log)
-    | inr same ↦ (let e : g ≡ f = one_at list n g f (rw same at at_k) at in here other (rw e at member) (rw e at log))
-  ];
-}
+behind_more list sender n f old new at keeps here has = grind (arith, before_or_at, one_at)
 
 pub behind_next : (list : List Following) (sender n : ℕ) (d : Following) (old new : LogSet) → n < length list → IsWithin old new
     → (Has (slice_index_or list n d).members.logs sender → IsWithin (slice_index_or list n d).logs new) → HasAllBehind list sender n old → HasAllBehind list sender (n + 1) new

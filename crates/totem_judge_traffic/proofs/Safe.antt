@@ -1,21 +1,10 @@
 -- 7.1 over the traffic of a configuration.
-use Rattle.std.proofs.Common.{◌⊎◌, inl, inr, ℕ, List, refl}
-use Rattle.std.specs.Prelude.{All}
-use Rattle.totem_names.specs.declared.ring.RingId.{RingId}
-use Rattle.totem_names.specs.declared.conf.ConfId.{ConfId}
-use Rattle.totem_names.specs.declared.conf.ConfId.TheVariants.{Regular}
-use Rattle.totem_names.specs.declared.message.MsgId.{MsgId}
-use Rattle.totem_evs.specs.declared.log.Log.{Log}
-use Rattle.totem_evs.specs.declared.entry.Entry.TheVariants.{Deliver}
+use Rattle.totem_judge_traffic.proofs.Common.{◌⊎◌, inl, inr, ℕ, List, refl, All, RingId, ConfId, Regular, MsgId, Log, Deliver, Delivers, IsSafe, IsMember, log_of, Com, DeliversOrEnds, IsLogAt, AreMembers, IsTrafficOf, AreAllAmong, IsSafeBehind, ReachesAll, Shows}
 use Rattle.totem_evs.specs.declared.spec.SpecNo.TheVariants as spec
-use Rattle.totem_evs.specs.Events.{Delivers, IsSafe, IsMember, log_of}
-use Rattle.totem_evs.specs.Following.{Com, DeliversOrEnds}
 use Rattle.totem_judge_traffic.specs.declared.traffic.Got.{Got}
 use Rattle.totem_judge_traffic.specs.declared.traffic.MemberLogs.{MemberLogs}
 use Rattle.totem_judge_traffic.specs.declared.traffic.Traffic.{Traffic}
-use Rattle.totem_judge_traffic.specs.Traffics.{IsLogAt, AreMembers, IsTrafficOf}
 use Rattle.totem_judge_traffic.specs.LogSets.{Has}
-use Rattle.totem_judge_traffic.specs.Clean.{AreAllAmong, IsSafeBehind, ReachesAll, Shows}
 use Rattle.totem_judge_traffic.proofs.Facts.{all_at, has_log, IsGotOf, got_of}
 
 module _ (run : List Log) (c : RingId) (traffic : Traffic) (is : IsTrafficOf run c traffic) where

@@ -1,6 +1,5 @@
 -- Sets of logs as numbers.
-use Rattle.std.proofs.Common.{◌≡◌, ◌≢◌, ◌⊎◌, ◌↔◌, inl, inr, ℕ, suc, ◌+◌, ◌*◌, ◌-◌, ◌/◌, ◌%◌, ◌^◌, ◌<◌, ◌≤◌, min, max, sym, ◌∙◌, ap, arith, w32}
-use Rattle.std.specs.Prelude.{bit_and, bit_or}
+use Rattle.totem_judge_traffic.proofs.Common.{◌≡◌, ◌≢◌, ◌⊎◌, ◌↔◌, inl, inr, ℕ, suc, ◌+◌, ◌*◌, ◌-◌, ◌/◌, ◌%◌, ◌^◌, ◌<◌, ◌≤◌, min, max, sym, ◌∙◌, ap, arith, w32, bit_and, bit_or}
 use Rattle.std.specs.Int.{bit_at, bit_not, trailing_zeros, leading_zeros}
 use Rattle.std.proofs.lemmas.Nat.Bits.{bit_at-lt, bit_at-zero, bit_at_or, bit_at_and, bit_at_not, bit_at_above, bit_at_ones, bit_at_set_same, bit_at_set_other, bit_at_clear_same, bit_at_clear_other, bit_at-trailing_zeros, same_from_bits}
 use Rattle.std.proofs.lemmas.Nat.{leading_length}
@@ -76,22 +75,14 @@ without_others set log fits lt other apart = elim (less_or_not other 32) [
 
 pub union_of : (set other : LogSet) (log : ℕ) → Has (record { bits = bit_or set.bits other.bits }) log ↔ (Has set log ⊎ Has other log)
 unfolding Has
-union_of set other log =
-    let either = bit_at_or set.bits other.bits log in (
-      λ h. max_left (bit_at set.bits log) (bit_at other.bits log) (bit_at-lt set.bits log) (bit_at-lt other.bits log) (sym either ∙ h),
-      λ h. either ∙ max_right (bit_at set.bits log) (bit_at other.bits log) (bit_at-lt set.bits log) (bit_at-lt other.bits log) h,
-    )
+union_of set other log = grind (arith, bit_at_or, max_left, bit_at-lt, max_right)
 
 both_one : (x y : ℕ) → x < 2 → y < 2 → min x y ≡ 1 → (x ≡ 1) × (y ≡ 1)
 both_one x y a b h = (omega arith, omega arith)
 
 pub intersection_of : (set other : LogSet) (log : ℕ) → Has (record { bits = bit_and set.bits other.bits }) log ↔ (Has set log × Has other log)
 unfolding Has
-intersection_of set other log =
-    let both = bit_at_and set.bits other.bits log in (
-      λ h. both_one (bit_at set.bits log) (bit_at other.bits log) (bit_at-lt set.bits log) (bit_at-lt other.bits log) (sym both ∙ h),
-      λ (a, b). omega arith,
-    )
+intersection_of set other log = grind (arith, bit_at_and, both_one, bit_at-lt)
 
 less_one : (set other log : ℕ) → other < 2 ^ 32 → log < 32 → (bit_at (bit_and set (bit_not w32 other)) log ≡ 1 → (bit_at set log ≡ 1) × (bit_at other log ≡ 1 → ⊥))
     × ((bit_at set log ≡ 1) × (bit_at other log ≡ 1 → ⊥) → bit_at (bit_and set (bit_not w32 other)) log ≡ 1)
@@ -110,22 +101,13 @@ less_one set other log fits lt =
 pub minus_of : (set other : LogSet) → set.bits < 2 ^ 32 → other.bits < 2 ^ 32 → (log : ℕ)
     → Has (record { bits = bit_and set.bits (bit_not w32 other.bits) }) log ↔ (Has set log × (Has other log → ⊥))
 unfolding Has
-minus_of set other fits others_fit log = elim (less_or_not log 32) [
-  | inl under ↦ less_one set.bits other.bits log others_fit under
-  | inr over ↦ (λ h. absurd (above_and set (bit_not w32 other.bits) log fits over h), λ (a, b). absurd (above set log fits over a))
-]
+minus_of set other fits others_fit log = grind (arith, less_or_not, less_one, above_and, above)
 
 pub within_of : (set other left : LogSet) → ((log : ℕ) → Has left log ↔ (Has set log × (Has other log → ⊥))) → IsEmpty left ↔ IsWithin set other
-within_of set other left is = (
-  λ empty. record { each = λ log has. elim (has_or_not other log) [ inl there ↦ there | inr not_there ↦ absurd (empty.none log ((is log).1 (has, not_there))) ] },
-  λ within. record { none = λ log has. ((is log).0 has).1 (within.each log ((is log).0 has).0) },
-)
+within_of set other left is = grind (arith, has_or_not)
 
 pub apart_of : (set other both : LogSet) → ((log : ℕ) → Has both log ↔ (Has set log × Has other log)) → IsEmpty both ↔ AreApart set other
-apart_of set other both is = (
-  λ empty. record { none = λ log a b. empty.none log ((is log).1 (a, b)) },
-  λ apart. record { none = λ log has. apart.none log ((is log).0 has).0 ((is log).0 has).1 },
-)
+apart_of set other both is = grind arith
 
 pub least_of : (set : LogSet) → set.bits < 2 ^ 32 → (set.bits ≡ 0 → ⊥) → IsLeast set (trailing_zeros w32 set.bits)
 unfolding Has

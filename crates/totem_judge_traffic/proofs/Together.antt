@@ -1,27 +1,12 @@
 -- 4 over the traffic of a configuration.
-use Rattle.std.proofs.Common.{◌≡◌, ◌⊎◌, inl, inr, ℕ, ◌<◌, List, refl, sym, subst, arith}
-use Rattle.std.specs.Prelude.{All}
-use Rattle.totem_names.specs.declared.ring.RingId.{RingId}
-use Rattle.totem_names.specs.declared.conf.ConfId.{ConfId}
-use Rattle.totem_names.specs.declared.conf.ConfId.TheVariants.{Regular}
-use Rattle.totem_names.specs.declared.message.MsgId.{MsgId}
-use Rattle.totem_evs.specs.declared.log.Log.{Log}
-use Rattle.totem_evs.specs.declared.entry.Entry.{Entry}
-use Rattle.totem_evs.specs.declared.entry.Entry.TheVariants.{Conf}
+use Rattle.totem_judge_traffic.proofs.Common.{◌≡◌, ◌⊎◌, inl, inr, ℕ, ◌<◌, List, refl, sym, subst, arith, All, RingId, ConfId, Regular, MsgId, Log, Entry, Conf, ChangesTo, Delivers, log_of, IsNextChange, Com, Follows, MeetsPasses, less_or_not, IsLogAt, IsTrafficOf, IsWhole, IsTogether, IsAtomic, Shows, one_next}
 use Rattle.totem_evs.specs.declared.spec.SpecNo.TheVariants as spec
-use Rattle.totem_evs.specs.Events.{ChangesTo, Delivers, log_of}
-use Rattle.totem_evs.specs.Following.{IsNextChange, Com, Follows}
 use Rattle.totem_evs.specs.Agreement.{Goes}
-use Rattle.totem_evs.specs.Answers.{MeetsPasses}
 use Rattle.totem_evs.proofs.Originating.{origin}
-use Rattle.totem_evs.proofs.LogOf.{less_or_not}
 use Rattle.totem_judge_traffic.specs.declared.log_set.LogSet.{LogSet}
 use Rattle.totem_judge_traffic.specs.declared.traffic.Traffic.{Traffic}
-use Rattle.totem_judge_traffic.specs.Traffics.{IsLogAt, IsTrafficOf}
 use Rattle.totem_judge_traffic.specs.LogSets.{Has}
-use Rattle.totem_judge_traffic.specs.Clean.{IsWhole, IsTogether, IsAtomic, Shows}
 use Rattle.totem_judge_traffic.proofs.Facts.{all_at, has_log, got_of}
-use Rattle.totem_evs.proofs.NextChanges.{one_next}
 
 -- ---- what follows a configuration in a log
 

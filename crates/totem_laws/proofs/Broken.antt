@@ -1,7 +1,5 @@
 -- Each specification is met, or broken by no places.
-use Rattle.std.proofs.Common.{List, get_or}
-use Rattle.totem_evs.specs.declared.log.Log.{Log}
-use Rattle.totem_evs.specs.declared.spec.SpecNo.{SpecNo}
+use Rattle.totem_cert.proofs.Common.{List, get_or, Log, SpecNo}
 use Rattle.totem_evs.specs.declared.spec.SpecNo.TheVariants as spec
 use Rattle.totem_evs.specs.Answers.{TakeTurns, No, Meets}
 use Rattle.totem_evs.specs.Synchrony.{IsVirtuallySynchronous}

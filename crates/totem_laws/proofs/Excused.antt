@@ -1,12 +1,6 @@
 -- A process that is excused because its log is open is listed as pending.
-use Rattle.std.proofs.Common.{◌≡◌, ℕ, inl, inr, List, sym, arith}
-use Rattle.std.specs.Prelude.{Contains}
-use Rattle.totem_names.specs.declared.ring.RingId.{RingId}
-use Rattle.totem_names.specs.declared.conf.ConfId.{ConfId}
-use Rattle.totem_names.specs.declared.conf.ConfId.TheVariants.{Regular}
-use Rattle.totem_names.specs.declared.message.MsgId.{MsgId}
-use Rattle.totem_evs.specs.declared.entry.Entry.{Entry}
-use Rattle.totem_evs.specs.declared.log.Log.{Log}
+use Rattle.totem_cert.proofs.Common.{◌≡◌, ℕ, inl, inr, List, sym, arith, Contains, ConfId, MsgId, Entry, Log}
+use Rattle.totem_evs.proofs.Common.{RingId, Regular}
 use Rattle.totem_evs.specs.declared.pending.Pending.{Pending}
 use Rattle.totem_evs.specs.Events.{log_of, ChangesTo, WasSentIn}
 use Rattle.totem_evs.specs.Following.{Com, OpenIn, DeliversOrEnds}

@@ -1,14 +1,7 @@
 -- If each entry names the configuration that it is in, a process that never changed to a configuration did nothing in it.
-use Rattle.std.proofs.Common.{ℕ, inl, inr, List, [], ◌∷◌, refl}
-use Rattle.totem_names.specs.declared.ring.RingId.{RingId}
-use Rattle.totem_names.specs.declared.conf.ConfId.{ConfId}
-use Rattle.totem_names.specs.declared.conf.ConfId.TheVariants.{Regular}
-use Rattle.totem_names.specs.declared.message.MsgId.{MsgId}
-use Rattle.totem_evs.specs.declared.entry.Entry.TheVariants.{Deliver, Fail}
-use Rattle.totem_evs.specs.declared.log.Log.{Log}
-use Rattle.totem_evs.specs.Events.{log_of, ChangesTo}
+use Rattle.totem_evs.proofs.Common.{ℕ, inl, inr, List, [], ◌∷◌, refl, RingId, ConfId, Regular, MsgId, log_of, ChangesTo, StaysInPlace}
+use Rattle.totem_cert.proofs.Common.{Deliver, Fail, Log}
 use Rattle.totem_evs.specs.Following.{Com, DeliversOrEnds}
-use Rattle.totem_evs.specs.Changes.{StaysInPlace}
 use Rattle.totem_laws.specs.Laws.{InstalledBreaksWithSafety}
 
 module _ (run : List Log) (q : ℕ) (c : RingId) (never : (j : ℕ) → ChangesTo (log_of run q) j (Regular c) → ⊥) where

@@ -1,12 +1,8 @@
 -- A run has one answer: the cases exclude each other, and each has one answer.
-use Rattle.std.proofs.Common.{◌≡◌, ◌≢◌, ◌⊎◌, inl, inr, List, [], ◌∷◌, refl, sym, ◌∙◌, ap}
-use Rattle.totem_names.specs.declared.place.Place.{Place}
-use Rattle.totem_evs.specs.declared.log.Log.{Log}
+use Rattle.totem_cert.proofs.Common.{◌≡◌, ◌≢◌, ◌⊎◌, inl, inr, List, [], ◌∷◌, refl, sym, ◌∙◌, ap, Place, Log, SpecNo, Numbering}
 use Rattle.totem_evs.specs.declared.fault.Fault.{Fault}
-use Rattle.totem_evs.specs.declared.spec.SpecNo.{SpecNo}
 use Rattle.totem_evs.specs.declared.pending.Pending.{Pending}
 use Rattle.totem_evs.specs.declared.pending.Waiting.{Waiting}
-use Rattle.totem_evs.specs.Certificates.{Numbering}
 use Rattle.totem_evs.specs.Answers.{Yes, No, IsAnswered, Lists, ListsCycle, HasCertificate, ListsConfigurations, pass_a, pass_b}
 use Rattle.totem_cert.proofs.ClosedOne.{closed_one}
 use Rattle.totem_cert.proofs.Excluded.{excluded}

@@ -1,15 +1,10 @@
 -- The faults of a run are one list.
-use Rattle.std.proofs.Common.{◌≡◌, inl, inr, List, [], ◌∷◌, ◌++◌, refl, sym, ◌∙◌}
+use Rattle.totem_cert.proofs.Common.{◌≡◌, inl, inr, List, [], ◌∷◌, ◌++◌, refl, sym, ◌∙◌, Place, Log, SpecNo, Breaks}
+use Rattle.totem_evs.proofs.Common.{RingId, BreaksIn}
 use Rattle.totem_names.specs.Orders.{PlaceBelow}
 use Rattle.totem_names.proofs.Orderings.{place_strict}
-use Rattle.totem_names.specs.declared.ring.RingId.{RingId}
-use Rattle.totem_names.specs.declared.place.Place.{Place}
-use Rattle.totem_evs.specs.declared.log.Log.{Log}
 use Rattle.totem_evs.specs.declared.fault.Fault.{Fault}
-use Rattle.totem_evs.specs.declared.spec.SpecNo.{SpecNo}
-use Rattle.totem_evs.specs.Faults.{Breaks}
 use Rattle.totem_evs.proofs.Consistent.{not_met, not_met_in}
-use Rattle.totem_evs.specs.RingFaults.{BreaksIn}
 use Rattle.totem_evs.specs.Answers.{ComesFirst, IsLeast, ListsRings, ListsEach, specs_d}
 use Rattle.totem_laws.specs.OneAnswer.{LeastBreaksAreOne, PassFaultsAreOne, ConfigurationFaultsAreOne}
 use Rattle.totem_laws.proofs.OneList.{rings_one}

@@ -1,9 +1,5 @@
 -- A run has at most one certificate, line by line.
-use Rattle.std.proofs.Common.{◌≡◌, ℕ, suc, ◌<◌, List, [], ◌∷◌, length, slice_get, Some, true, false, refl, sym, ◌∙◌, ap, arith, rules}
-use Rattle.std.specs.Prelude.{◌==◌}
-use Rattle.totem_evs.specs.declared.log.Log.{Log}
-use Rattle.totem_evs.specs.Certificates.{Numbering, numbers_of, Matches}
-use Rattle.totem_evs.proofs.LogOf.{Rising, Rising-tail, in_order}
+use Rattle.totem_cert.proofs.Common.{◌≡◌, ℕ, suc, ◌<◌, List, [], ◌∷◌, length, slice_get, Some, true, false, refl, sym, ◌∙◌, ap, arith, rules, ◌==◌, Log, Numbering, numbers_of, Matches, Rising, Rising-tail, in_order}
 use Rattle.totem_cert.proofs.One.{one}
 use Rattle.totem_laws.specs.OneAnswer.{CertificatesAreOne}
 

@@ -1,6 +1,5 @@
 -- A run has at most one list of its regular configurations, of what is pending, and of the waiting processes.
-use Rattle.std.proofs.Common.{◌≡◌, inl, inr, sym, arith}
-use Rattle.totem_names.specs.declared.conf.ConfId.{ConfId}
+use Rattle.totem_cert.proofs.Common.{◌≡◌, inl, inr, sym, arith, ConfId}
 use Rattle.totem_names.specs.Orders.{RingBelow, MessageBelow, ConfBelow, IsStrictOrder}
 use Rattle.totem_names.proofs.Orderings.{ring_strict, message_strict, conf_strict}
 use Rattle.totem_evs.specs.declared.pending.Pending.{Pending}

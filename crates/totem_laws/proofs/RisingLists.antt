@@ -1,6 +1,5 @@
 -- Two ascending lists of the same elements are equal.
-use Rattle.std.proofs.Common.{◌≡◌, zero, suc, ◌⊎◌, inl, inr, List, [], ◌∷◌, refl, sym, ◌∙◌, subst, arith}
-use Rattle.std.specs.Prelude.{AllPairs, Contains}
+use Rattle.totem_evs.proofs.Common.{◌≡◌, zero, suc, ◌⊎◌, inl, inr, List, [], ◌∷◌, refl, sym, ◌∙◌, subst, arith, AllPairs, Contains}
 
 contains_nothing : {X : Type 0} (x : X) → Contains {X = X} [] x → ⊥
 contains_nothing x (k, within, is) = omega arith

@@ -1,14 +1,8 @@
 -- The members of a commit token stay in order while they fill in their reports.
-use Rattle.std.proofs.Common.{◌≡◌, ℕ, ◌<◌, ◌==◌, ⊎_elim, true, false, List, [], ◌∷◌, length, map, refl, arith}
-use Rattle.std.proofs.lemmas.Bool.{cases_Bool}
-use Rattle.std.proofs.lemmas.List.{length-map}
-use Rattle.std.proofs.lemmas.List.Elements.{All-map}
+use Rattle.totem_member.proofs.Common.{◌≡◌, ℕ, ◌<◌, ◌==◌, ⊎_elim, true, false, List, [], ◌∷◌, length, map, refl, arith, cases_Bool, length-map, All-map, IsCommitMember, IsCommitMembers, IsReport, IsProcesses, filled_by, unfilled}
 use Rattle.totem_packets.specs.declared.commit_member.Report.{Report}
 use Rattle.totem_packets.specs.declared.commit_member.CommitMember.{CommitMember}
-use Rattle.totem_packets.specs.CommitMembers.{IsCommitMember, IsCommitMembers, IsReport}
-use Rattle.totem_packets.specs.Rising.{IsProcesses}
 use Rattle.totem_packets.proofs.Chains.{Rises, pairs_rise, rise_from_pairs}
-use Rattle.totem_member.specs.Commits.{filled_by, unfilled}
 
 same_proc : (p : ℕ) (r : Report) (m : CommitMember) → (filled_by p r m).proc ≡ m.proc
 same_proc p r m = ⊎_elim (λ (e : (m.proc == p) ≡ true). rw e refl) (λ (e : (m.proc == p) ≡ false). rw e refl) (cases_Bool (m.proc == p))

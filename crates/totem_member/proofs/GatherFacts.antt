@@ -1,15 +1,9 @@
 -- The invariant of a gathering: the failed processes are known, and the process itself has not failed.
-use Rattle.std.proofs.Common.{◌≡◌, ℕ, ◌<◌, ◌≤◌, ◌==◌, ◌&&◌, ⊎_elim, Bool, true, false, not, List, [], length, filter, refl, sym, ◌∙◌, ap, arith, None, Some, Result, Ok, Err}
-use Rattle.std.specs.Prelude.{nat_lt, IsOk, IsTrue, IfSome, if◌then◌else◌}
+use Rattle.totem_member.proofs.Common.{◌≡◌, ℕ, ◌<◌, ◌≤◌, ◌==◌, ◌&&◌, ◌||◌, ⊎_elim, Bool, true, false, not, List, length, filter, refl, sym, ◌∙◌, ap, arith, None, Some, Result, Ok, Err, nat_lt, IsOk, IsTrue, IfSome, if◌then◌else◌, eq-eqb, eqb-true, eqb-false, ne_eqb, ltb-false, not-true, not-false, and_parts, and_from, and_right, or_cases, or_parts, or_from, or_left, or_right, IsProcesses, has, is_within, with_process, union, Makes, Up, up_of, up_with, up_union, has_with, has_union, part_is, Gather, IsGather, IsStanding, gathered, agrees, consensus, is_stranger, turning_away, joined}
 use Rattle.std.specs.List.{list_all}
-use Rattle.std.proofs.lemmas.Bool.{eq-eqb, eqb-true, eqb-false, ne_eqb, ltb-false, not-true, not-false, and_parts, and_from, and_right, or_cases, or_parts, or_from, or_left, or_right}
 use Rattle.totem_packets.specs.declared.join.Join.{Join}
 use Rattle.totem_packets.specs.declared.too_many.TooMany.{TooMany}
 use Rattle.totem_member.specs.declared.join_sets.Sets.{Sets}
-use Rattle.totem_packets.specs.Rising.{IsProcesses}
-use Rattle.totem_packets.specs.Sets.{has, is_within, with_process, union, Makes}
-use Rattle.totem_packets.proofs.SetFacts.{Up, up_of, up_with, up_union, has_with, has_union, part_is}
-use Rattle.totem_member.specs.Gathers.{Gather, IsGather, IsStanding, gathered, agrees, consensus, is_stranger, turning_away, joined}
 use Rattle.totem_member.proofs.Within.{IsPart, part_of, within_from, no_longer, above, has_filter}
 
 -- the sender and the sets of a Join that is not refused
@@ -40,35 +34,20 @@ room (Err many) set makes few = absurd (omega (arith, makes, few))
 
 -- ---- a process more on both sides
 
+-- a process that is in one of two sets is in one of two others
+or_part : {a b c d : Bool} → (a ≡ true → c ≡ true) → (b ≡ true → d ≡ true) → (a || b) ≡ true → (c || d) ≡ true
+or_part {a = a} {b = b} {c = c} {d = d} first second e = ⊎_elim (λ h. or_left c d (first h)) (λ h. or_right c d (second h)) (or_cases a b e)
+
 with_part : (s : ℕ) (ps qs : List ℕ) → Up 0 ps → Up 0 qs → IsPart ps qs → IsPart (with_process ps s) (with_process qs s)
-with_part s ps qs up others part = record {
-  had = λ x e.
-      has_with s 0 qs x others
-      ∙ ⊎_elim
-      (λ old. or_left (has qs x) (s == x) (part.had x old))
-      (λ here. or_right (has qs x) (s == x) here)
-      (or_cases (has ps x) (s == x) (sym (has_with s 0 ps x up) ∙ e));
-}
+with_part s ps qs up others part = record { had = λ x e. has_with s 0 qs x others ∙ or_part (part.had x) (λ here. here) (sym (has_with s 0 ps x up) ∙ e) }
 
 union_part : (ps fs qs gs : List ℕ) → Up 0 ps → Up 0 fs → Up 0 qs → Up 0 gs → IsPart fs ps → IsPart gs qs → IsPart (union fs gs) (union ps qs)
-union_part ps fs qs gs p f q g mine theirs = record {
-  had = λ x e.
-      has_union ps 0 qs x p q
-      ∙ ⊎_elim
-      (λ old. or_left (has ps x) (has qs x) (mine.had x old))
-      (λ new. or_right (has ps x) (has qs x) (theirs.had x new))
-      (or_cases (has fs x) (has gs x) (sym (has_union fs 0 gs x f g) ∙ e));
-}
+union_part ps fs qs gs p f q g mine theirs = record { had = λ x e. has_union ps 0 qs x p q ∙ or_part (mine.had x) (theirs.had x) (sym (has_union fs 0 gs x f g) ∙ e) }
 
 -- adding a process of the second set stays within the union
 with_in_union : (s : ℕ) (ps qs : List ℕ) → Up 0 ps → Up 0 qs → has qs s ≡ true → IsPart (with_process ps s) (union ps qs)
 with_in_union s ps qs up others there = record {
-  had = λ x e.
-      has_union ps 0 qs x up others
-      ∙ ⊎_elim
-      (λ old. or_left (has ps x) (has qs x) old)
-      (λ here. or_right (has ps x) (has qs x) (ap (has qs) (sym (eqb-true s x here)) ∙ there))
-      (or_cases (has ps x) (s == x) (sym (has_with s 0 ps x up) ∙ e));
+  had = λ x e. has_union ps 0 qs x up others ∙ or_part (λ old. old) (λ here. ap (has qs) (sym (eqb-true s x here)) ∙ there) (sym (has_with s 0 ps x up) ∙ e);
 }
 
 -- ---- hearing a Join
@@ -79,79 +58,57 @@ pub record IsHeard (me : ℕ) (s : Sets) : Type 0 where
   pub failed : length s.failed ≤ 32
   pub standing : IsStanding me s
 
-pub turned : (g : Gather) (j : Join) → IsGather g → IsProcesses j.processes → is_stranger g j ≡ false → IsHeard g.me (turning_away g.sets j)
-turned g j is others not_stranger = record {
+-- so it is if the failed are a part, and the process itself is among the others
+stands : (me : ℕ) (s : Sets) → Up 0 s.processes → Up 0 s.failed → IsPart s.failed s.processes → length s.processes ≤ 32 → has s.processes me ≡ true → has s.failed me ≡ false → IsHeard me s
+stands me s ps fs part few mine still = record {
   processes = few;
-  failed = omega (arith, few, no_longer 0 0 (with_process g.sets.failed j.sender) (with_process g.sets.processes j.sender) (up_with j.sender 0 g.sets.failed some fs) (up_with j.sender 0 g.sets.processes some ps) part);
-  standing = record {
-    known = within_from (with_process g.sets.failed j.sender) (with_process g.sets.processes j.sender) part;
-    mine = has_with j.sender 0 g.sets.processes g.me ps ∙ or_left (has g.sets.processes g.me) (j.sender == g.me) is.standing.mine;
-    standing = ap not (has_with j.sender 0 g.sets.failed g.me fs ∙ or_from (has g.sets.failed g.me) (j.sender == g.me) (not-true (has g.sets.failed g.me) is.standing.standing) (ne_eqb j.sender g.me join.other));
-  };
+  failed = omega (arith, few, no_longer 0 0 s.failed s.processes fs ps part);
+  standing = record { known = within_from s.failed s.processes part; mine = mine; standing = ap not still };
 }
-  where
-    join : IsTaken g j
-    join = taken g j not_stranger
 
-    ps : Up 0 g.sets.processes
-    ps = up_of g.sets.processes is.processes
+module _ (g : Gather) (j : Join) (is : IsGather g) (others : IsProcesses j.processes) (not_stranger : is_stranger g j ≡ false) where
+  join : IsTaken g j
+  join = taken g j not_stranger
 
-    fs : Up 0 g.sets.failed
-    fs = up_of g.sets.failed is.failed
+  ps : Up 0 g.sets.processes
+  ps = up_of g.sets.processes is.processes
 
-    qs : Up 0 j.processes
-    qs = up_of j.processes others
+  fs : Up 0 g.sets.failed
+  fs = up_of g.sets.failed is.failed
 
-    some : 0 < j.sender
-    some = above 0 j.processes j.sender qs join.sender
+  qs : Up 0 j.processes
+  qs = up_of j.processes others
 
-    part : IsPart (with_process g.sets.failed j.sender) (with_process g.sets.processes j.sender)
-    part = with_part j.sender g.sets.failed g.sets.processes fs ps (part_of g.sets.failed g.sets.processes is.standing.known)
+  known : IsPart g.sets.failed g.sets.processes
+  known = part_of g.sets.failed g.sets.processes is.standing.known
 
-    few : length (with_process g.sets.processes j.sender) ≤ 32
-    few = omega (arith, join.few, no_longer 0 0 (with_process g.sets.processes j.sender) (union g.sets.processes j.processes) (up_with j.sender 0 g.sets.processes some ps) (up_union g.sets.processes 0 j.processes ps qs) (with_in_union j.sender g.sets.processes j.processes ps qs join.sender))
+  still : has g.sets.failed g.me ≡ false
+  still = not-true (has g.sets.failed g.me) is.standing.standing
 
-pub heard : (g : Gather) (j : Join) → IsGather g → IsProcesses j.processes → IsProcesses j.failed → is_stranger g j ≡ false → has j.failed g.me ≡ false → IsHeard g.me (joined g.sets j)
-heard g j is others gone not_stranger still = record {
-  processes = join.few;
-  failed = omega (arith, join.few, no_longer 0 0 (union g.sets.failed j.failed) (union g.sets.processes j.processes) (up_union g.sets.failed 0 j.failed fs gs) (up_union g.sets.processes 0 j.processes ps qs) part);
-  standing = record {
-    known = within_from (union g.sets.failed j.failed) (union g.sets.processes j.processes) part;
-    mine = has_union g.sets.processes 0 j.processes g.me ps qs ∙ or_left (has g.sets.processes g.me) (has j.processes g.me) is.standing.mine;
-    standing = ap not (has_union g.sets.failed 0 j.failed g.me fs gs ∙ or_from (has g.sets.failed g.me) (has j.failed g.me) (not-true (has g.sets.failed g.me) is.standing.standing) still);
-  };
-}
-  where
-    join : IsTaken g j
-    join = taken g j not_stranger
+  pub turned : IsHeard g.me (turning_away g.sets j)
+  turned =
+      let some : 0 < j.sender = above 0 j.processes j.sender qs join.sender in
+      let more : Up 0 (with_process g.sets.processes j.sender) = up_with j.sender 0 g.sets.processes some ps in
+      stands g.me (turning_away g.sets j) more (up_with j.sender 0 g.sets.failed some fs) (with_part j.sender g.sets.failed g.sets.processes fs ps known)
+      (omega (arith, join.few, no_longer 0 0 (with_process g.sets.processes j.sender) (union g.sets.processes j.processes) more (up_union g.sets.processes 0 j.processes ps qs) (with_in_union j.sender g.sets.processes j.processes ps qs join.sender)))
+      (has_with j.sender 0 g.sets.processes g.me ps ∙ or_left (has g.sets.processes g.me) (j.sender == g.me) is.standing.mine)
+      (has_with j.sender 0 g.sets.failed g.me fs ∙ or_from (has g.sets.failed g.me) (j.sender == g.me) still (ne_eqb j.sender g.me join.other))
 
-    ps : Up 0 g.sets.processes
-    ps = up_of g.sets.processes is.processes
-
-    fs : Up 0 g.sets.failed
-    fs = up_of g.sets.failed is.failed
-
-    qs : Up 0 j.processes
-    qs = up_of j.processes others
-
-    gs : Up 0 j.failed
-    gs = up_of j.failed gone
-
-    part : IsPart (union g.sets.failed j.failed) (union g.sets.processes j.processes)
-    part = union_part g.sets.processes g.sets.failed j.processes j.failed ps fs qs gs (part_of g.sets.failed g.sets.processes is.standing.known) (part_of j.failed j.processes join.known)
+  pub heard : IsProcesses j.failed → has j.failed g.me ≡ false → IsHeard g.me (joined g.sets j)
+  heard gone not_failed =
+      let gs : Up 0 j.failed = up_of j.failed gone in
+      stands g.me (joined g.sets j) (up_union g.sets.processes 0 j.processes ps qs) (up_union g.sets.failed 0 j.failed fs gs)
+      (union_part g.sets.processes g.sets.failed j.processes j.failed ps fs qs gs known (part_of j.failed j.processes join.known))
+      join.few
+      (has_union g.sets.processes 0 j.processes g.me ps qs ∙ or_left (has g.sets.processes g.me) (has j.processes g.me) is.standing.mine)
+      (has_union g.sets.failed 0 j.failed g.me fs gs ∙ or_from (has g.sets.failed g.me) (has j.failed g.me) still not_failed)
 
 -- ---- a timeout
 
 pub given_up : (g : Gather) → IsGather g → IsHeard g.me (record { processes = g.sets.processes; failed = union g.sets.failed (filter (λ p. not (agrees g p)) (gathered g)) })
-given_up g is = record {
-  processes = is.processes.few;
-  failed = omega (arith, is.processes.few, no_longer 0 0 (union g.sets.failed late) g.sets.processes (up_union g.sets.failed 0 late fs ls) ps part);
-  standing = record {
-    known = within_from (union g.sets.failed late) g.sets.processes part;
-    mine = is.standing.mine;
-    standing = ap not (has_union g.sets.failed 0 late g.me fs ls ∙ or_from (has g.sets.failed g.me) (has late g.me) (not-true (has g.sets.failed g.me) is.standing.standing) i_agree);
-  };
-}
+given_up g is =
+    stands g.me (record { processes = g.sets.processes; failed = union g.sets.failed late }) ps (up_union g.sets.failed 0 late fs ls) part is.processes.few is.standing.mine
+    (has_union g.sets.failed 0 late g.me fs ls ∙ or_from (has g.sets.failed g.me) (has late g.me) (not-true (has g.sets.failed g.me) is.standing.standing) i_agree)
   where
     late : List ℕ
     late = filter (λ p. not (agrees g p)) (gathered g)
@@ -193,14 +150,6 @@ consensus_has_me g is = by_all (list_all (agrees g) (gathered g))
     by_all : (all : Bool) → IfSome (if all then Some (gathered g) else None) (λ m. IsTrue (has m g.me))
     by_all true = gathered_has_me g is
     by_all false = tt
-
--- a new gathering keeps the invariant
-pub begins : (me : ℕ) (base : List ℕ) → IsProcesses base → IsStanding me (record { processes = with_process base me; failed = [] })
-begins me base is = record {
-  known = refl;
-  mine = has_with me 0 base me (up_of base is) ∙ or_right (has base me) (me == me) (eq-eqb me me refl);
-  standing = refl;
-}
 
 -- a set that was made is the set that was to be made
 pub made_is : (made : Result (List ℕ) TooMany) (p set : List ℕ) → made ≡ Ok p → Makes made set → p ≡ set

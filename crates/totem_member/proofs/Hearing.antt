@@ -1,11 +1,9 @@
 -- What is noted once a Join is.
-use Rattle.std.proofs.Common.{◌≡◌, ℕ, ◌==◌, ◌&&◌, ◌||◌, Bool, true, false, List, [], ◌∷◌, refl, ◌∙◌, arith}
-use Rattle.std.specs.Prelude.{if◌then◌else◌}
+use Rattle.totem_member.proofs.Common.{◌≡◌, ℕ, ◌==◌, ◌&&◌, ◌||◌, Bool, true, false, List, [], ◌∷◌, refl, ◌∙◌, arith, if◌then◌else◌, same_sets, noted_equal, noting}
 use Rattle.std.proofs.lemmas.Bool.Decides.{nat_tests}
 use Rattle.totem_packets.specs.declared.join.Join.{Join}
 use Rattle.totem_member.specs.declared.join_sets.Sets.{Sets}
 use Rattle.totem_member.specs.declared.join_sets.Noted.{Noted}
-use Rattle.totem_member.specs.Gathers.{same_sets, noted_equal, noting}
 
 abbrev pub its_sets : Join → Sets
 its_sets j = record { processes = j.processes; failed = j.failed }

@@ -1,3 +1,4 @@
+pub mod Common
 pub mod FilledMembers
 pub mod Within
 pub mod Hearing

@@ -1,8 +1,6 @@
 -- Subsets: what a subset has, and that it is no longer.
-use Rattle.std.proofs.Common.{◌≡◌, ℕ, ◌<◌, ◌≤◌, ◌==◌, ◌&&◌, ⊎_elim, Bool, true, false, List, [], ◌∷◌, length, filter, refl, sym, ◌∙◌, ap, subst, arith}
-use Rattle.std.proofs.lemmas.Bool.{cases_order, cases_Bool, eq-eqb, eqb-true, and_parts, and_from, or_cases, or_left, or_right, false≢true}
-use Rattle.totem_packets.specs.Sets.{has, is_within}
-use Rattle.totem_packets.proofs.SetFacts.{Up}
+use Rattle.totem_member.proofs.Common.{◌≡◌, ℕ, ◌<◌, ◌≤◌, ◌==◌, ◌&&◌, ⊎_elim, Bool, true, false, List, [], ◌∷◌, length, filter, refl, sym, ◌∙◌, ap, subst, arith, cases_order, cases_Bool, eq-eqb, eqb-true, and_parts, and_from, or_cases, or_left, or_right, false≢true, has, is_within, Up}
+use Rattle.std.proofs.Math.Bool.{and-false}
 
 -- the first list is a subset of the second
 pub record IsPart (ps qs : List ℕ) : Type 0 where
@@ -76,11 +74,7 @@ has_filter test (p ∷ ps) x = ⊎_elim
     (λ (off : (p == x) ≡ false). rw off refl)
     (cases_Bool (p == x))))
     (λ (e : test p ≡ false). rw (e, has_filter test ps x) (⊎_elim
-    (λ (here : (p == x) ≡ true). rw (here, sym (ap test (eqb-true p x here)) ∙ e) (and_none (has ps x)))
+    (λ (here : (p == x) ≡ true). rw (here, sym (ap test (eqb-true p x here)) ∙ e) (and-false (has ps x)))
     (λ (off : (p == x) ≡ false). rw off refl)
     (cases_Bool (p == x))))
     (cases_Bool (test p))
-  where
-    and_none : (a : Bool) → (a && false) ≡ false
-    and_none true = refl
-    and_none false = refl

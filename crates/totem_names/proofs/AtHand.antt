@@ -1,19 +1,16 @@
 -- Bytes at hand: what they settle, how they are taken, and those that a buffer holds.
-use Rattle.std.specs.Prelude.{Some, None, IfSome, ◌==◌}
+use Rattle.std.proofs.lemmas.Grind.{common_steps}
+use Rattle.totem_names.proofs.Common.{Some, None, IfSome, ◌==◌, ◌≡◌, ℕ, ◌+◌, ◌-◌, ◌<◌, ◌≤◌, arith, rules, List, [], ◌∷◌, ◌++◌, true, length, take, drop, get_or, Result, Ok, Err, refl, sym, ◌∙◌, ap, subst, append_assoc, length-drop, length-append, append-nil, take_more, take-append-le, take-append-drop, drop-append-le, drop-drop, drop-take, length-take-le, Consumes, Keeps, prepend_known, Seen, Parsed, Comes, Settles}
 use Rattle.std.specs.declared.option.Option.{Option}
-use Rattle.std.proofs.Common.{◌≡◌, ℕ, ◌+◌, ◌-◌, ◌<◌, ◌≤◌, arith, rules, List, [], ◌∷◌, ◌++◌, true, length, take, drop, get_or, Result, Ok, Err, refl, sym, ◌∙◌, ap, subst, append_assoc, length-drop, length-append}
 use Rattle.std.proofs.Math.Seq.{take-append_seam}
-use Rattle.std.proofs.lemmas.List.{append-nil, take_more, take-append-le, take-append-drop, drop-append-le, drop-drop, drop-take, length-take-le}
 use Rattle.std.proofs.lemmas.Slice.Eq.{starts_is}
 use Rattle.std.proofs.lemmas.Bool.Decides.{Decides-eqb}
 use Rattle.std.specs.List.{starts_with}
 use Rattle.std.specs.Io.{StartsWith}
-use Rattle.std.specs.Io.KnownBytes.{Consumes, Keeps, prepend_known}
 use Rattle.std.proofs.KnownBytes.{prepend_known-front, Keeps-refl, starts_with_rest}
 use Rattle.totem_names.specs.declared.fault.TextFault.{TextFault}
 use Rattle.totem_names.specs.declared.fault.TextFault.TheVariants.{Truncated}
 use Rattle.totem_names.specs.Streams.{Skips}
-use Rattle.totem_names.specs.Sources.{Seen, Parsed, Comes, Settles}
 use Rattle.totem_names.specs.Numbers.{word_at}
 use Rattle.totem_names.proofs.Readers.{wants_none, front_is, keeps_none}
 
@@ -25,42 +22,25 @@ kept_none a b parse keeps same = record { read = []; taken = keeps_none a.remain
 
 -- the first of the bytes at hand were skipped
 skips_front : (hand : List ℕ) (count : ℕ) (old new : Option (List ℕ)) → count ≤ length hand → IfSome old (λ bytes. StartsWith bytes hand) → Skips old new count → Consumes old new (take count hand)
-skips_front hand count None new le starts skipped = tt
-skips_front hand count (Some xs) None le starts skipped = absurd skipped.1
-skips_front hand count (Some xs) (Some ys) le starts skipped =
-    let same : take count xs ≡ take count hand = ap (take count) (starts_with_rest xs hand starts) ∙ take-append-le count hand (drop (length hand) xs) le in
-    skipped.1 ∙ ap (λ (w : List ℕ). w ++ ys) same
+skips_front hand count old new h k m = grind (arith, common_steps, starts_with_rest, take-append-le)
 
 -- bytes at hand settle a value, and they were taken
 pub skipped_value : {Y : Type 0} (a b : Seen) (parse : List ℕ → Parsed Y) (hand : List ℕ) (count : ℕ) (y : Y)
     → IfSome a.remaining (λ bytes. StartsWith bytes hand) → count ≤ length hand → Settles parse (take count hand) y
     → Skips a.remaining b.remaining count → b.failures ≡ a.failures → Comes a b parse (λ more. Ok (y, more))
-skipped_value a b parse hand count y starts le settles skipped same = record {
-  read = take count hand;
-  taken = skips_front hand count a.remaining b.remaining le starts skipped;
-  failures = same;
-  left = settles.left;
-  before = settles.before;
-}
+skipped_value a b parse hand count y starts le settles skipped same = grind (arith, skips_front)
 
 -- one byte more at hand
 pub one_more : {Y : Type 0} (parse rest other : List ℕ → Result Y TextFault) (bytes : List ℕ) (at b : ℕ)
     → ((more : List ℕ) → parse (take at bytes ++ more) ≡ rest more) → at < length bytes → b ≡ get_or bytes at 0
     → ((more : List ℕ) → rest (b ∷ more) ≡ other more) → (more : List ℕ) → parse (take (at + 1) bytes ++ more) ≡ other more
-one_more parse rest other bytes at b so_far lt is next more =
-    let front : take (at + 1) bytes ≡ take at bytes ++ b ∷ [] = take_more bytes at 0 lt ∙ ap (λ (x : ℕ). take at bytes ++ x ∷ []) (sym is) in
-    ap (λ (w : List ℕ). parse (w ++ more)) front ∙ ap parse (append_assoc (take at bytes) (b ∷ []) more) ∙ so_far (b ∷ more) ∙ next more
+one_more parse rest other bytes at b so_far lt is next more = grind (arith, common_steps, take_more, append_assoc)
 
 -- the byte at hand that settles the value
 pub settles_at : {Y : Type 0} (parse rest : List ℕ → Parsed Y) (bytes : List ℕ) (at b : ℕ) (y : Y)
     → ((more : List ℕ) → parse (take at bytes ++ more) ≡ rest more) → rest [] ≡ Err Truncated → at < length bytes → b ≡ get_or bytes at 0
     → ((more : List ℕ) → rest (b ∷ more) ≡ Ok (y, more)) → Settles parse (take (at + 1) bytes) y
-settles_at parse rest bytes at b y so_far short lt is next = record {
-  left = one_more parse rest (λ more. Ok (y, more)) bytes at b so_far lt is next;
-  before = λ front byte h.
-      let same : take at bytes ≡ front = front_is (take at bytes) front (get_or bytes at 0) byte (sym (take_more bytes at 0 lt) ∙ h) in
-      ap parse (sym same ∙ sym (append-nil (take at bytes))) ∙ so_far [] ∙ short;
-}
+settles_at parse rest bytes at b y so_far short lt is next = grind (arith, common_steps, one_more, front_is, take_more, append-nil)
 
 -- a word at hand was taken
 pub skipped_word : (hand word : List ℕ) (old new : Option (List ℕ)) → IfSome old (λ bytes. StartsWith bytes hand)
@@ -84,13 +64,7 @@ word_short fault (w ∷ front) byte = let test : (w == w) ≡ true = search rule
 -- the bytes taken are the word
 pub word_taken : (a b : Seen) (fault : TextFault) (word : List ℕ) → Consumes a.remaining b.remaining word → b.failures ≡ a.failures
     → Comes a b (word_at fault word) (λ more. Ok (tt, more))
-word_taken a b fault word taken same = record {
-  read = word;
-  taken = taken;
-  failures = same;
-  left = word_whole fault word;
-  before = λ front byte h. ap (λ (w : List ℕ). word_at fault w front) h ∙ word_short fault front byte;
-}
+word_taken a b fault word taken same = grind (arith, word_whole, word_short)
 
 -- ---- what a buffer holds
 

@@ -1,5 +1,7 @@
+pub mod Common
 pub mod Readers
 pub mod Steady
+pub mod Steps
 pub mod Spelled
 pub mod Spellings
 pub mod Orderings

@@ -1,43 +1,25 @@
 -- Processes of a run: their ranks, their order, and their texts. What is read is spelled so, and what is spelled so is read.
-use Rattle.std.specs.Prelude.{codes, decimal, ◌==◌, ◌↔◌}
-use Rattle.std.proofs.Common.{◌≡◌, ℕ, ◌<◌, inl, inr, List, [], ◌∷◌, ◌++◌, Ok, Err, Bool, true, false, cond, refl, sym, ◌∙◌, ap, append_assoc, arith, rules}
-use Rattle.std.proofs.lemmas.Bool.{cases_lt, eqb-true}
+use Rattle.totem_names.proofs.Common.{codes, decimal, ◌==◌, ◌↔◌, ◌≡◌, ℕ, ◌<◌, List, [], ◌∷◌, ◌++◌, Ok, Err, Bool, true, false, cond, refl, sym, ◌∙◌, ap, append_assoc, arith, rules, cases_lt, eqb-true, PlaceName, Steady, ◌>>=◌, IsUpTo, IsProcess}
 use Rattle.totem_names.specs.declared.version.Version.{Version}
 use Rattle.totem_names.specs.declared.fault.TextFault.TheVariants.{Word, Truncated}
-use Rattle.totem_names.specs.Names.{PlaceName}
-use Rattle.totem_names.specs.Sources.{Steady, ◌>>=◌}
 use Rattle.totem_names.specs.Numbers.{is_digit, number_at, number_to}
 use Rattle.totem_names.specs.Orders.{IsStrictOrder}
 use Rattle.totem_names.specs.Processes.{writes_lives, life_text, process_text, IsProcessIn, first_life_then, life_then, process_then, process_to, place_text_in, IsPlaceIn, place_at}
 use Rattle.totem_names.specs.Ranks.{rank_of, id_of, life_of, LifeBelow}
 use Rattle.totem_names.specs.Spelling.{Spells}
-use Rattle.totem_names.specs.Texts.{IsUpTo, IsProcess}
 use Rattle.totem_names.proofs.Orderings.{numbers}
 use Rattle.totem_names.proofs.RankParts.{id_of_rank, life_of_rank, rank_of_parts}
-use Rattle.totem_names.proofs.Spelled.{after, guard_then, parsed_is, up_to, number_is, number_to_is, number_again, number_to_again}
+use Rattle.totem_names.proofs.Steps.{after, guard_then, parsed_is}
+use Rattle.totem_names.proofs.Spelled.{up_to, number_is, number_to_is, number_again, number_to_again}
 use Rattle.totem_names.proofs.Steady.{gives_steady, fault_steady, bind_steady, cond_steady, number_steady, number_to_steady, first_break}
 
 -- ---- the order
 
 pub below_is_less : (a b : ℕ) → LifeBelow a b ↔ (a < b)
-below_is_less a b = (to, from)
-  where
-    to : LifeBelow a b → a < b
-    to (inl h) = omega arith
-    to (inr h) = omega (arith, h.0, h.1)
-
-    from : a < b → LifeBelow a b
-    from h = elim (cases_lt (id_of a) (id_of b)) [ inl low ↦ inl low | inr high ↦ inr (omega arith, omega arith) ]
+below_is_less a b = grind (arith, cases_lt)
 
 pub life_strict : IsStrictOrder LifeBelow
-life_strict = record {
-  strict = λ a h. numbers.strict a ((below_is_less a a).0 h);
-  goes_on = λ a b c h k. (below_is_less a c).1 (numbers.goes_on a b c ((below_is_less a b).0 h) ((below_is_less b c).0 k));
-  total = λ a b. elim (numbers.total a b) [
-    | inl h ↦ inl ((below_is_less a b).1 h)
-    | inr rest ↦ elim rest [ inl e ↦ inr (inl e) | inr h ↦ inr (inr ((below_is_less b a).1 h)) ]
-  ];
-}
+life_strict = grind (arith, numbers, below_is_less)
 
 -- ---- what is read
 
@@ -114,25 +96,15 @@ process_is version end n bytes rest e =
 
 first_life_again : (n b : ℕ) (rest : List ℕ) → is_digit b ≡ false → IsProcess (id_of n) → life_of n ≡ 1 → first_life_then (decimal (id_of n) ++ b ∷ rest) ≡ Ok ((n, b), rest)
 unfolding first_life_then
-first_life_again n b rest other fits first =
-    let whole : rank_of (id_of n) 1 ≡ n = omega arith in
-    rw (number_again 65535 (id_of n) b rest fits.positive fits.small (omega arith) other) (rw whole refl)
+first_life_again n b rest other fits first = grind (arith, number_again)
 
 life_again : (n b : ℕ) (rest : List ℕ) → is_digit b ≡ false → IsProcess (id_of n) → IsUpTo 65535 (life_of n) → life_then (life_text n ++ b ∷ rest) ≡ Ok ((n, b), rest)
 unfolding life_then
-life_again n b rest other fits life =
-    let regrouped : life_text n ++ b ∷ rest ≡ decimal (id_of n) ++ 58 ∷ (decimal (life_of n) ++ b ∷ rest) = simp append_assoc in
-    ap life_then regrouped
-    ∙ rw (number_to_again 65535 58 (id_of n) (decimal (life_of n) ++ b ∷ rest) fits.positive fits.small (omega arith) refl) (
-    rw (number_again 65535 (life_of n) b rest life.positive life.small (omega arith) other) (rw (rank_of_parts n) refl))
+life_again n b rest other fits life = grind (arith, append_assoc, number_to_again, number_again, rank_of_parts)
 
 pub process_then_again : (version : Version) (n b : ℕ) (rest : List ℕ) → is_digit b ≡ false → IsProcessIn version n → process_then version (process_text version n ++ b ∷ rest) ≡ Ok ((n, b), rest)
 unfolding process_then
-process_then_again version n b rest other is = go (writes_lives version) is.first
-  where
-    go : (t : Bool) → (t ≡ false → life_of n ≡ 1) → cond t (life_then (cond t (life_text n) (decimal (id_of n)) ++ b ∷ rest)) (first_life_then (cond t (life_text n) (decimal (id_of n)) ++ b ∷ rest)) ≡ Ok ((n, b), rest)
-    go true first = life_again n b rest other is.id_fits is.life_fits
-    go false first = first_life_again n b rest other is.id_fits (first refl)
+process_then_again version n b rest other is = grind (arith, life_again, first_life_again)
 
 process_again : (version : Version) (end n : ℕ) (rest : List ℕ) → is_digit end ≡ false → IsProcessIn version n → process_to version end (process_text version n ++ end ∷ rest) ≡ Ok (n, rest)
 unfolding process_to
@@ -158,11 +130,7 @@ process_to_steady version end = bind_steady (process_then version) (λ p. cond (
 
 pub process_then_empty : (version : Version) → process_then version [] ≡ Err Truncated
 unfolding process_then life_then first_life_then number_to number_at
-process_then_empty version = go (writes_lives version)
-  where
-    go : (t : Bool) → cond t (life_then []) (first_life_then []) ≡ Err Truncated
-    go true = refl
-    go false = refl
+process_then_empty version = grind arith
 
 process_to_empty : (version : Version) (end : ℕ) → process_to version end [] ≡ Err Truncated
 unfolding process_to
@@ -185,11 +153,7 @@ place_is version end e bytes rest h =
 
 place_again : (version : Version) (end : ℕ) (e : PlaceName) (rest : List ℕ) → is_digit end ≡ false → IsPlaceIn version e → place_at version end (place_text_in version e ++ end ∷ rest) ≡ Ok (e, rest)
 unfolding place_at
-place_again version end e rest other is =
-    let regrouped : place_text_in version e ++ end ∷ rest ≡ process_text version e.proc ++ 64 ∷ (decimal e.at ++ end ∷ rest) = simp append_assoc in
-    ap (place_at version end) regrouped
-    ∙ rw (process_again version 64 e.proc (decimal e.at ++ end ∷ rest) refl is.proc_fits) (
-    rw (number_to_again 4294967295 end e.at rest is.at_fits.positive is.at_fits.small (omega arith) other) refl)
+place_again version end e rest other is = grind (arith, append_assoc, process_again, number_to_again)
 
 place_steady : (version : Version) (end : ℕ) → Steady (place_at version end)
 unfolding place_at

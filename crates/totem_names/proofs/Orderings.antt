@@ -1,22 +1,9 @@
 -- The orders of names are strict and total.
-use Rattle.std.specs.Prelude.{◌⊎◌}
-use Rattle.std.proofs.Common.{◌≡◌, ℕ, ◌<◌, ◌≤◌, inl, inr, refl, sym, ap, subst, ◌∙◌, arith}
-use Rattle.std.proofs.lemmas.Bool.{cases_lt}
-use Rattle.totem_names.specs.declared.conf.ConfId.{ConfId}
-use Rattle.totem_names.specs.declared.conf.ConfId.TheVariants.{Regular, Transitional}
-use Rattle.totem_names.specs.Names.{RingName, MessageName, PlaceName}
+use Rattle.totem_names.proofs.Common.{◌⊎◌, ◌≡◌, ℕ, ◌<◌, inl, inr, sym, ap, subst, ◌∙◌, arith, cases_lt, RingName, MessageName, PlaceName}
 use Rattle.totem_names.specs.Orders.{RingBelow, MessageBelow, PlaceBelow, ConfBelow, IsStrictOrder}
 
 pub numbers : IsStrictOrder (λ (a b : ℕ). a < b)
-numbers = record {
-  strict = λ a h. omega arith;
-  goes_on = λ a b c h k. omega arith;
-  total = λ a b. elim (cases_lt a b) [ inl low ↦ inl low | inr high ↦ from a b (cases_lt b a) high ];
-}
-  where
-    from : (a b : ℕ) → (b < a) ⊎ (a ≤ b) → b ≤ a → (a < b) ⊎ ((a ≡ b) ⊎ (b < a))
-    from a b (inl above) high = inr (inr above)
-    from a b (inr low) high = inr (inl (omega arith))
+numbers = grind (arith, cases_lt)
 
 -- by one part, and then by another
 by_parts : {Y A B : Type 0} (R : A → A → Type 0) (S : B → B → Type 0) (f : Y → A) (g : Y → B) → IsStrictOrder R → IsStrictOrder S
@@ -71,36 +58,7 @@ place_strict = by_parts (λ (a b : ℕ). a < b) (λ (a b : ℕ). a < b) (λ (e :
 
 -- a ring and a process, as of transitional configurations
 pairs : IsStrictOrder (λ (a b : RingName × ℕ). RingBelow a.0 b.0 ⊎ ((a.0 ≡ b.0) × (a.1 < b.1)))
-pairs = by_parts RingBelow (λ (a b : ℕ). a < b) (λ (x : RingName × ℕ). x.0) (λ (x : RingName × ℕ). x.1) ring_strict numbers (λ a b e k. both a b e k)
-  where
-    both : (a b : RingName × ℕ) → a.0 ≡ b.0 → a.1 ≡ b.1 → a ≡ b
-    both (c, p) (d, q) e k = rw (e, k) refl
+pairs = grind (arith, by_parts, ring_strict, numbers)
 
 pub conf_strict : IsStrictOrder ConfBelow
-conf_strict = record { strict = strict; goes_on = goes_on; total = total }
-  where
-    strict : (a : ConfId) → ConfBelow a a → ⊥
-    strict (Regular a) h = ring_strict.strict a h
-    strict (Transitional least next) (inl h) = ring_strict.strict next h
-    strict (Transitional least next) (inr h) = numbers.strict least h.1
-
-    goes_on : (a b c : ConfId) → ConfBelow a b → ConfBelow b c → ConfBelow a c
-    goes_on (Regular a) (Regular b) (Regular c) h k = ring_strict.goes_on a b c h k
-    goes_on (Regular a) (Regular b) (Transitional least next) h k = tt
-    goes_on (Regular a) (Transitional least next) (Regular c) h k = absurd k
-    goes_on (Regular a) (Transitional least next) (Transitional other later) h k = tt
-    goes_on (Transitional least next) (Regular b) c h k = absurd h
-    goes_on (Transitional least next) (Transitional other later) (Regular c) h k = absurd k
-    goes_on (Transitional p a) (Transitional q b) (Transitional r c) h k = (pairs.goes_on (a, p) (b, q) (c, r) h k)
-
-    total : (a b : ConfId) → ConfBelow a b ⊎ ((a ≡ b) ⊎ ConfBelow b a)
-    total (Regular a) (Regular b) = elim (ring_strict.total a b) [
-      | inl h ↦ inl h
-      | inr rest ↦ elim rest [ inl e ↦ inr (inl (ap (λ (c : RingName). Regular c) e)) | inr h ↦ inr (inr h) ]
-    ]
-    total (Regular a) (Transitional least next) = inl tt
-    total (Transitional least next) (Regular b) = inr (inr tt)
-    total (Transitional p a) (Transitional q b) = elim (pairs.total (a, p) (b, q)) [
-      | inl h ↦ inl h
-      | inr rest ↦ elim rest [ inl e ↦ inr (inl (ap (λ (x : RingName × ℕ). Transitional x.1 x.0) e)) | inr h ↦ inr (inr h) ]
-    ]
+conf_strict = grind (arith, ring_strict, numbers, pairs)

@@ -1,15 +1,12 @@
 -- Readers that continue, byte after byte and call after call.
-use Rattle.std.specs.Prelude.{Some, None, IfSome, ◌==◌, ◌&&◌, not, nat_le}
+use Rattle.std.proofs.lemmas.Grind.{common_steps}
+use Rattle.totem_names.proofs.Common.{Some, None, IfSome, ◌==◌, ◌&&◌, not, nat_le, ◌≡◌, ◌≢◌, length, drop, get_or, add-one, drop-cons, ℕ, ◌+◌, ◌-◌, ◌*◌, ◌%◌, ◌^◌, ◌<◌, ◌≤◌, arith, rules, List, [], ◌∷◌, ◌++◌, Bool, true, false, cond, Result, Ok, Err, refl, sym, ◌∙◌, ap, append_assoc, append-nil, drop_all, Consumes, IsAtEnd, Keeps, Seen, Parsed, Comes, Breaks, BreaksAt, Stops, Reads, WantsLast, EndsAtBreak, is_short, ◌>>=◌}
 use Rattle.std.specs.declared.option.Option.{Option}
-use Rattle.std.proofs.Common.{◌≡◌, ◌≢◌, length, drop, get_or, add-one, drop-cons, ℕ, ◌+◌, ◌-◌, ◌*◌, ◌%◌, ◌^◌, ◌<◌, ◌≤◌, arith, rules, List, [], ◌∷◌, ◌++◌, Bool, true, false, cond, Result, Ok, Err, refl, sym, ◌∙◌, ap, append_assoc}
-use Rattle.std.proofs.lemmas.List.{append-nil, drop_all}
-use Rattle.std.specs.Io.KnownBytes.{Consumes, IsAtEnd, Keeps}
 use Rattle.std.proofs.KnownBytes.{Consumes-trans, Consumes-nil}
 use Rattle.totem_names.specs.declared.fault.TextFault.{TextFault}
 use Rattle.totem_names.specs.declared.fault.TextFault.TheVariants.{Truncated, Number}
 use Rattle.totem_names.specs.declared.fault.ReadError.{ReadError}
 use Rattle.totem_names.specs.declared.fault.ReadError.TheVariants as errors
-use Rattle.totem_names.specs.Sources.{Seen, Parsed, Comes, Breaks, BreaksAt, Stops, Reads, WantsLast, EndsAtBreak, is_short, ◌>>=◌}
 use Rattle.totem_names.specs.Numbers.{byte_at, word_at, is_digit, number_at, digits_at}
 
 -- ---- the last byte that was taken
@@ -64,24 +61,14 @@ breaks_at old new parse fault empty long h = record { breaks = h; last = go h.re
 -- ---- one byte
 
 pub keeps_none : (a b : Option (List ℕ)) → Keeps a b → Consumes a b []
-keeps_none None b h = tt
-keeps_none (Some xs) None h = h
-keeps_none (Some xs) (Some ys) h = sym h
+keeps_none a b h = grind arith
 
 at_end_is : (a : Option (List ℕ)) → IsAtEnd a → IfSome a (λ bytes. bytes ≡ [])
 at_end_is None h = tt
 at_end_is (Some xs) h = h
 
 pub ended : (old new : Seen) → Keeps old.remaining new.remaining → IsAtEnd old.remaining → new.failures ≡ old.failures → Breaks old new byte_at Truncated
-ended old new keeps end same = record {
-  read = [];
-  taken = keeps_none old.remaining new.remaining keeps;
-  failures = same;
-  broken = refl;
-  stays = λ h more. absurd cc;
-  whole = λ h. at_end_is old.remaining end;
-  before = wants_none byte_at;
-}
+ended old new keeps end same = grind (arith, keeps_none, at_end_is, wants_none)
 
 -- ---- what was read before, and what follows
 
@@ -101,9 +88,7 @@ called {Y = Y} a b c parse sub k y so_far next = record {
 }
 
 joined_whole : (a b : Option (List ℕ)) (xs ys : List ℕ) → Consumes a b xs → IfSome b (λ bytes. bytes ≡ ys) → IfSome a (λ bytes. bytes ≡ xs ++ ys)
-joined_whole None b xs ys h all = tt
-joined_whole (Some us) None xs ys h all = absurd h
-joined_whole (Some us) (Some bs) xs ys h all = h ∙ ap (λ (zs : List ℕ). xs ++ zs) all
+joined_whole a b xs ys h k = grind arith
 
 broke : {Y Z : Type 0} (a b c : Seen) (parse : List ℕ → Result Z TextFault) (sub : List ℕ → Parsed Y) (k : Y × List ℕ → Result Z TextFault) (f : TextFault)
     → Comes a b parse (λ more. sub more >>= k) → Breaks b c sub f → Breaks a c parse f
@@ -119,12 +104,7 @@ broke {Y = Y} a b c parse sub k f so_far next = record {
 
 stopped : {Y : Type 0} (a b c : Seen) (parse rest : List ℕ → Result Y TextFault) (read : List ℕ)
     → Comes a b parse rest → Consumes b.remaining c.remaining read → c.failures ≡ (b.failures + 1) % 2 ^ 64 → rest read ≡ Err Truncated → Stops a c parse
-stopped a b c parse rest read so_far taken counted short = record {
-  read = so_far.read ++ read;
-  taken = Consumes-trans a.remaining b.remaining c.remaining so_far.read read so_far.taken taken;
-  failures = counted ∙ ap (λ (n : ℕ). (n + 1) % 2 ^ 64) so_far.failures;
-  short = so_far.left read ∙ short;
-}
+stopped a b c parse rest read so_far taken counted short = grind (arith, common_steps)
 
 -- a call failed
 pub failed : {Y Z : Type 0} (a b c : Seen) (parse : List ℕ → Parsed Z) (sub : List ℕ → Parsed Y) (k : Y × List ℕ → Parsed Z) (e : ReadError)
@@ -168,20 +148,10 @@ first_other max b digit more = rw digit
 
 pub first_unfit : (max b : ℕ) → (is_digit b && not (b == 48)) ≡ false → (more : List ℕ) → number_at max (b ∷ more) ≡ Err Number
 unfolding number_at
-first_unfit max b unfit more = go (is_digit b) (b == 48) unfit
-  where
-    go : (t u : Bool) → (t && not u) ≡ false → cond t (cond u (Err Number) (digits_at max (b - 48) more)) (Err Number) ≡ Err Number
-    go true true h = refl
-    go true false h = absurd cc
-    go false u h = refl
+first_unfit max b unfit more = grind arith
 
 pub first_fits : (b : ℕ) → (is_digit b && not (b == 48)) ≡ true → (is_digit b ≡ true) × (b ≢ 48)
-first_fits b h = let both = go (is_digit b) (b == 48) h in (both.0, λ e. absurd (let f : (48 == 48) ≡ false = rw e at both.1 in cc))
-  where
-    go : (t u : Bool) → (t && not u) ≡ true → (t ≡ true) × (u ≡ false)
-    go true true h = absurd cc
-    go true false h = (refl, refl)
-    go false u h = absurd cc
+first_fits b h = grind arith
 
 pub next_digit : (max n b d : ℕ) → is_digit b ≡ true → d ≡ b - 48 → 10 * n + d ≤ max → (more : List ℕ) → digits_at max n (b ∷ more) ≡ digits_at max (10 * n + d) more
 unfolding digits_at
@@ -226,19 +196,7 @@ none_read (b ∷ bs) f h = absurd cc
 -- no byte was read
 pub gives_up : {Y : Type 0} (a b c : Seen) (parse rest : List ℕ → Parsed Y) (e : ReadError)
     → Comes a b parse rest → rest [] ≡ Err Truncated → Reads {Y = ℕ} b c (Err e) byte_at → Reads {Y = Y} a c (Err e) parse
-gives_up a b c parse rest errors.Memory so_far short h = h ∙ so_far.failures
-gives_up a b c parse rest errors.Read so_far short h = stopped a b c parse rest h.read so_far h.taken h.failures (ap rest (none_read h.read Truncated h.short).0 ∙ short)
-gives_up a b c parse rest (errors.Text f) so_far short h =
-    let none = none_read h.read f h.broken in
-    record {
-      read = so_far.read ++ h.read;
-      taken = Consumes-trans a.remaining b.remaining c.remaining so_far.read h.read so_far.taken h.taken;
-      failures = h.failures ∙ so_far.failures;
-      broken = so_far.left h.read ∙ ap rest none.0 ∙ short ∙ ap (λ (g : TextFault). Err g) (sym none.1);
-      stays = λ e more. absurd (let k = ap is_short none.1 in let j : is_short Truncated ≡ true = refl in cc);
-      whole = λ e. joined_whole a.remaining b.remaining so_far.read h.read so_far.taken (h.whole e);
-      before = wants_rest a b parse rest h.read so_far (λ front byte e. wants_none rest front byte (sym none.0 ∙ e));
-    }
+gives_up a b c parse rest e h k m = grind (arith, common_steps, stopped, none_read, joined_whole, wants_rest, wants_none)
 
 pub first_none : (max : ℕ) → number_at max [] ≡ Err Truncated
 unfolding number_at
@@ -284,10 +242,6 @@ pub word_step : (fault : TextFault) (word : List ℕ) (i w : ℕ) → i < length
     → (bytes : List ℕ) → word_at fault (drop i word) bytes ≡ (byte_at bytes >>= λ b. cond (b.0 == w) (word_at fault (drop (i + 1) word) b.1) (Err fault))
 unfolding word_at
 word_step fault word i w lt e bytes = rw (drop-cons word i 0 lt, e) (rw add-one refl)
-
--- a growth is refused
-pub refused : {Y : Type 0} (a b : Seen) (parse rest : List ℕ → Parsed Y) → Comes a b parse rest → Reads {Y = Y} a b (Err errors.Memory) parse
-refused a b parse rest so_far = so_far.failures
 
 -- tests of a number
 pub is_within : {Y : Type 0} (a b : Seen) (parse p q : List ℕ → Result Y TextFault) (x n : ℕ) → Comes a b parse (λ more. cond (nat_le x n) (p more) (q more)) → x ≤ n → Comes a b parse p

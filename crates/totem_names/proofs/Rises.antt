@@ -1,7 +1,5 @@
 -- Loops over a list whose elements are ascending.
-use Rattle.std.proofs.Common.{◌≡◌, ℕ, zero, suc, ◌+◌, ◌<◌, ◌≤◌, List, length, get_or, take, refl, sym, ◌∙◌, ap, arith}
-use Rattle.std.specs.Prelude.{All, AllPairs}
-use Rattle.std.proofs.lemmas.List.{take_more, take_all, length-take-le, get_or-take, get_or_default}
+use Rattle.totem_names.proofs.Common.{◌≡◌, ℕ, zero, suc, ◌+◌, ◌<◌, ◌≤◌, List, length, get_or, take, refl, sym, ◌∙◌, ap, arith, All, AllPairs, take_more, take_all, length-take-le, get_or-take, get_or_default}
 use Rattle.std.proofs.lemmas.List.Elements.{All-push}
 use Rattle.std.proofs.lemmas.List.Quantifiers.{all_pairs_push}
 use Rattle.totem_names.specs.Lists.{FallsAt}
@@ -12,14 +10,6 @@ pub record RisesTo {X : Type 0} (of : X → ℕ) (xs : List X) (i last : ℕ) : 
   pub below : All (λ x. of x ≤ last) (take i xs)
   pub last_is : (j : ℕ) (d : X) → i ≡ j + 1 → of (get_or xs j d) ≡ last
   pub none_yet : i ≡ 0 → last ≡ 0
-
-pub rises_none : {X : Type 0} (of : X → ℕ) (xs : List X) → RisesTo of xs 0 0
-rises_none of xs = record {
-  rising = λ i j d lt within. absurd (omega (arith, length-take-le 0 xs (omega arith)));
-  below = λ k d within. absurd (omega (arith, length-take-le 0 xs (omega arith)));
-  last_is = λ j d e. absurd (omega arith);
-  none_yet = λ e. refl;
-}
 
 pub rises_more : {X : Type 0} (of : X → ℕ) (xs : List X) (i last n : ℕ) (x : X) → i < length xs → x ≡ get_or xs i x → n ≡ of x → 0 < n → last < n
     → RisesTo of xs i last → RisesTo of xs (i + 1) n

@@ -1,35 +1,17 @@
 -- Services: what is read is spelled so, and what is spelled so is read.
-use Rattle.std.specs.Prelude.{◌==◌}
-use Rattle.std.proofs.Common.{◌≡◌, ℕ, List, [], ◌∷◌, ◌++◌, inl, inr, cond, Ok, Err, refl, ap, ◌∙◌}
-use Rattle.std.proofs.lemmas.Bool.{eqb-true}
+use Rattle.std.proofs.Common.{arith}
+use Rattle.totem_names.proofs.Common.{◌==◌, ◌≡◌, ℕ, List, [], ◌++◌, Ok, Err, refl, eqb-true, Steady, service_text}
 use Rattle.totem_names.specs.declared.message.Service.{Service}
 use Rattle.totem_names.specs.declared.message.Service.TheVariants.{Agreed, Safe}
 use Rattle.totem_names.specs.declared.fault.TextFault.TheVariants.{Word, Truncated}
-use Rattle.totem_names.specs.Sources.{Steady}
-use Rattle.totem_names.specs.Numbers.{byte_at}
 use Rattle.totem_names.specs.Services.{service_at, SpellsAlone}
-use Rattle.totem_names.specs.Texts.{service_text}
-use Rattle.totem_names.proofs.Spelled.{after, taken, guard_then, parsed_is, byte_is}
+use Rattle.totem_names.proofs.Steps.{after, taken, guard_then, parsed_is}
+use Rattle.totem_names.proofs.Spelled.{byte_is}
 use Rattle.totem_names.proofs.Steady.{gives_steady, fault_steady, bind_steady, cond_steady, byte_steady, first_break}
 
 pub service_is : (s : Service) (bytes rest : List ℕ) → service_at bytes ≡ Ok (s, rest) → bytes ≡ service_text s ++ rest
 unfolding service_at
-service_is s bytes rest e =
-    after (byte_at bytes) (λ b. cond (b.0 == 97) (Ok (Agreed, b.1)) (cond (b.0 == 115) (Ok (Safe, b.1)) (Err Word))) (s, rest) e (λ b mid e1 more.
-    let whole = byte_is bytes b mid e1 in
-    elim (taken (b == 97) (Ok (Agreed, mid)) (cond (b == 115) (Ok (Safe, mid)) (Err Word)) (Ok (s, rest)) more) [
-      | inl r ↦
-          let same : b ≡ 97 = eqb-true _ _ r.0 in
-          let q = parsed_is Agreed s mid rest r.1 in
-          let text : bytes ≡ service_text Agreed ++ mid = whole ∙ ap (λ (k : ℕ). k ∷ mid) same in
-          rw (← q.0, ← q.1) text
-      | inr other ↦
-          let t = guard_then (b == 115) (Ok (Safe, mid)) Word (s, rest) other.1 in
-          let same : b ≡ 115 = eqb-true _ _ t.0 in
-          let q = parsed_is Safe s mid rest t.1 in
-          let text : bytes ≡ service_text Safe ++ mid = whole ∙ ap (λ (k : ℕ). k ∷ mid) same in
-          rw (← q.0, ← q.1) text
-    ])
+service_is s bytes rest e = grind (arith, after, byte_is, taken, eqb-true, parsed_is, guard_then)
 
 pub service_again : (s : Service) (rest : List ℕ) → service_at (service_text s ++ rest) ≡ Ok (s, rest)
 unfolding service_at
@@ -45,9 +27,4 @@ unfolding service_at
 service_empty = refl
 
 pub service_spells : SpellsAlone service_at service_text
-service_spells = record {
-  spelled = service_is;
-  read = service_again;
-  breaks = λ bytes fault long e. first_break service_at bytes fault service_steady service_empty long e;
-  steady = service_steady;
-}
+service_spells = grind (arith, service_is, service_again, first_break, service_steady, service_empty)

@@ -1,51 +1,15 @@
 -- What is read is spelled so, and what is spelled so is read: words, numbers and names.
-use Rattle.std.specs.Prelude.{decimal, ◌==◌, codes, ◌⊎◌}
-use Rattle.std.specs.Int.Digits.{digits_of}
-use Rattle.std.proofs.Common.{◌≡◌, ◌≢◌, ℕ, zero, suc, ◌+◌, ◌-◌, ◌*◌, ◌/◌, ◌%◌, ◌^◌, ◌<◌, ◌≤◌, inl, inr, List, [], ◌∷◌, ◌++◌, map, Result, Ok, Err, Bool, true, false, cond, refl, sym, ◌∙◌, ap, append_assoc, arith, rules}
-use Rattle.std.proofs.lemmas.Bool.{cases_lt, eqb-true}
+use Rattle.totem_names.proofs.Common.{decimal, ◌==◌, codes, ◌≡◌, ◌≢◌, ℕ, zero, suc, ◌+◌, ◌-◌, ◌*◌, ◌/◌, ◌%◌, ◌^◌, ◌<◌, ◌≤◌, inl, inr, List, [], ◌∷◌, ◌++◌, map, Ok, Err, Bool, true, false, cond, refl, sym, ◌∙◌, ap, append_assoc, arith, rules, cases_lt, eqb-true, RingName, MessageName, ◌>>=◌, ring_text, conf_text, message_text, IsUpTo, IsProcess, IsRing, IsConf, IsMessage}
 use Rattle.std.proofs.lemmas.Fmt.{decimal-digits_of, decimal_digit}
 use Rattle.std.proofs.lemmas.Int.Digits.{digits_of_step}
 use Rattle.totem_names.specs.declared.fault.TextFault.{TextFault}
 use Rattle.totem_names.specs.declared.fault.TextFault.TheVariants.{Word, Number}
 use Rattle.totem_names.specs.declared.conf.ConfId.{ConfId}
 use Rattle.totem_names.specs.declared.conf.ConfId.TheVariants.{Regular, Transitional}
-use Rattle.totem_names.specs.Names.{RingName, MessageName}
-use Rattle.totem_names.specs.Sources.{Parsed, ◌>>=◌}
 use Rattle.totem_names.specs.Numbers.{is_digit, byte_at, word_at, digits_at, number_at, number_to}
 use Rattle.totem_names.specs.Parsers.{ring_at, message_at, regular_at, transitional_at, conf_at}
-use Rattle.totem_names.specs.Texts.{ring_text, conf_text, message_text, IsUpTo, IsProcess, IsRing, IsConf, IsMessage}
+use Rattle.totem_names.proofs.Steps.{bind_ok, after, taken, guard_then, parsed_is}
 use Rattle.totem_names.proofs.Readers.{first_digit, first_other, next_digit, next_over, next_other}
-
--- ---- steps and tests that did not fail
-
-pub bind_ok : {A B : Type 0} (r : Result A TextFault) (f : A → Result B TextFault) (y : B) → (r >>= f) ≡ Ok y → (x : A) × (r ≡ Ok x) × (f x ≡ Ok y)
-bind_ok (Ok x) f y e = (x, refl, e)
-bind_ok (Err d) f y e = absurd cc
-
--- the same for a value and what is left, for any conclusion
-pub after : {A B P : Type 0} (r : Parsed A) (f : A × List ℕ → Result B TextFault) (y : B) → (r >>= f) ≡ Ok y → ((x : A) (rest : List ℕ) → r ≡ Ok (x, rest) → f (x, rest) ≡ Ok y → P) → P
-after (Ok x) f y e k = k x.0 x.1 refl e
-after (Err d) f y e k = absurd cc
-
--- one of two branches was taken
-pub taken : {B : Type 0} (t : Bool) (p q r : Result B TextFault) → cond t p q ≡ r → ((t ≡ true) × (p ≡ r)) ⊎ ((t ≡ false) × (q ≡ r))
-taken true p q r e = inl (refl, e)
-taken false p q r e = inr (refl, e)
-
--- the first branch gave a value, since the second is a fault
-pub guard_then : {B : Type 0} (t : Bool) (p : Result B TextFault) (f : TextFault) (y : B) → cond t p (Err f) ≡ Ok y → (t ≡ true) × (p ≡ Ok y)
-guard_then true p f y e = (refl, e)
-guard_then false p f y e = absurd cc
-
-pub guard_else : {B : Type 0} (t : Bool) (p : Result B TextFault) (f : TextFault) (y : B) → cond t (Err f) p ≡ Ok y → (t ≡ false) × (p ≡ Ok y)
-guard_else true p f y e = absurd cc
-guard_else false p f y e = (refl, e)
-
--- a value and what is left are those
-pub parsed_is : {A : Type 0} (x y : A) (xs ys : List ℕ) → ◌≡◌ {A = Parsed A} (Ok (x, xs)) (Ok (y, ys)) → (x ≡ y) × (xs ≡ ys)
-parsed_is {A = A} x y xs ys e =
-    let pair : ◌≡◌ {A = A × List ℕ} (x, xs) (y, ys) = cc in
-    (ap (λ (p : A × List ℕ). p.0) pair, ap (λ (p : A × List ℕ). p.1) pair)
 
 -- ---- words
 
@@ -75,13 +39,7 @@ map-append f (x ∷ xs) ys = ap (λ zs. f x ∷ zs) (map-append f xs ys)
 
 -- one more digit
 pub decimal_push : (n d : ℕ) → 0 < n → d < 10 → 10 * n + d < 2 ^ 64 → decimal (10 * n + d) ≡ decimal n ++ (48 + d) ∷ []
-decimal_push n d pos low fits =
-    let quotient : (10 * n + d) / 10 ≡ n = omega arith in
-    let rest : (10 * n + d) % 10 ≡ d = omega arith in
-    decimal-digits_of (10 * n + d) (omega arith) fits
-    ∙ ap (map (λ (x : ℕ). 48 + x)) (digits_of_step 10 (10 * n + d) (omega arith) (omega arith))
-    ∙ rw (quotient, rest) (map-append (λ (x : ℕ). 48 + x) (digits_of 10 n) (d ∷ []))
-    ∙ ap (λ (xs : List ℕ). xs ++ (48 + d) ∷ []) (sym (decimal-digits_of n pos (omega arith)))
+decimal_push n d pos low fits = grind (arith, decimal-digits_of, digits_of_step, map-append)
 
 digit_test : (d : ℕ) → d < 10 → is_digit (48 + d) ≡ true
 digit_test d low = grind arith
@@ -205,11 +163,7 @@ ring_is end c bytes rest e =
 
 pub ring_again : (end : ℕ) (c : RingName) (rest : List ℕ) → is_digit end ≡ false → IsRing c → ring_at end (ring_text c ++ end ∷ rest) ≡ Ok (c, rest)
 unfolding ring_at
-ring_again end c rest other is =
-    let regrouped : ring_text c ++ end ∷ rest ≡ decimal c.seq ++ 46 ∷ (decimal c.rep ++ end ∷ rest) = simp append_assoc in
-    ap (ring_at end) regrouped
-    ∙ rw (number_to_again 4294967295 46 c.seq (decimal c.rep ++ end ∷ rest) is.seq_fits.positive is.seq_fits.small (omega arith) refl) (
-    rw (number_to_again 65535 end c.rep rest is.rep_fits.positive is.rep_fits.small (omega arith) other) refl)
+ring_again end c rest other is = grind (arith, append_assoc, number_to_again)
 
 pub message_is : (end : ℕ) (m : MessageName) (bytes rest : List ℕ) → message_at end bytes ≡ Ok (m, rest) → IsMessage m × (bytes ≡ message_text m ++ end ∷ rest)
 unfolding message_at
@@ -226,11 +180,7 @@ message_is end m bytes rest e =
 
 pub message_again : (end : ℕ) (m : MessageName) (rest : List ℕ) → is_digit end ≡ false → IsMessage m → message_at end (message_text m ++ end ∷ rest) ≡ Ok (m, rest)
 unfolding message_at
-message_again end m rest other is =
-    let regrouped : message_text m ++ end ∷ rest ≡ ring_text m.ring ++ 35 ∷ (decimal m.number ++ end ∷ rest) = simp append_assoc in
-    ap (message_at end) regrouped
-    ∙ rw (ring_again 35 m.ring (decimal m.number ++ end ∷ rest) refl is.ring_fits) (
-    rw (number_to_again 4294967295 end m.number rest is.number_fits.positive is.number_fits.small (omega arith) other) refl)
+message_again end m rest other is = grind (arith, append_assoc, ring_again, number_to_again)
 
 -- ---- configurations
 
@@ -260,9 +210,7 @@ transitional_is end x bytes rest e =
 
 transitional_again : (end : ℕ) (next : RingName) (least : ℕ) (rest : List ℕ) → is_digit end ≡ false → IsRing next → IsProcess least → transitional_at end (ring_text next ++ 47 ∷ (decimal least ++ end ∷ rest)) ≡ Ok (Transitional least next, rest)
 unfolding transitional_at
-transitional_again end next least rest other is fits =
-    rw (ring_again 47 next (decimal least ++ end ∷ rest) refl is) (
-    rw (number_to_again 65535 end least rest fits.positive fits.small (omega arith) other) refl)
+transitional_again end next least rest other is fits = grind (arith, ring_again, number_to_again)
 
 pub conf_is : (end : ℕ) (x : ConfId) (bytes rest : List ℕ) → conf_at end bytes ≡ Ok (x, rest) → IsConf x × (bytes ≡ conf_text x ++ end ∷ rest)
 unfolding conf_at
@@ -283,7 +231,4 @@ conf_is end x bytes rest e =
 
 pub conf_again : (end : ℕ) (x : ConfId) (rest : List ℕ) → is_digit end ≡ false → IsConf x → conf_at end (conf_text x ++ end ∷ rest) ≡ Ok (x, rest)
 unfolding conf_at
-conf_again end (Regular c) rest other is = regular_again end c rest other is
-conf_again end (Transitional least next) rest other is =
-    let regrouped : (ring_text next ++ codes "/" ++ decimal least) ++ end ∷ rest ≡ ring_text next ++ 47 ∷ (decimal least ++ end ∷ rest) = simp append_assoc in
-    rw regrouped (transitional_again end next least rest other is.0 is.1)
+conf_again end x rest h k = grind (arith, regular_again, append_assoc, transitional_again)

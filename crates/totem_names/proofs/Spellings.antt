@@ -1,10 +1,8 @@
 -- Each name's parser and spelling fit each other.
-use Rattle.std.specs.Prelude.{decimal}
-use Rattle.std.proofs.Common.{◌≡◌, ℕ, ◌^◌, ◌<◌, ◌≤◌, [], Err, refl, arith}
+use Rattle.totem_names.proofs.Common.{decimal, ◌≡◌, ℕ, ◌^◌, ◌<◌, ◌≤◌, [], Err, refl, arith, ring_text, conf_text, message_text, IsUpTo, IsProcess, IsRing, IsConf, IsMessage}
 use Rattle.totem_names.specs.declared.fault.TextFault.TheVariants.{Truncated}
 use Rattle.totem_names.specs.Numbers.{number_at, number_to, proc_at}
 use Rattle.totem_names.specs.Parsers.{ring_at, message_at, conf_at}
-use Rattle.totem_names.specs.Texts.{ring_text, conf_text, message_text, IsUpTo, IsProcess, IsRing, IsConf, IsMessage}
 use Rattle.totem_names.specs.Spelling.{Spells}
 use Rattle.totem_names.proofs.Steady.{first_break, number_to_steady, ring_steady, message_steady, conf_steady}
 use Rattle.totem_names.proofs.Spelled.{number_to_is, number_to_again, ring_is, ring_again, message_is, message_again, conf_is, conf_again}

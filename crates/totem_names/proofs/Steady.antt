@@ -1,11 +1,8 @@
 -- What a parser returns doesn't change with what follows, unless the text was too short.
-use Rattle.std.specs.Prelude.{nat_le, ◌==◌}
-use Rattle.std.proofs.Common.{◌≡◌, ℕ, ◌+◌, ◌-◌, ◌*◌, List, [], ◌∷◌, ◌++◌, Bool, true, false, cond, Ok, Err, refl, sym, ap, subst, append_assoc, ◌∙◌}
-use Rattle.std.proofs.lemmas.List.{append-nil}
+use Rattle.std.proofs.Common.{arith}
+use Rattle.totem_names.proofs.Common.{nat_le, ◌==◌, ◌≡◌, ℕ, ◌+◌, ◌-◌, ◌*◌, List, [], ◌∷◌, ◌++◌, Bool, true, false, cond, Ok, Err, refl, sym, ap, subst, append_assoc, ◌∙◌, append-nil, Parsed, Follows, Steady, FirstBreak, is_short, ◌>>=◌}
 use Rattle.totem_names.specs.declared.fault.TextFault.{TextFault}
 use Rattle.totem_names.specs.declared.fault.TextFault.TheVariants.{Word, Number, Truncated}
-use Rattle.totem_names.specs.declared.fault.TextFault.TheVariants as faults
-use Rattle.totem_names.specs.Sources.{Parsed, Follows, Steady, FirstBreak, is_short, ◌>>=◌}
 use Rattle.totem_names.specs.Numbers.{is_digit, byte_at, word_at, digits_at, number_at, number_to}
 use Rattle.totem_names.specs.Parsers.{ring_at, message_at, regular_at, transitional_at, conf_at}
 
@@ -29,11 +26,7 @@ cond_steady true p q hp hq = record { stays = λ bytes more. hp.stays bytes more
 cond_steady false p q hp hq = record { stays = λ bytes more. hq.stays bytes more }
 
 pub byte_steady : Steady byte_at
-byte_steady = record { stays = go }
-  where
-    go : (bytes more : List ℕ) → Follows more (byte_at bytes) (byte_at (bytes ++ more))
-    go [] more = λ h. absurd cc
-    go (b ∷ bytes) more = refl
+byte_steady = grind arith
 
 pub word_steady : (fault : TextFault) (word : List ℕ) → Steady (word_at fault word)
 unfolding word_at
@@ -53,14 +46,7 @@ digits_stay max n (b ∷ bytes) more = go (is_digit b) (nat_le (10 * n + (b - 48
 
 number_stays : (max : ℕ) (bytes more : List ℕ) → Follows more (number_at max bytes) (number_at max (bytes ++ more))
 unfolding number_at
-number_stays max [] more = λ h. absurd cc
-number_stays max (b ∷ bytes) more = go (is_digit b) (b == 48) (digits_stay max (b - 48) bytes more)
-  where
-    go : (t u : Bool) → Follows more (digits_at max (b - 48) bytes) (digits_at max (b - 48) (bytes ++ more))
-        → Follows {Y = ℕ × ℕ} more (cond t (cond u (Err Number) (digits_at max (b - 48) bytes)) (Err Number)) (cond t (cond u (Err Number) (digits_at max (b - 48) (bytes ++ more))) (Err Number))
-    go true true h = λ long. refl
-    go true false h = h
-    go false u h = λ long. refl
+number_stays max bytes more = grind (arith, digits_stay)
 
 pub number_steady : (max : ℕ) → Steady (number_at max)
 number_steady max = record { stays = number_stays max }
@@ -92,14 +78,7 @@ conf_steady end = bind_steady _ _ byte_steady (λ kind. cond_steady _ _ _ (regul
 -- ---- the first byte that breaks a rule
 
 short_is : (f : TextFault) → is_short f ≡ true → f ≡ Truncated
-short_is faults.Header h = absurd cc
-short_is faults.Word h = absurd cc
-short_is faults.Number h = absurd cc
-short_is faults.Order h = absurd cc
-short_is faults.Members h = absurd cc
-short_is faults.End h = absurd cc
-short_is faults.Truncated h = refl
-short_is faults.TooMany h = absurd cc
+short_is f h = grind arith
 
 first_from : {Y : Type 0} (parse : List ℕ → Parsed Y) (f : TextFault) → Steady parse → is_short f ≡ false → (front bytes : List ℕ) → parse front ≡ Err Truncated → parse (front ++ bytes) ≡ Err f → FirstBreak parse (front ++ bytes) f
 first_from parse f steady long front [] before e =

@@ -13,9 +13,9 @@ use Rattle.totem_names.specs.declared.fault.ReadError.TheVariants as errors
 abbrev pub Parsed : Type 0 → Type 0
 Parsed Y = Result (Y × List ℕ) TextFault
 
--- one parser after the other: the second goes by the value of the first, and a fault stays
+-- one part after the other: the second goes by the value of the first, and a fault stays
 infixl 10 ◌>>=◌
-abbrev pub ◌>>=◌ : {A B : Type 0} → Result A TextFault → (A → Result B TextFault) → Result B TextFault
+abbrev pub ◌>>=◌ : {A B E : Type 0} → Result A E → (A → Result B E) → Result B E
 (Ok x) >>= f = f x
 (Err e) >>= f = Err e
 

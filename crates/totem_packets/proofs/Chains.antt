@@ -1,9 +1,5 @@
 -- Lists with ascending numbers, one after the other and pair by pair.
-use Rattle.std.proofs.Common.{ℕ, suc, ◌<◌, ◌≤◌, List, [], ◌∷◌, arith}
-use Rattle.std.specs.Prelude.{All, AllPairs}
-use Rattle.std.specs.List.{AllByRecursion}
-use Rattle.std.proofs.lemmas.List.Kept.{AllPairs-cons}
-use Rattle.std.proofs.lemmas.List.Elements.{All-from_recursion}
+use Rattle.totem_packets.proofs.Common.{ℕ, suc, ◌<◌, ◌≤◌, List, [], ◌∷◌, arith, All, AllPairs, AllByRecursion, AllPairs-cons, All-from_recursion}
 
 -- each number is above the one before, and the first above `last`
 abbrev pub Rises : {Y : Type 0} → (Y → ℕ) → ℕ → List Y → Type 0

@@ -1,24 +1,14 @@
 -- The laws of the bytes of packets.
-use Rattle.std.specs.Prelude.{◌==◌, ◌⊎◌}
-use Rattle.std.specs.Int.{w8}
-use Rattle.std.proofs.Common.{◌≡◌, ◌≢◌, ℕ, zero, suc, ◌<◌, ◌↔◌, List, [], ◌∷◌, ◌++◌, length, Bool, true, false, cond, Result, Ok, Err, refl, sym, ap, subst, ◌∙◌, append_assoc, arith, inl, inr}
-use Rattle.std.specs.Prelude.{IfOk}
-use Rattle.std.proofs.lemmas.Bool.{eqb-true, eqb-false, ne_eqb}
-use Rattle.std.proofs.lemmas.List.{append-nil, nil_from_length, length-append}
+use Rattle.totem_packets.proofs.Common.{◌==◌, ◌⊎◌, IfOk, ◌≡◌, ◌≢◌, ℕ, ◌<◌, ◌↔◌, List, [], ◌∷◌, ◌++◌, length, false, cond, Result, Ok, Err, refl, sym, ap, subst, ◌∙◌, append_assoc, arith, inl, inr, w8, eqb-true, eqb-false, ne_eqb, append-nil, nil_from_length, length-append, ◌>>=◌, Parsed, AreBytes, Gives, IsOfNoKind, HasMore, IsFirstWrong, IsPacket, bind_ok, taken, guard_then, parsed_is}
 use Rattle.totem_packets.specs.declared.fault.PacketFault.{PacketFault}
 use Rattle.totem_packets.specs.declared.fault.PacketFault.TheVariants.{Short, Kind, Range, Trailing, Memory}
 use Rattle.totem_packets.specs.declared.packet.Packet as packet
-use Rattle.totem_packets.specs.Parsing.{Parsed, ◌>>=◌, AreBytes, Gives}
-use Rattle.totem_packets.specs.Fields.{number_at}
-use Rattle.totem_packets.specs.Grammar.{message_packet_at, token_packet_at, join_packet_at, commit_packet_at, later_commit_packet_at, packet_of, packet_at, decode_packet}
-use Rattle.totem_packets.specs.Laws.{IsOfNoKind, HasMore, IsFirstWrong}
-use Rattle.totem_packets.specs.Ranges.{IsPacket}
+use Rattle.totem_packets.specs.Grammar.{packet_of, packet_at, decode_packet}
 use Rattle.totem_packets.specs.Spelling.{packet_bytes}
-use Rattle.totem_packets.proofs.Steps.{bind_ok, taken, guard_then, parsed_is}
 use Rattle.totem_packets.proofs.FirstByte.{kind_at, none_at}
-use Rattle.totem_packets.proofs.Following.{Follows, HasFieldFault, is_short}
-use Rattle.totem_packets.proofs.Staying.{IsField, number_field, message_packet_field, token_packet_field, join_packet_field, commit_packet_field, later_commit_packet_field}
-use Rattle.totem_packets.proofs.TakenPackets.{packet_takes, packet_again}
+use Rattle.totem_packets.proofs.Following.{Follows, HasFaultOf, IsOfField}
+use Rattle.totem_packets.proofs.Staying.{IsParser, IsField, bind_field, cond_field, fault_field, number_field, message_packet_field, token_packet_field, join_packet_field, commit_packet_field, later_commit_packet_field}
+use Rattle.totem_packets.proofs.TakenPackets.{packet_taking, packet_again}
 
 -- ---- from a packet with what is left to a packet alone
 
@@ -54,19 +44,14 @@ which_fault bytes f e = go (packet_at bytes) refl e
 
 whole_read : (bytes : List ℕ) (p : packet.Packet) → decode_packet bytes ≡ Ok p → packet_at bytes ≡ Ok (p, [])
 unfolding decode_packet
-whole_read bytes p e =
-    let a = bind_ok (packet_at bytes) (λ x. cond (length x.1 == 0) (Ok x.0) (Err Trailing)) p e in
-    let g = guard_then (length a.0.1 == 0) (Ok a.0.0) Trailing p a.2 in
-    let nothing : a.0.1 ≡ [] = nil_from_length a.0.1 (eqb-true _ _ g.0) in
-    let same : a.0.0 ≡ p = (let h = g.1 in cc) in
-    a.1 ∙ ap (λ (x : packet.Packet). Ok (x, a.0.1)) same ∙ ap (λ (r : List ℕ). Ok (p, r)) nothing
+whole_read bytes p e = grind (arith, bind_ok, guard_then, nil_from_length, eqb-true)
 
 -- ---- what is read is spelled, and what is spelled is read
 
 pub read_spelled : (bytes : List ℕ) (p : packet.Packet) → AreBytes bytes → decode_packet bytes ≡ Ok p → IsPacket p × (bytes ≡ packet_bytes p)
 read_spelled bytes p fits e =
-    let f = packet_takes bytes p [] fits (whole_read bytes p e) in
-    (f.fits, f.takes.parts ∙ append-nil (packet_bytes p))
+    let f = packet_taking.takes bytes p [] fits (whole_read bytes p e) in
+    (f.holds.1, f.parts ∙ append-nil f.text ∙ f.holds.0)
 
 alone : (p : packet.Packet) → IsPacket p → packet_at (packet_bytes p) ≡ Ok (p, [])
 alone p fits = ap packet_at (sym (append-nil (packet_bytes p))) ∙ packet_again p [] fits
@@ -79,51 +64,55 @@ begins_no_other a b more rest fits others e = parsed_is a b more rest (sym (pack
 
 -- ---- what follows
 
-packet_of_stays : (kind : ℕ) (bytes more : List ℕ) → Follows more (packet_of kind bytes) (packet_of kind (bytes ++ more))
-unfolding packet_of
-packet_of_stays kind bytes more = go (kind == 1) (kind == 2) (kind == 3) (kind == 4) (kind == 5)
-  where
-    go : (t u v w x : Bool)
-        → Follows {Y = packet.Packet} more (cond t (message_packet_at bytes) (cond u (token_packet_at bytes) (cond v (join_packet_at bytes) (cond w (commit_packet_at bytes) (cond x (later_commit_packet_at bytes) (Err Kind))))))
-        (cond t (message_packet_at (bytes ++ more)) (cond u (token_packet_at (bytes ++ more)) (cond v (join_packet_at (bytes ++ more)) (cond w (commit_packet_at (bytes ++ more)) (cond x (later_commit_packet_at (bytes ++ more)) (Err Kind))))))
-    go true u v w x = message_packet_field.stays bytes more
-    go false true v w x = token_packet_field.stays bytes more
-    go false false true w x = join_packet_field.stays bytes more
-    go false false false true x = commit_packet_field.stays bytes more
-    go false false false false true = later_commit_packet_field.stays bytes more
-    go false false false false false = λ long. refl
+abbrev IsOfPacket : PacketFault → Type 0
+IsOfPacket Short = Unit {0}
+IsOfPacket Kind = Unit {0}
+IsOfPacket Range = Unit {0}
+IsOfPacket Trailing = ⊥
+IsOfPacket Memory = ⊥
 
-packet_stays : (bytes more : List ℕ) → Follows more (packet_at bytes) (packet_at (bytes ++ more))
-unfolding packet_at
-packet_stays bytes more = go (number_at w8 bytes) (number_at w8 (bytes ++ more)) ((number_field w8).stays bytes more)
+-- a field's faults are a packet's
+widen : {Y : Type 0} (parse : List ℕ → Parsed Y) → IsField parse → IsParser IsOfPacket parse
+widen {Y = Y} parse field = record { stays = field.stays; fault = λ bytes. go (parse bytes) (field.fault bytes) }
   where
-    go : (now later : Parsed ℕ) → Follows more now later → Follows {Y = packet.Packet} more (now >>= λ kind. packet_of kind.0 kind.1) (later >>= λ kind. packet_of kind.0 kind.1)
-    go (Ok x) later h = rw h (packet_of_stays x.0 x.1 more)
-    go (Err f) later h = λ long. rw (h long) refl
+    go : (r : Parsed Y) → HasFaultOf IsOfField r → HasFaultOf IsOfPacket r
+    go (Ok x) h = tt
+    go (Err Short) h = tt
+    go (Err Range) h = tt
+    go (Err Kind) h = tt
+    go (Err Trailing) h = h
+    go (Err Memory) h = h
 
-short_is : (f : PacketFault) → is_short f ≡ true → f ≡ Short
-short_is Short h = refl
-short_is Kind h = absurd cc
-short_is Range h = absurd cc
-short_is Trailing h = absurd cc
-short_is Memory h = absurd cc
+packet_parser : IsParser IsOfPacket packet_at
+unfolding packet_at packet_of
+packet_parser = bind_field _ _ (widen _ (number_field w8)) (λ kind.
+    cond_field _ _ _ (widen _ message_packet_field) (cond_field _ _ _ (widen _ token_packet_field) (cond_field _ _ _ (widen _ join_packet_field)
+    (cond_field _ _ _ (widen _ commit_packet_field) (cond_field _ _ _ (widen _ later_commit_packet_field) (fault_field Kind tt))))))
+
+-- what is read of the front of these bytes
+data WhichFront (front more : List ℕ) : Type 0 where
+  whole : (p : packet.Packet) (rest : List ℕ) → packet_at (front ++ more) ≡ Ok (p, rest ++ more) → WhichFront front more
+  short : packet_at front ≡ Err Short → WhichFront front more
+  wrong : (f : PacketFault) → packet_at front ≡ Err f → packet_at (front ++ more) ≡ Err f → WhichFront front more
+
+which_front : (front more : List ℕ) → WhichFront front more
+which_front front more = go (packet_at front) refl (packet_parser.stays front more)
+  where
+    go : (r : Parsed packet.Packet) → packet_at front ≡ r → Follows more r (packet_at (front ++ more)) → WhichFront front more
+    go (Ok x) is later = whole x.0 x.1 later
+    go (Err Short) is later = short is
+    go (Err Kind) is later = wrong Kind is (later refl)
+    go (Err Range) is later = wrong Range is (later refl)
+    go (Err Trailing) is later = wrong Trailing is (later refl)
+    go (Err Memory) is later = wrong Memory is (later refl)
 
 -- before the end of a packet, or of what is Short, there is only Short
 short_front : (front : List ℕ) (b : ℕ) (rest : List ℕ) (p : packet.Packet) → packet_at (front ++ b ∷ rest) ≡ Ok (p, []) → packet_at front ≡ Err Short
-short_front front b rest p e = go (packet_at front) refl
-  where
-    go : (r : Parsed packet.Packet) → packet_at front ≡ r → packet_at front ≡ Err Short
-    go (Ok x) is =
-        let later : packet_at (front ++ b ∷ rest) ≡ Ok (x.0, x.1 ++ b ∷ rest) = (let s = packet_stays front (b ∷ rest) in rw is at s) in
-        let same = parsed_is x.0 p (x.1 ++ b ∷ rest) [] (sym later ∙ e) in
-        absurd (omega (arith, length-append x.1 (b ∷ rest), ap length same.1))
-    go (Err f) is = byt (is_short f) refl
-      where
-        byt : (t : Bool) → is_short f ≡ t → packet_at front ≡ Err Short
-        byt true s = is ∙ ap (λ (k : PacketFault). Err k) (short_is f s)
-        byt false s =
-            let later : packet_at (front ++ b ∷ rest) ≡ Err f = (let k = packet_stays front (b ∷ rest) in (rw is at k) s) in
-            absurd (let k = sym later ∙ e in cc)
+short_front front b rest p e = elim (which_front front (b ∷ rest)) [
+  | whole q left later ↦ let same = parsed_is q p (left ++ b ∷ rest) [] (sym later ∙ e) in absurd (omega (arith, length-append left (b ∷ rest), ap length same.1))
+  | short is ↦ is
+  | wrong f is later ↦ absurd (let k = sym later ∙ e in cc)
+]
 
 pub cut_is_short : (p : packet.Packet) (front : List ℕ) (b : ℕ) (rest : List ℕ) → IsPacket p → packet_bytes p ≡ front ++ b ∷ rest → decode_packet front ≡ Err Short
 cut_is_short p front b rest fits e = whole_fault front Short (short_front front b rest p (ap packet_at (sym e) ∙ alone p fits))
@@ -132,23 +121,13 @@ packet_short : (bytes : List ℕ) → decode_packet bytes ≡ Err Short → pack
 packet_short bytes e = elim (which_fault bytes Short e) [ of_packet h ↦ h | of_rest p b rest h k ↦ absurd cc ]
 
 pub short_before : (front rest : List ℕ) → decode_packet (front ++ rest) ≡ Err Short → decode_packet front ≡ Err Short
-short_before front rest e = whole_fault front Short (go (packet_at front) refl)
-  where
-    whole : packet_at (front ++ rest) ≡ Err Short
-    whole = packet_short (front ++ rest) e
-
-    go : (r : Parsed packet.Packet) → packet_at front ≡ r → packet_at front ≡ Err Short
-    go (Ok x) is =
-        let later : packet_at (front ++ rest) ≡ Ok (x.0, x.1 ++ rest) = (let s = packet_stays front rest in rw is at s) in
-        absurd (let k = sym later ∙ whole in cc)
-    go (Err f) is = byt (is_short f) refl
-      where
-        byt : (t : Bool) → is_short f ≡ t → packet_at front ≡ Err Short
-        byt true s = is ∙ ap (λ (k : PacketFault). Err k) (short_is f s)
-        byt false s =
-            let later : packet_at (front ++ rest) ≡ Err f = (let k = packet_stays front rest in (rw is at k) s) in
-            let same : ◌≡◌ {A = Parsed packet.Packet} (Err f) (Err Short) = sym later ∙ whole in
-            is ∙ same
+short_before front rest e =
+    let long : packet_at (front ++ rest) ≡ Err Short = packet_short (front ++ rest) e in
+    whole_fault front Short (elim (which_front front rest) [
+      | whole p left later ↦ absurd (let k = sym later ∙ long in cc)
+      | short is ↦ is
+      | wrong f is later ↦ let same : ◌≡◌ {A = Parsed packet.Packet} (Err f) (Err Short) = sym later ∙ long in is ∙ same
+    ])
 
 -- ---- Kind
 
@@ -160,33 +139,13 @@ packet_none : packet_at [] ≡ Err Short
 unfolding packet_at
 packet_none = rw none_at refl
 
--- a field's fault is not Kind
-no_kind : {Y : Type 0} (parse : List ℕ → Parsed Y) → IsField parse → (bytes : List ℕ) → parse bytes ≡ Err Kind → ⊥
-no_kind parse field bytes e = rw e at (field.fault bytes)
+-- a field's fault is not Kind, so Kind comes from another kind's parser
+past : (n kind : ℕ) (parse : List ℕ → Parsed packet.Packet) (other : Parsed packet.Packet) → IsField parse → (rest : List ℕ) → cond (kind == n) (parse rest) other ≡ Err Kind → (kind ≢ n) × (other ≡ Err Kind)
+past n kind parse other field rest e = grind (arith, taken, eqb-false)
 
 kind_of : (kind : ℕ) (rest : List ℕ) → packet_of kind rest ≡ Err Kind → (kind ≡ 0) ⊎ (5 < kind)
 unfolding packet_of
-kind_of kind rest e =
-    elim (taken (kind == 1) _ _ (Err Kind) e) [
-      | inl r ↦ absurd (no_kind message_packet_at message_packet_field rest r.1)
-      | inr r ↦ elim (taken (kind == 2) _ _ (Err Kind) r.1) [
-        | inl s ↦ absurd (no_kind token_packet_at token_packet_field rest s.1)
-        | inr s ↦ elim (taken (kind == 3) _ _ (Err Kind) s.1) [
-          | inl t ↦ absurd (no_kind join_packet_at join_packet_field rest t.1)
-          | inr t ↦ elim (taken (kind == 4) _ _ (Err Kind) t.1) [
-            | inl u ↦ absurd (no_kind commit_packet_at commit_packet_field rest u.1)
-            | inr u ↦ elim (taken (kind == 5) _ _ (Err Kind) u.1) [
-              | inl v ↦ absurd (no_kind later_commit_packet_at later_commit_packet_field rest v.1)
-              | inr v ↦ left kind (eqb-false _ _ r.0) (eqb-false _ _ s.0) (eqb-false _ _ t.0) (eqb-false _ _ u.0) (eqb-false _ _ v.0)
-            ]
-          ]
-        ]
-      ]
-    ]
-  where
-    left : (n : ℕ) → n ≢ 1 → n ≢ 2 → n ≢ 3 → n ≢ 4 → n ≢ 5 → (n ≡ 0) ⊎ (5 < n)
-    left zero a b c d f = inl refl
-    left (suc n) a b c d f = inr (omega arith)
+kind_of kind rest e = grind (arith, past, message_packet_field, token_packet_field, join_packet_field, commit_packet_field, later_commit_packet_field)
 
 kind_from : (kind : ℕ) (rest : List ℕ) → kind ≢ 1 → kind ≢ 2 → kind ≢ 3 → kind ≢ 4 → kind ≢ 5 → packet_of kind rest ≡ Err Kind
 unfolding packet_of
@@ -208,51 +167,16 @@ kind_is_first bytes = (λ e. there bytes e, λ h. back bytes h)
 
 -- ---- the faults of a packet
 
-abbrev IsOfPacket : PacketFault → Type 0
-IsOfPacket Short = Unit {0}
-IsOfPacket Kind = Unit {0}
-IsOfPacket Range = Unit {0}
-IsOfPacket Trailing = ⊥
-IsOfPacket Memory = ⊥
-
-abbrev HasPacketFault : Parsed packet.Packet → Type 0
-HasPacketFault (Ok x) = Unit {0}
-HasPacketFault (Err f) = IsOfPacket f
-
-widen : (r : Parsed packet.Packet) → HasFieldFault r → HasPacketFault r
-widen (Ok x) h = tt
-widen (Err Short) h = tt
-widen (Err Kind) h = tt
-widen (Err Range) h = tt
-widen (Err Trailing) h = h
-widen (Err Memory) h = h
-
-packet_of_fault : (kind : ℕ) (bytes : List ℕ) → HasPacketFault (packet_of kind bytes)
-unfolding packet_of
-packet_of_fault kind bytes = go (kind == 1) (kind == 2) (kind == 3) (kind == 4) (kind == 5)
-  where
-    go : (t u v w x : Bool) → HasPacketFault (cond t (message_packet_at bytes) (cond u (token_packet_at bytes) (cond v (join_packet_at bytes) (cond w (commit_packet_at bytes) (cond x (later_commit_packet_at bytes) (Err Kind))))))
-    go true u v w x = widen (message_packet_at bytes) (message_packet_field.fault bytes)
-    go false true v w x = widen (token_packet_at bytes) (token_packet_field.fault bytes)
-    go false false true w x = widen (join_packet_at bytes) (join_packet_field.fault bytes)
-    go false false false true x = widen (commit_packet_at bytes) (commit_packet_field.fault bytes)
-    go false false false false true = widen (later_commit_packet_at bytes) (later_commit_packet_field.fault bytes)
-    go false false false false false = tt
-
-packet_fault : (bytes : List ℕ) → HasPacketFault (packet_at bytes)
-packet_fault [] = rw packet_none tt
-packet_fault (b ∷ rest) = rw (packet_kind b rest) (packet_of_fault b rest)
-
 pub never_memory : (bytes : List ℕ) → decode_packet bytes ≢ Err Memory
-never_memory bytes e = elim (which_fault bytes Memory e) [ of_packet h ↦ rw h at (packet_fault bytes) | of_rest p b rest h k ↦ absurd cc ]
+never_memory bytes e = elim (which_fault bytes Memory e) [ of_packet h ↦ rw h at (packet_parser.fault bytes) | of_rest p b rest h k ↦ absurd cc ]
 
 pub trailing_is_last : (bytes : List ℕ) → AreBytes bytes → (decode_packet bytes ≡ Err Trailing) ↔ HasMore bytes
 trailing_is_last bytes fits = (λ e. there e, λ h. back h)
   where
     there : decode_packet bytes ≡ Err Trailing → HasMore bytes
     there e = elim (which_fault bytes Trailing e) [
-      | of_packet h ↦ absurd (rw h at (packet_fault bytes))
-      | of_rest p b rest h k ↦ let f = packet_takes bytes p (b ∷ rest) fits h in record { packet = p; byte = b; rest = rest; fits = f.fits; whole = f.takes.parts }
+      | of_packet h ↦ absurd (rw h at (packet_parser.fault bytes))
+      | of_rest p b rest h k ↦ let f = packet_taking.takes bytes p (b ∷ rest) fits h in record { packet = p; byte = b; rest = rest; fits = f.holds.1; whole = rw f.holds.0 at f.parts }
     ]
 
     back : HasMore bytes → decode_packet bytes ≡ Err Trailing
@@ -272,23 +196,15 @@ record FirstRange (bytes : List ℕ) : Type 0 where
 first_from : (front bytes : List ℕ) → packet_at front ≡ Err Short → packet_at (front ++ bytes) ≡ Err Range → FirstRange (front ++ bytes)
 first_from front [] before e = absurd (let k = sym before ∙ ap packet_at (sym (append-nil front)) ∙ e in cc)
 first_from front (b ∷ bytes) before e =
-    go (packet_at (front ++ b ∷ [])) refl (λ short. first_from (front ++ b ∷ []) bytes short (ap packet_at regrouped ∙ e))
-  where
-    regrouped : (front ++ b ∷ []) ++ bytes ≡ front ++ b ∷ bytes
-    regrouped = append_assoc front (b ∷ []) bytes
-
-    go : (r : Parsed packet.Packet) → packet_at (front ++ b ∷ []) ≡ r → (packet_at (front ++ b ∷ []) ≡ Err Short → FirstRange ((front ++ b ∷ []) ++ bytes)) → FirstRange (front ++ b ∷ bytes)
-    go (Ok x) h again =
-        let later : packet_at ((front ++ b ∷ []) ++ bytes) ≡ Ok (x.0, x.1 ++ bytes) = (let s = packet_stays (front ++ b ∷ []) bytes in rw h at s) in
-        absurd (let k = sym later ∙ ap packet_at regrouped ∙ e in cc)
-    go (Err g) h again = byt (is_short g) refl
-      where
-        byt : (t : Bool) → is_short g ≡ t → FirstRange (front ++ b ∷ bytes)
-        byt true s = subst (λ (w : List ℕ). FirstRange w) regrouped (again (h ∙ ap (λ (k : PacketFault). Err k) (short_is g s)))
-        byt false s =
-            let later : packet_at ((front ++ b ∷ []) ++ bytes) ≡ Err g = (let k = packet_stays (front ++ b ∷ []) bytes in (rw h at k) s) in
-            let same : ◌≡◌ {A = Parsed packet.Packet} (Err g) (Err Range) = sym later ∙ ap packet_at regrouped ∙ e in
-            record { front = front; byte = b; rest = bytes; whole = refl; before = before; at = h ∙ same }
+    let regrouped : (front ++ b ∷ []) ++ bytes ≡ front ++ b ∷ bytes = append_assoc front (b ∷ []) bytes in
+    let all : packet_at ((front ++ b ∷ []) ++ bytes) ≡ Err Range = ap packet_at regrouped ∙ e in
+    elim (which_front (front ++ b ∷ []) bytes) [
+      | whole p left later ↦ absurd (let k = sym later ∙ all in cc)
+      | short is ↦ subst FirstRange regrouped (first_from (front ++ b ∷ []) bytes is all)
+      | wrong f is later ↦
+          let same : ◌≡◌ {A = Parsed packet.Packet} (Err f) (Err Range) = sym later ∙ all in
+          record { front = front; byte = b; rest = bytes; whole = refl; before = before; at = is ∙ same }
+    ]
 
 pub range_is_first : (bytes : List ℕ) → decode_packet bytes ≡ Err Range → IsFirstWrong bytes
 range_is_first bytes e = elim (which_fault bytes Range e) [
@@ -303,7 +219,7 @@ range_is_first bytes e = elim (which_fault bytes Range e) [
         before = whole_fault f.front Short f.before;
         wrong = λ more.
             let regrouped : (f.front ++ f.byte ∷ []) ++ more ≡ f.front ++ f.byte ∷ more = append_assoc f.front (f.byte ∷ []) more in
-            let later : packet_at ((f.front ++ f.byte ∷ []) ++ more) ≡ Err Range = (let k = packet_stays (f.front ++ f.byte ∷ []) more in (rw f.at at k) refl) in
+            let later : packet_at ((f.front ++ f.byte ∷ []) ++ more) ≡ Err Range = (let k = packet_parser.stays (f.front ++ f.byte ∷ []) more in (rw f.at at k) refl) in
             whole_fault (f.front ++ f.byte ∷ more) Range (ap packet_at (sym regrouped) ∙ later);
       }
 ]
@@ -313,6 +229,3 @@ range_is_first bytes e = elim (which_fault bytes Range e) [
 pub found : (bytes : List ℕ) (r : Result packet.Packet PacketFault) → AreBytes bytes → Gives r (decode_packet bytes) → IfOk r (λ p. IsPacket p × (bytes ≡ packet_bytes p))
 found bytes (Ok p) fits given = read_spelled bytes p fits given
 found bytes (Err f) fits given = tt
-
-pub found_again : (bytes : List ℕ) (r : Result packet.Packet PacketFault) (p : packet.Packet) → IsPacket p → bytes ≡ packet_bytes p → Gives r (decode_packet bytes) → Gives r (Ok p)
-found_again bytes r p fits e given = rw (ap decode_packet e ∙ spelled_read p fits) at given

@@ -1,8 +1,7 @@
 -- How more bytes change the result of a parser of packets, and which faults its fields have.
-use Rattle.std.specs.Prelude.{◌≡◌, ℕ, List, ◌++◌, Bool, true, false, Ok, Err}
+use Rattle.totem_packets.proofs.Common.{◌≡◌, ℕ, List, ◌++◌, Bool, true, false, Ok, Err, Parsed}
 use Rattle.totem_packets.specs.declared.fault.PacketFault.{PacketFault}
 use Rattle.totem_packets.specs.declared.fault.PacketFault.TheVariants.{Short, Kind, Range, Trailing, Memory}
-use Rattle.totem_packets.specs.Parsing.{Parsed}
 
 -- the fault of too few bytes
 abbrev pub is_short : PacketFault → Bool
@@ -25,6 +24,7 @@ IsOfField Range = Unit {0}
 IsOfField Trailing = ⊥
 IsOfField Memory = ⊥
 
-abbrev pub HasFieldFault : {Y : Type 0} → Parsed Y → Type 0
-HasFieldFault (Ok x) = Unit {0}
-HasFieldFault (Err fault) = IsOfField fault
+-- a fault is one of these
+abbrev pub HasFaultOf : {Y : Type 0} → (PacketFault → Type 0) → Parsed Y → Type 0
+HasFaultOf Allowed (Ok x) = Unit {0}
+HasFaultOf Allowed (Err fault) = Allowed fault

@@ -1,14 +1,8 @@
 -- The lives that a packet can give: where it doesn't carry them, each is the first.
-use Rattle.std.proofs.Common.{◌≡◌, ℕ, ◌<◌, List, [], ◌∷◌, Option, Some, None, Bool, true, false, ◌||◌, refl, arith}
-use Rattle.std.specs.Prelude.{All, IfSome, nat_lt}
-use Rattle.std.proofs.lemmas.Bool.{ltb-false, le-ltb}
-use Rattle.std.proofs.lemmas.List.Elements.{All-cons, All-head, All-tail}
+use Rattle.totem_packets.proofs.Common.{◌≡◌, ℕ, ◌<◌, List, [], ◌∷◌, Bool, true, false, ◌||◌, refl, arith, All, nat_lt, ltb-false, le-ltb, All-cons, All-head, All-tail, IsCommitMember, reported_life, has_later_life}
 use Rattle.totem_packets.specs.declared.commit_member.CommitMember.{CommitMember}
-use Rattle.totem_packets.specs.declared.commit_member.Report.{Report}
 use Rattle.totem_packets.specs.declared.lives.Lives.{Lives}
 use Rattle.totem_packets.specs.declared.lives.Lives.TheVariants.{Untold, Told}
-use Rattle.totem_packets.specs.CommitMembers.{IsCommitMember, IsReport}
-use Rattle.totem_packets.specs.Lives.{reported_life, has_later_life}
 
 -- a life that the reports can have
 abbrev pub GivesLife : Lives → ℕ → Type 0
@@ -35,11 +29,7 @@ none_later (m ∷ ms) given =
 
 -- a life of a member is at least 1
 life_positive : (m : CommitMember) → IsCommitMember m → 0 < reported_life m.report
-life_positive m is = go m.report is.report
-  where
-    go : (r : Option Report) → IfSome r IsReport → 0 < reported_life r
-    go None is = omega arith
-    go (Some r) is = is.life.positive
+life_positive m is = grind arith
 
 -- where none is above the first, reports need not carry lives
 pub first_each : (members : List CommitMember) → All IsCommitMember members → has_later_life members ≡ false → GivesLives Untold members

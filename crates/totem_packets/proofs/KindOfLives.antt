@@ -1,13 +1,9 @@
 -- The first byte of a packet, and whether a member reports from a later life.
-use Rattle.std.specs.Prelude.{nat_lt, ◌||◌}
-use Rattle.std.proofs.lemmas.Bool.{ltb-true, lt-ltb}
+use Rattle.std.proofs.Common.{arith}
+use Rattle.totem_packets.proofs.Common.{nat_lt, ◌||◌, ◌≡◌, ℕ, zero, suc, ◌<◌, ◌↔◌, List, [], ◌∷◌, slice_get, Some, Bool, true, false, refl, ltb-true, lt-ltb, has_later_life, reported_life, TellsLaterLife}
 use Rattle.std.proofs.lemmas.Map.Keys.{any_passes_from_place}
-use Rattle.std.proofs.Common.{◌≡◌, ℕ, zero, suc, ◌<◌, ◌↔◌, List, [], ◌∷◌, slice_get, Some, Bool, true, false, refl}
 use Rattle.totem_packets.specs.declared.commit_member.CommitMember.{CommitMember}
 use Rattle.totem_packets.specs.declared.packet.Packet as packet
-use Rattle.totem_packets.specs.declared.packet.Packet.TheVariants as packets
-use Rattle.totem_packets.specs.Lives.{has_later_life, reported_life}
-use Rattle.totem_packets.specs.Laws.{TellsLaterLife}
 use Rattle.totem_packets.specs.Spelling.{packet_bytes, number_bytes}
 
 -- a member at some index has a later life
@@ -31,11 +27,4 @@ later_of members at member is later = any_passes_from_place (λ m. nat_lt 1 (rep
 
 pub told_by_kind : (p : packet.Packet) (kind : ℕ) (rest : List ℕ) → packet_bytes p ≡ kind ∷ rest → (kind ≡ 5) ↔ TellsLaterLife p
 unfolding packet_bytes number_bytes
-told_by_kind (packets.Message m) kind rest is = (λ five. absurd cc, λ none. absurd none)
-told_by_kind (packets.Token t) kind rest is = (λ five. absurd cc, λ none. absurd none)
-told_by_kind (packets.Join j) kind rest is = (λ five. absurd cc, λ none. absurd none)
-told_by_kind (packets.Commit t) kind rest is = by (has_later_life t.members) refl
-  where
-    by : (has : Bool) → has_later_life t.members ≡ has → (kind ≡ 5) ↔ TellsLaterLife (packets.Commit t)
-    by true has = (λ five. later_at t.members has, λ later. (let k = rw has at is in cc))
-    by false has = (λ five. (let k = rw has at is in absurd cc), λ (at, member, stands, later). (let h = later_of t.members at member stands later in absurd cc))
+told_by_kind p kind rest h = grind (arith, later_at, later_of)

@@ -1,5 +1,5 @@
+pub mod Common
 pub mod Falling
-pub mod Steps
 pub mod Repeats
 pub mod Chains
 pub mod KindOfLives

@@ -1,34 +1,17 @@
 -- What is read as an ascending list keeps the rules of the list.
-use Rattle.std.specs.Prelude.{nat_lt, nat_le}
-use Rattle.std.specs.Int.{Width, w8, w16, w32}
-use Rattle.std.proofs.lemmas.Bool.{ltb-true, leb-true}
-use Rattle.std.proofs.Common.{◌≡◌, ℕ, zero, suc, ◌<◌, ◌≤◌, cond, List, [], ◌∷◌, length, Ok, Err, refl, ap, arith}
-use Rattle.std.specs.Prelude.{All}
-use Rattle.totem_names.specs.Texts.{IsProcess}
-use Rattle.totem_packets.specs.declared.fault.PacketFault.TheVariants.{Range}
-use Rattle.totem_packets.specs.Parsing.{Parsed, ◌>>=◌}
-use Rattle.totem_packets.specs.Fields.{number_at, above_at, up_to_at, rising_at}
-use Rattle.totem_packets.specs.Rising.{IsNumber, IsRequests, IsProcesses}
+use Rattle.totem_packets.proofs.Common.{All, ◌≡◌, ℕ, zero, suc, ◌<◌, ◌≤◌, List, [], ◌∷◌, length, Ok, refl, ap, arith, Width, w8, w16, w32, ltb-true, leb-true, IsProcess, ◌>>=◌, Parsed, IsNumber, IsRequests, IsProcesses, after, guard_then, parsed_is}
+use Rattle.totem_packets.specs.Fields.{above_at, up_to_at, rising_at}
 use Rattle.totem_packets.proofs.Chains.{Rises, pairs_rise}
-use Rattle.totem_packets.proofs.Steps.{after, guard_then, parsed_is}
 
 -- a number that was read is above the given one
 pub above_is : (w : Width) (least : ℕ) (bytes : List ℕ) (n : ℕ) (rest : List ℕ) → above_at w least bytes ≡ Ok (n, rest) → least < n
 unfolding above_at
-above_is w least bytes n rest e =
-    after (number_at w bytes) (λ n. cond (nat_lt least n.0) (Ok n) (Err Range)) (n, rest) e (λ m mid e1 e2.
-    let t = guard_then (nat_lt least m) (Ok (m, mid)) Range (n, rest) e2 in
-    let same = parsed_is m n mid rest t.1 in
-    rw (← same.0) (ltb-true _ _ t.0))
+above_is w least bytes n rest e = grind (arith, after, guard_then, parsed_is, ltb-true)
 
 -- a number that was read is at most the given one
 pub up_to_is : (w : Width) (most : ℕ) (bytes : List ℕ) (n : ℕ) (rest : List ℕ) → up_to_at w most bytes ≡ Ok (n, rest) → n ≤ most
 unfolding up_to_at
-up_to_is w most bytes n rest e =
-    after (number_at w bytes) (λ n. cond (nat_le n.0 most) (Ok n) (Err Range)) (n, rest) e (λ m mid e1 e2.
-    let t = guard_then (nat_le m most) (Ok (m, mid)) Range (n, rest) e2 in
-    let same = parsed_is m n mid rest t.1 in
-    rw (← same.0) (leb-true _ _ t.0))
+up_to_is w most bytes n rest e = grind (arith, after, guard_then, parsed_is, leb-true)
 
 -- what reading one element guarantees
 pub record IsAbove {Y : Type 0} (one_above : ℕ → List ℕ → Parsed Y) (number_of : Y → ℕ) : Type 0 where

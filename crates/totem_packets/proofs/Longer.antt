@@ -1,15 +1,8 @@
 -- How long a list is that is joined or filtered.
-use Rattle.std.proofs.Common.{◌≡◌, ℕ, zero, suc, ◌+◌, ◌<◌, ◌≤◌, ◌⊎◌, Bool, true, false, List, [], ◌∷◌, ◌++◌, length, take, drop, get_or, filter, refl, sym, ap, ◌∙◌, subst, arith, nat_lt, Result, Ok, Err, Some, ⊎_elim}
-use Rattle.std.specs.Prelude.{IsErr}
-use Rattle.std.proofs.lemmas.List.{length-append, drop_more}
-use Rattle.std.proofs.lemmas.Bool.{cases_order, cases_Bool, lt-ltb, le-ltb, false≢true}
-use Rattle.totem_names.specs.Names.{RingName}
+use Rattle.totem_packets.proofs.Common.{◌≡◌, ℕ, zero, suc, ◌+◌, ◌<◌, ◌≤◌, ◌⊎◌, Bool, true, false, List, [], ◌∷◌, ◌++◌, length, take, drop, get_or, filter, refl, sym, ap, ◌∙◌, arith, nat_lt, Result, Some, ⊎_elim, IsErr, length-append, drop_more, cases_order, cases_Bool, lt-ltb, le-ltb, RingName, reports_ring, reports_from, obligation_union, IsProcesses, has, with_process, union, Makes}
 use Rattle.totem_packets.specs.declared.commit_member.Report.{Report}
 use Rattle.totem_packets.specs.declared.commit_member.CommitMember.{CommitMember}
-use Rattle.totem_packets.specs.OldRings.{reports_ring, reports_from, obligation_union}
-use Rattle.totem_packets.specs.Rising.{IsProcesses}
 use Rattle.totem_packets.specs.declared.too_many.TooMany.{TooMany}
-use Rattle.totem_packets.specs.Sets.{has, with_process, union, Makes}
 use Rattle.totem_packets.proofs.SetFacts.{Up, up_of, up_with, with_same, with_before, with_behind, length_with_had, length_with_new}
 use Rattle.totem_packets.proofs.OldRingFacts.{obliged}
 
@@ -27,19 +20,13 @@ pub rises_set : (ps : List ℕ) → IsProcesses ps → Rises ps
 rises_set ps is = rises_of ps (up_of ps is)
 
 pub rises_with : (p : ℕ) (ps : List ℕ) → Rises ps → Rises (with_process ps p)
-rises_with p [] up = tt
-rises_with p (q ∷ qs) up = ⊎_elim (λ e. subst Rises (sym (with_same p q qs e up)) up)
-    (λ other. ⊎_elim (λ less. subst Rises (sym (with_before p q qs less up)) (less, up))
-    (λ more. subst Rises (sym (with_behind p q qs more)) (up_with p q qs more up)) other) (cases_order p q)
+rises_with p ps h = grind (arith, with_same, with_before, with_behind, up_with, cases_order)
 
 longer_above : (p last : ℕ) (ps : List ℕ) → Up last ps → length ps ≤ length (with_process ps p)
 longer_above p last ps up = ⊎_elim (λ had. omega (arith, length_with_had p last ps up had)) (λ new. omega (arith, length_with_new p last ps up new)) (cases_Bool (has ps p))
 
 pub longer_with : (p : ℕ) (ps : List ℕ) → Rises ps → length ps ≤ length (with_process ps p)
-longer_with p [] up = omega arith
-longer_with p (q ∷ qs) up = ⊎_elim (λ e. omega (arith, ap length (with_same p q qs e up)))
-    (λ other. ⊎_elim (λ less. omega (arith, ap length (with_before p q qs less up)))
-    (λ more. omega (arith, ap length (with_behind p q qs more), longer_above p q qs up)) other) (cases_order p q)
+longer_with p ps h = grind (arith, with_same, with_before, with_behind, longer_above, cases_order)
 
 pub rises_union : (ps qs : List ℕ) → Rises ps → Rises (union ps qs)
 rises_union ps [] up = up
@@ -89,9 +76,7 @@ fits_above ps start front out p few e made more =
 -- the calls that add processes one by one
 pub fails : (ps qs all : List ℕ) (i q : ℕ) (answer : Result (List ℕ) TooMany) → union ps qs ≡ union all (drop i qs) → i < length qs → q ≡ get_or qs i q → Rises all
     → 32 < length (with_process all q) → IsErr answer → Makes answer (union ps qs)
-fails ps qs all i q (Ok x) same lt at rises many err = absurd (false≢true err)
-fails ps qs all i q (Err x) same lt at rises many err =
-    omega (arith, many, ap length same, ap (λ xs. length (union all xs)) (drop_more qs i q lt), ap (λ x. length (union all (x ∷ drop (i + 1) qs))) at, longer_union (with_process all q) (drop (i + 1) qs) (rises_with q all rises))
+fails ps qs all i q answer h k m o p r = grind (arith, drop_more, longer_union, rises_with)
 
 -- the report of one member more of this old ring, and of another ring
 pub one_more_obliges : (old : RingName) (members items : List CommitMember) (all : List ℕ) (i : ℕ) (m : CommitMember) (r : Report) → obligation_union old members ≡ obliged all (reports_from old (drop i items)) → i < length items → m ≡ get_or items i m
@@ -106,6 +91,4 @@ one_more_passes old members items all i m same lt at other =
 
 pub fails_obliged : (old : RingName) (members : List CommitMember) (rest : List Report) (all obligation : List ℕ) (answer : Result (List ℕ) TooMany) → obligation_union old members ≡ obliged (union all obligation) rest
     → Rises all → 32 < length (union all obligation) → IsErr answer → Makes answer (obligation_union old members)
-fails_obliged old members rest all obligation (Ok x) whole rises many err = absurd (false≢true err)
-fails_obliged old members rest all obligation (Err x) whole rises many err =
-    omega (arith, many, ap length whole, longer_obliged (union all obligation) rest (rises_union all obligation rises))
+fails_obliged old members rest all obligation answer h k m o = grind (arith, longer_obliged, rises_union)

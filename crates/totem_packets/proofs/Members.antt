@@ -1,14 +1,9 @@
 -- What is read as the members of a commit token keeps their rules.
-use Rattle.std.specs.Prelude.{All}
-use Rattle.std.specs.Int.{w8, w16}
-use Rattle.std.proofs.Common.{◌≡◌, ℕ, ◌<◌, List, Ok, arith}
+use Rattle.totem_packets.proofs.Common.{All, ◌≡◌, ℕ, ◌<◌, List, Ok, arith, w8, w16, IsCommitMember, IsCommitMembers, ◌>>=◌, after, parsed_is}
 use Rattle.totem_packets.specs.declared.commit_member.CommitMember.{CommitMember}
 use Rattle.totem_packets.specs.declared.lives.Lives.{Lives}
-use Rattle.totem_packets.specs.CommitMembers.{IsCommitMember, IsCommitMembers}
-use Rattle.totem_packets.specs.Parsing.{◌>>=◌}
 use Rattle.totem_packets.specs.Fields.{above_at, up_to_at, rising_at}
 use Rattle.totem_packets.specs.Grammar.{maybe_report_at, member_at}
-use Rattle.totem_packets.proofs.Steps.{after, parsed_is}
 use Rattle.totem_packets.proofs.Chains.{pairs_rise}
 use Rattle.totem_packets.proofs.Lists.{IsAbove, row_is, above_is, up_to_is}
 

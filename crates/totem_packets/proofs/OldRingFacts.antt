@@ -1,16 +1,7 @@
 -- Members of a commit token that come from one old ring.
-use Rattle.std.proofs.Common.{ℕ, ◌<◌, Bool, List, [], ◌∷◌, filter, Option, Some, None, arith}
-use Rattle.std.specs.Prelude.{fold, min}
-use Rattle.std.proofs.lemmas.List.{length-map}
-use Rattle.std.proofs.lemmas.List.Elements.{All-filter, All-map}
-use Rattle.std.proofs.lemmas.List.Kept.{AllPairs-filter}
-use Rattle.totem_names.specs.Texts.{IsProcess}
+use Rattle.totem_packets.proofs.Common.{ℕ, ◌<◌, Bool, List, [], ◌∷◌, filter, Option, Some, None, arith, fold, min, length-map, All-filter, All-map, AllPairs-filter, IsProcess, IsBelowMember, IsCommitMembers, IsProcesses, union, processes_of, least_aru_of}
 use Rattle.totem_packets.specs.declared.commit_member.Report.{Report}
 use Rattle.totem_packets.specs.declared.commit_member.CommitMember.{CommitMember}
-use Rattle.totem_packets.specs.CommitMembers.{IsBelowMember, IsCommitMembers}
-use Rattle.totem_packets.specs.Rising.{IsProcesses}
-use Rattle.totem_packets.specs.Sets.{union}
-use Rattle.totem_packets.specs.OldRings.{processes_of, least_aru_of}
 use Rattle.totem_packets.proofs.Chains.{Rises, pairs_rise, rise_from_pairs}
 use Rattle.totem_packets.proofs.SetFacts.{Up, fewer_pass}
 

@@ -1,15 +1,9 @@
 -- The identifiers of members as processes of a run.
-use Rattle.std.proofs.Common.{◌≡◌, ◌∷◌, [], ◌<◌, List, Option, Some, None, map, refl, arith}
-use Rattle.std.specs.Prelude.{All, IfSome}
-use Rattle.std.proofs.lemmas.List.Elements.{All-filter, All-head, All-tail}
-use Rattle.totem_names.specs.Names.{RingName}
+use Rattle.totem_packets.proofs.Common.{◌≡◌, ◌∷◌, [], ◌<◌, List, Option, Some, None, map, refl, arith, All, IfSome, All-filter, All-head, All-tail, RingName, IsCommitMember, IsCommitMembers, IsReport, reported_life, member_rank, member_ranks, transitional_ranks, processes_of, reports_ring, those_from, transitional_set}
 use Rattle.totem_names.specs.Ranks.{id_of}
 use Rattle.totem_names.proofs.RankParts.{id_of_rank}
 use Rattle.totem_packets.specs.declared.commit_member.Report.{Report}
 use Rattle.totem_packets.specs.declared.commit_member.CommitMember.{CommitMember}
-use Rattle.totem_packets.specs.CommitMembers.{IsCommitMember, IsCommitMembers, IsReport}
-use Rattle.totem_packets.specs.Lives.{reported_life, member_rank, member_ranks, transitional_ranks}
-use Rattle.totem_packets.specs.OldRings.{processes_of, reports_ring, those_from, transitional_set}
 
 pub life_small : (report : Option Report) → IfSome report IsReport → reported_life report < 65536
 life_small None is = omega arith

@@ -1,8 +1,6 @@
 -- Reading one element after the other, as a loop does.
-use Rattle.std.proofs.Common.{◌≡◌, ℕ, suc, ◌-◌, ◌+◌, ◌≤◌, ◌<◌, List, [], ◌∷◌, ◌++◌, Ok, Err, refl, sym, ap, ◌∙◌, append_assoc, arith}
-use Rattle.std.proofs.lemmas.List.{append-nil}
+use Rattle.totem_packets.proofs.Common.{◌≡◌, ℕ, suc, ◌-◌, ◌+◌, ◌≤◌, ◌<◌, List, [], ◌∷◌, ◌++◌, Ok, Err, refl, sym, ap, ◌∙◌, append_assoc, arith, append-nil, ◌>>=◌, Parsed, Fails}
 use Rattle.totem_packets.specs.declared.fault.PacketFault.{PacketFault}
-use Rattle.totem_packets.specs.Parsing.{Parsed, ◌>>=◌, Fails}
 use Rattle.totem_packets.specs.Fields.{rising_at}
 
 -- what was read before, and what is still to be read
@@ -17,15 +15,6 @@ regroup front y (Err f) = refl
 pub record IsReadTo {Y : Type 0} (one_above : ℕ → List ℕ → Parsed Y) (number_of : Y → ℕ) (front : List Y) (count i last : ℕ) (bytes : List ℕ) (total : Parsed (List Y)) : Type 0 where
   pub so_far : with_front front (rising_at one_above number_of (count - i) last bytes) ≡ total
 
-pub begins : {Y : Type 0} (one_above : ℕ → List ℕ → Parsed Y) (number_of : Y → ℕ) (count : ℕ) (bytes : List ℕ) → IsReadTo one_above number_of [] count 0 0 bytes (rising_at one_above number_of count 0 bytes)
-begins one_above number_of count bytes =
-    let all : count - 0 ≡ count = omega arith in
-    record { so_far = rw all (same (rising_at one_above number_of count 0 bytes)) }
-  where
-    same : {Y : Type 0} (read : Parsed (List Y)) → with_front [] read ≡ read
-    same (Ok x) = refl
-    same (Err f) = refl
-
 pub goes_on : {Y : Type 0} (one_above : ℕ → List ℕ → Parsed Y) (number_of : Y → ℕ) (front : List Y) (count i last : ℕ) (bytes : List ℕ) (y : Y) (after : List ℕ) (total : Parsed (List Y)) → i < count → one_above last bytes ≡ Ok (y, after)
     → IsReadTo one_above number_of front count i last bytes total → IsReadTo one_above number_of (front ++ y ∷ []) count (i + 1) (number_of y) after total
 unfolding rising_at
@@ -37,12 +26,7 @@ goes_on one_above number_of front count i last bytes y after total lt h to =
 pub ends : {Y : Type 0} (one_above : ℕ → List ℕ → Parsed Y) (number_of : Y → ℕ) (fault : PacketFault) (front : List Y) (count i last : ℕ) (bytes : List ℕ) (total : Parsed (List Y)) → i < count → Fails fault (one_above last bytes)
     → IsReadTo one_above number_of front count i last bytes total → Fails fault total
 unfolding rising_at
-ends one_above number_of fault front count i last bytes total lt h to = record {
-  is = λ other.
-      let k : count - i ≡ suc (count - (i + 1)) = omega arith in
-      let one : with_front front (rising_at one_above number_of (count - i) last bytes) ≡ Err fault = rw (k, h.is other) refl in
-      sym to.so_far ∙ one;
-}
+ends one_above number_of fault front count i last bytes total lt h to = grind arith
 
 pub is_done : {Y : Type 0} (one_above : ℕ → List ℕ → Parsed Y) (number_of : Y → ℕ) (front : List Y) (count i last : ℕ) (bytes : List ℕ) (total : Parsed (List Y)) → count ≤ i → IsReadTo one_above number_of front count i last bytes total → total ≡ Ok (front, bytes)
 unfolding rising_at

@@ -1,7 +1,6 @@
 -- One more process in an array of fixed size.
-use Rattle.std.proofs.Common.{◌≡◌, ℕ, ◌+◌, ◌-◌, ◌<◌, List, ◌++◌, length, take, drop, replicate, slice_set, sym, ◌∙◌, ap, arith}
+use Rattle.totem_packets.proofs.Common.{◌≡◌, ℕ, ◌+◌, ◌-◌, ◌<◌, List, ◌++◌, length, take, drop, replicate, slice_set, sym, ◌∙◌, ap, arith, length-take-le, length-append, length-replicate, length-set, take-append-drop, drop-set-lt, drop-replicate}
 use Rattle.std.proofs.Math.Seq.{drop-append-add}
-use Rattle.std.proofs.lemmas.List.{length-take-le, length-append, length-replicate, length-set, take-append-drop, drop-set-lt, drop-replicate}
 use Rattle.totem_packets.specs.ShortLists.{IsShort}
 
 whole : (xs : List ℕ) (n : ℕ) → IsShort xs n → length xs ≡ 32

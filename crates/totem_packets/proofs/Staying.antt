@@ -1,33 +1,36 @@
 -- A parser's result does not change with what follows, unless there were too few bytes; and a field's fault is Short or Range.
-use Rattle.std.specs.Prelude.{nat_lt, ◌==◌}
-use Rattle.std.specs.Int.{Width, w8, w16, w32, w64, byte_len}
-use Rattle.std.proofs.Common.{◌≡◌, ℕ, zero, suc, ◌≤◌, List, [], ◌++◌, length, take, drop, Bool, true, false, cond, Ok, Err, refl, arith}
-use Rattle.std.proofs.lemmas.Bool.{ltb-false, le-ltb}
-use Rattle.std.proofs.lemmas.List.{take-append-le, drop-append-le, length-append}
+use Rattle.totem_packets.proofs.Common.{◌==◌, ℕ, zero, suc, List, [], ◌++◌, Bool, true, false, cond, Ok, Err, refl, arith, Width, w8, w16, w32, w64, byte_len, ltb-false, le-ltb, take-append-le, drop-append-le, length-append, ◌>>=◌, Parsed}
 use Rattle.totem_names.specs.declared.message.Service.{Service}
 use Rattle.totem_names.specs.declared.message.Service.TheVariants.{Agreed, Safe}
 use Rattle.totem_packets.specs.declared.commit.Round.TheVariants.{First, Second}
-use Rattle.totem_packets.specs.declared.fault.PacketFault.TheVariants.{Short, Range}
+use Rattle.totem_packets.specs.declared.fault.PacketFault.{PacketFault}
+use Rattle.totem_packets.specs.declared.fault.PacketFault.TheVariants.{Range}
 use Rattle.totem_packets.specs.declared.lives.Lives.{Lives}
 use Rattle.totem_packets.specs.declared.lives.Lives.TheVariants.{Untold, Told}
-use Rattle.totem_packets.specs.Parsing.{Parsed, ◌>>=◌}
 use Rattle.totem_packets.specs.Fields.{bytes_at, number_at, above_at, up_to_at, rising_at, ring_at, payload_at, maybe_at, list_at}
 use Rattle.totem_packets.specs.Grammar.{app_at, old_at, body_of, body_at, message_at, token_at, join_at, round_at, life_at, report_at, filled_at, maybe_report_at, member_at, members_at, commit_at, later_commit_at, message_packet_at, token_packet_at, join_packet_at, commit_packet_at, later_commit_packet_at}
-use Rattle.totem_packets.proofs.Following.{Follows, HasFieldFault}
+use Rattle.totem_packets.proofs.Following.{Follows, HasFaultOf, IsOfField}
+
+-- a parser whose result stays, and whose faults are these
+pub record IsParser {Y : Type 0} (Allowed : PacketFault → Type 0) (parse : List ℕ → Parsed Y) : Type 0 where
+  pub stays : (bytes more : List ℕ) → Follows more (parse bytes) (parse (bytes ++ more))
+  pub fault : (bytes : List ℕ) → HasFaultOf Allowed (parse bytes)
 
 -- a parser of at least one field
-pub record IsField {Y : Type 0} (parse : List ℕ → Parsed Y) : Type 0 where
-  pub stays : (bytes more : List ℕ) → Follows more (parse bytes) (parse (bytes ++ more))
-  pub fault : (bytes : List ℕ) → HasFieldFault (parse bytes)
+abbrev pub IsField : {Y : Type 0} → (List ℕ → Parsed Y) → Type 0
+IsField parse = IsParser IsOfField parse
 
-pub gives_field : {Y : Type 0} (y : Y) → IsField {Y = Y} (λ bytes. Ok (y, bytes))
+pub gives_field : {Y : Type 0} {Allowed : PacketFault → Type 0} (y : Y) → IsParser {Y = Y} Allowed (λ bytes. Ok (y, bytes))
 gives_field y = record { stays = λ bytes more. refl; fault = λ bytes. tt }
 
-pub range_field : {Y : Type 0} → IsField {Y = Y} (λ bytes. Err Range)
-range_field = record { stays = λ bytes more h. refl; fault = λ bytes. tt }
+pub fault_field : {Y : Type 0} {Allowed : PacketFault → Type 0} (fault : PacketFault) → Allowed fault → IsParser {Y = Y} Allowed (λ bytes. Err fault)
+fault_field fault allowed = record { stays = λ bytes more long. refl; fault = λ bytes. allowed }
 
-pub bind_field : {A Y : Type 0} (sub : List ℕ → Parsed A) (k : A × List ℕ → Parsed Y) → IsField sub → ((a : A) → IsField (λ bytes. k (a, bytes))) → IsField (λ bytes. sub bytes >>= k)
-bind_field {A = A} {Y = Y} sub k first next = record {
+pub range_field : {Y : Type 0} → IsField {Y = Y} (λ bytes. Err Range)
+range_field = fault_field Range tt
+
+pub bind_field : {A Y : Type 0} {Allowed : PacketFault → Type 0} (sub : List ℕ → Parsed A) (k : A × List ℕ → Parsed Y) → IsParser Allowed sub → ((a : A) → IsParser Allowed (λ bytes. k (a, bytes))) → IsParser Allowed (λ bytes. sub bytes >>= k)
+bind_field {A = A} {Y = Y} {Allowed = Allowed} sub k first next = record {
   stays = λ bytes more. go more (sub bytes) (sub (bytes ++ more)) (first.stays bytes more);
   fault = λ bytes. own (sub bytes) (first.fault bytes);
 }
@@ -36,29 +39,17 @@ bind_field {A = A} {Y = Y} sub k first next = record {
     go more (Ok x) later h = rw h ((next x.0).stays x.1 more)
     go more (Err f) later h = λ long. rw (h long) refl
 
-    own : (now : Parsed A) → HasFieldFault now → HasFieldFault {Y = Y} (now >>= k)
+    own : (now : Parsed A) → HasFaultOf Allowed now → HasFaultOf {Y = Y} Allowed (now >>= k)
     own (Ok x) h = (next x.0).fault x.1
     own (Err f) h = h
 
-pub cond_field : {Y : Type 0} (t : Bool) (p q : List ℕ → Parsed Y) → IsField p → IsField q → IsField (λ bytes. cond t (p bytes) (q bytes))
+pub cond_field : {Y : Type 0} {Allowed : PacketFault → Type 0} (t : Bool) (p q : List ℕ → Parsed Y) → IsParser Allowed p → IsParser Allowed q → IsParser Allowed (λ bytes. cond t (p bytes) (q bytes))
 cond_field true p q hp hq = record { stays = λ bytes more. hp.stays bytes more; fault = λ bytes. hp.fault bytes }
 cond_field false p q hp hq = record { stays = λ bytes more. hq.stays bytes more; fault = λ bytes. hq.fault bytes }
 
 bytes_field : (n : ℕ) → IsField (bytes_at n)
 unfolding bytes_at
-bytes_field n = record { stays = λ bytes more. go bytes more (nat_lt (length bytes) n) refl; fault = λ bytes. own bytes (nat_lt (length bytes) n) }
-  where
-    go : (bytes more : List ℕ) (t : Bool) → nat_lt (length bytes) n ≡ t
-        → Follows {Y = List ℕ} more (cond t (Err Short) (Ok (take n bytes, drop n bytes))) (cond (nat_lt (length (bytes ++ more)) n) (Err Short) (Ok (take n (bytes ++ more), drop n (bytes ++ more))))
-    go bytes more true e = λ long. absurd cc
-    go bytes more false e =
-        let long : n ≤ length bytes = ltb-false _ _ e in
-        let longer : nat_lt (length (bytes ++ more)) n ≡ false = le-ltb _ _ (omega (arith, length-append bytes more)) in
-        rw (longer, take-append-le n bytes more long, drop-append-le n bytes more long) refl
-
-    own : (bytes : List ℕ) (t : Bool) → HasFieldFault {Y = List ℕ} (cond t (Err Short) (Ok (take n bytes, drop n bytes)))
-    own bytes true = tt
-    own bytes false = tt
+bytes_field n = grind (arith, ltb-false, le-ltb, length-append, take-append-le, drop-append-le)
 
 pub number_field : (w : Width) → IsField (number_at w)
 unfolding number_at

@@ -3,7 +3,8 @@ use Rattle.std.specs.Prelude.{ℕ, zero, suc, List, [], ◌∷◌, length, take,
 use Rattle.std.specs.Int.{Width, w8, w16, w32, byte_len, from_be_bytes}
 use Rattle.totem_names.specs.Names.{RingName}
 use Rattle.totem_packets.specs.declared.fault.PacketFault.TheVariants.{Short, Range}
-use Rattle.totem_packets.specs.Parsing.{Parsed, ◌>>=◌}
+use Rattle.totem_names.specs.Sources.{◌>>=◌}
+use Rattle.totem_packets.specs.Parsing.{Parsed}
 
 -- the given number of bytes
 unfoldable pub bytes_at : ℕ → List ℕ → Parsed (List ℕ)

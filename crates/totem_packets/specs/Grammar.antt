@@ -19,7 +19,8 @@ use Rattle.totem_packets.specs.declared.message.Message as message
 use Rattle.totem_packets.specs.declared.packet.Packet as packet
 use Rattle.totem_packets.specs.declared.packet.Packet.TheVariants as packets
 use Rattle.totem_packets.specs.declared.token.Token as token
-use Rattle.totem_packets.specs.Parsing.{Parsed, ◌>>=◌}
+use Rattle.totem_names.specs.Sources.{◌>>=◌}
+use Rattle.totem_packets.specs.Parsing.{Parsed}
 use Rattle.totem_packets.specs.Fields.{number_at, above_at, up_to_at, rising_at, ring_at, payload_at, maybe_at, list_at}
 use Rattle.totem_packets.specs.Lives.{has_later_life}
 

@@ -7,12 +7,6 @@ use Rattle.totem_packets.specs.declared.fault.PacketFault.TheVariants.{Memory}
 abbrev pub Parsed : Type 0 → Type 0
 Parsed Y = Result (Y × List ℕ) PacketFault
 
--- one parser after the other
-infixl 10 ◌>>=◌
-abbrev pub ◌>>=◌ : {A B : Type 0} → Result A PacketFault → (A → Result B PacketFault) → Result B PacketFault
-(Ok x) >>= f = f x
-(Err e) >>= f = Err e
-
 -- the parser gives this fault, unless memory was refused
 pub record Fails {Y : Type 0} (fault : PacketFault) (parsed : Result Y PacketFault) : Type 0 where
   pub is : fault ≢ Memory → parsed ≡ Err fault

@@ -1,25 +1,10 @@
 -- Entering changes, and what it shows.
-use Rattle.std.proofs.Common.{◌≡◌, ℕ, ◌+◌, inl, inr, List, [], ◌∷◌, Option, Some, refl, ap, subst, arith}
-use Rattle.std.specs.declared.cmp.Ordering.{Ordering}
-use Rattle.std.specs.Cmp.{IsTotalOrder}
-use Rattle.std.specs.BTreeMap.{BTreeMap}
+use Rattle.totem_pass_ab.proofs.Common.{◌≡◌, ℕ, ◌+◌, inl, inr, List, [], ◌∷◌, Option, Some, refl, ap, subst, arith, Ordering, IsTotalOrder, BTreeMap, slice_get_within, ConfId, Place, Entry, Conf, Log, log_of, IsChange, IsMet, Keeps, KnowsRun, KnowsChange, place, HoldsOfNone, IsOneEvent, change_by}
 use Rattle.std.specs.BTreeMap as tree
-use Rattle.std.proofs.lemmas.Option.{slice_get_within}
-use Rattle.totem_names.specs.declared.conf.ConfId.{ConfId}
-use Rattle.totem_names.specs.declared.place.Place.{Place}
-use Rattle.totem_evs.specs.declared.entry.Entry.{Entry}
-use Rattle.totem_evs.specs.declared.entry.Entry.TheVariants.{Conf}
-use Rattle.totem_evs.specs.declared.log.Log.{Log}
-use Rattle.totem_evs.specs.Events.{log_of, IsChange}
 use Rattle.totem_table.specs.declared.keys.Change.{Change}
-use Rattle.totem_pass_ab.specs.Met.{IsMet}
-use Rattle.totem_table.specs.Registers.{Keeps, KnowsRun}
-use Rattle.totem_pass_ab.specs.Noted.{KnowsChange}
-use Rattle.totem_search.specs.Search.{place, HoldsOfNone, IsOneEvent}
 use Rattle.totem_search.specs.Pairs.{Has}
 use Rattle.totem_search.specs.Bad.{AreTwoForms}
 use Rattle.totem_pass_ab.proofs.Knowing.{meets_keeps}
-use Rattle.totem_table.proofs.Exact.{change_by}
 
 module _ (by_change : Change → Change → Ordering) (by_conf : ConfId → ConfId → Ordering) where
   -- about an entry that is no change there is nothing to know

@@ -1,12 +1,7 @@
 -- What is known about the values that were recorded under a key stays known.
-use Rattle.std.proofs.Common.{◌≡◌, inl, inr, Option, Some, None, true, refl, sym, ◌∙◌}
-use Rattle.std.specs.declared.cmp.Ordering.{Ordering}
-use Rattle.std.specs.Cmp.{IsTotalOrder}
+use Rattle.totem_pass_ab.proofs.Common.{◌≡◌, inl, inr, Option, Some, None, true, refl, sym, ◌∙◌, Ordering, IsTotalOrder, BTreeMap, is_at, IsUnchanged, equal_at, apart_or_at, IsMet, Knows}
 use Rattle.std.specs.HashMap.Eq.{lookup_congr}
-use Rattle.std.specs.BTreeMap.{BTreeMap, is_at, IsUnchanged}
 use Rattle.std.specs.BTreeMap as tree
-use Rattle.totem_names.proofs.Exact.{equal_at, apart_or_at}
-use Rattle.totem_pass_ab.specs.Met.{IsMet, Knows}
 
 -- equal keys have one value
 pub same_get : {K X : Type 0} (cmp : K → K → Ordering) → IsTotalOrder cmp → (m : BTreeMap K X) (k q : K) → is_at (cmp k) q ≡ true → tree.get cmp m q ≡ tree.get cmp m k

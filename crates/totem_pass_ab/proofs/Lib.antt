@@ -1,3 +1,4 @@
+pub mod Common
 pub mod Placed
 pub mod Quick
 pub mod Origins

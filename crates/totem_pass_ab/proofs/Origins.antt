@@ -1,29 +1,10 @@
 -- The rings from which logs come to configurations, as they are noted.
-use Rattle.std.proofs.Common.{◌≡◌, ◌≢◌, ℕ, ◌<◌, ◌≤◌, inl, inr, List, [], ◌∷◌, Some, None, Bool, true, false, nat_lt, sym, subst, ◌∙◌, arith}
-use Rattle.std.specs.Prelude.{IfSome}
-use Rattle.std.specs.Bool.{OnFalse}
+use Rattle.totem_pass_ab.proofs.Common.{◌≡◌, ◌≢◌, ℕ, ◌<◌, ◌≤◌, inl, inr, List, [], ◌∷◌, Some, None, Bool, true, false, nat_lt, sym, subst, ◌∙◌, arith, IfSome, OnFalse, slice_get_within, Ordering, IsTotalOrder, BTreeMap, RingId, ConfId, Regular, Place, apart_or_at, Entry, Conf, Log, log_of, IsChange, ChangesNext, HoldsOfNone, Keeps, KnowsRun, IsWithin, Widens, KnowsOrigin}
 use Rattle.std.proofs.lemmas.Bool.{ltb-false}
-use Rattle.std.proofs.lemmas.Option.{slice_get_within}
-use Rattle.std.specs.declared.cmp.Ordering.{Ordering}
-use Rattle.std.specs.Cmp.{IsTotalOrder}
-use Rattle.std.specs.BTreeMap.{BTreeMap}
 use Rattle.std.specs.BTreeMap as tree
-use Rattle.totem_names.specs.declared.ring.RingId.{RingId}
-use Rattle.totem_names.specs.declared.conf.ConfId.{ConfId}
-use Rattle.totem_names.specs.declared.conf.ConfId.TheVariants.{Regular}
-use Rattle.totem_names.specs.declared.place.Place.{Place}
-use Rattle.totem_names.proofs.Exact.{apart_or_at}
-use Rattle.totem_evs.specs.declared.entry.Entry.{Entry}
-use Rattle.totem_evs.specs.declared.entry.Entry.TheVariants.{Conf}
-use Rattle.totem_evs.specs.declared.log.Log.{Log}
-use Rattle.totem_evs.specs.Events.{log_of, IsChange}
-use Rattle.totem_evs.specs.Changes.{ChangesNext}
-use Rattle.totem_search.specs.Search.{HoldsOfNone}
 use Rattle.totem_search.specs.Turns.{IsOtherOrigin}
 use Rattle.totem_search.proofs.Turning.{one_succession}
-use Rattle.totem_table.specs.Registers.{Keeps, KnowsRun}
 use Rattle.totem_pass_ab.specs.declared.succession_2_4.Latest.{Latest}
-use Rattle.totem_pass_ab.specs.Noted.{IsWithin, Widens, KnowsOrigin}
 use Rattle.totem_pass_ab.proofs.Knowing.{same_get}
 use Rattle.totem_pass_ab.proofs.Quick.{none_known}
 

@@ -1,16 +1,8 @@
 -- The first entry out of place.
-use Rattle.std.proofs.Common.{◌≡◌, ℕ, ◌<◌, inl, inr, List, [], ◌∷◌, length, slice_get, Some, refl, arith}
-use Rattle.totem_names.specs.declared.place.Place.{Place}
-use Rattle.totem_evs.specs.declared.entry.Entry.{Entry}
-use Rattle.totem_evs.specs.declared.log.Log.{Log}
+use Rattle.totem_pass_ab.proofs.Common.{◌≡◌, ℕ, ◌<◌, inl, inr, List, [], ◌∷◌, length, slice_get, Some, refl, arith, Place, Entry, Log, log_of, StaysInPlace, Rising, log_of_at, EachBefore, place, Begins, EachBegins, IsLeastInLog}
 use Rattle.totem_evs.specs.declared.spec.SpecNo.TheVariants as spec
-use Rattle.totem_evs.specs.Events.{log_of}
-use Rattle.totem_evs.specs.Changes.{StaysInPlace}
 use Rattle.totem_evs.specs.ChangeFaults.{IsMisplaced, BreaksPlace}
 use Rattle.totem_evs.specs.Answers.{IsLeastBreak}
-use Rattle.totem_evs.proofs.LogOf.{Rising, log_of_at}
-use Rattle.totem_judge_run.proofs.Placed.{EachBefore}
-use Rattle.totem_search.specs.Search.{place, Begins, EachBegins, IsLeastInLog}
 use Rattle.totem_search.proofs.Searching.{NoneBeforeLog, least_here, begins_at}
 
 -- a log that stays in place has no entry out of place

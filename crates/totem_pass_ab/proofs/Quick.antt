@@ -1,9 +1,5 @@
 -- When a quick test makes a search unnecessary.
-use Rattle.std.proofs.Common.{List, Bool, true, false, not, IsTrue, ◌↔◌, refl}
-use Rattle.std.specs.Bool.{OnFalse}
-use Rattle.std.proofs.lemmas.Grind.{not_there}
-use Rattle.totem_names.specs.declared.place.Place.{Place}
-use Rattle.totem_search.specs.Search.{HoldsOfNone}
+use Rattle.totem_pass_ab.proofs.Common.{List, Bool, true, false, not, IsTrue, ◌↔◌, refl, OnFalse, not_there, Place, HoldsOfNone}
 
 -- what follows from a fact, if only the existence of its proof is known
 pub none_known : {K : Type 0} (H : List Place → Type 0) → ∥ K ∥₁ → (K → HoldsOfNone H) → HoldsOfNone H

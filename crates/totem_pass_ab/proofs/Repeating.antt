@@ -1,31 +1,12 @@
 -- Entering sends and deliveries, and what it shows.
-use Rattle.std.proofs.Common.{◌≡◌, ◌≢◌, ◌⊎◌, ℕ, ◌+◌, ◌-◌, ◌<◌, ◌≤◌, inl, inr, List, [], ◌∷◌, ◌++◌, length, slice_get, slice_range, Option, Some, Bool, IsTrue, true, refl, sym, ap, subst, arith, rules, below_more}
-use Rattle.std.specs.Prelude.{◌==◌, Contains}
-use Rattle.std.specs.declared.cmp.Ordering.{Ordering}
-use Rattle.std.specs.Cmp.{IsTotalOrder}
-use Rattle.std.specs.BTreeMap.{BTreeMap}
+use Rattle.totem_pass_ab.proofs.Common.{◌≡◌, ◌≢◌, ◌⊎◌, ℕ, ◌+◌, ◌-◌, ◌<◌, ◌≤◌, inl, inr, List, [], ◌∷◌, ◌++◌, length, slice_get, slice_range, Option, Some, Bool, IsTrue, true, refl, sym, ap, subst, arith, rules, below_more, ◌==◌, Contains, Ordering, IsTotalOrder, BTreeMap, Contains-append_left, Contains-append_right, slice_get_within, get_or_from_slice_get, MsgId, ConfId, Place, Entry, Send, Deliver, Log, log_of, IsMet, Knows, DeliveriesAreOnce, SendsAreOnce, Keeps, KnowsRun, DeliverOnceBut, DeliversEachOnce, KnowsAct, place, HoldsOfNone, IsOneEvent, log_of_cases}
 use Rattle.std.specs.BTreeMap as tree
 use Rattle.std.proofs.Math.Seq.{drop-cons}
-use Rattle.std.proofs.lemmas.List.Elements.{Contains-append_left, Contains-append_right}
-use Rattle.std.proofs.lemmas.Option.{slice_get_within, get_or_from_slice_get}
-use Rattle.totem_names.specs.declared.message.MsgId.{MsgId}
 use Rattle.totem_names.specs.declared.message.Service.{Service}
-use Rattle.totem_names.specs.declared.conf.ConfId.{ConfId}
-use Rattle.totem_names.specs.declared.place.Place.{Place}
-use Rattle.totem_evs.specs.declared.entry.Entry.{Entry}
-use Rattle.totem_evs.specs.declared.entry.Entry.TheVariants.{Send, Deliver}
-use Rattle.totem_evs.specs.declared.log.Log.{Log}
-use Rattle.totem_evs.specs.Events.{log_of}
 use Rattle.totem_evs.specs.Delivery.{DeliversOnce}
 use Rattle.totem_pass_ab.specs.declared.twice_1_4.Delivery.{Delivery}
-use Rattle.totem_pass_ab.specs.Met.{IsMet, Knows}
-use Rattle.totem_judge_run.specs.Orderly.{DeliveriesAreOnce, SendsAreOnce}
-use Rattle.totem_table.specs.Registers.{Keeps, KnowsRun}
-use Rattle.totem_pass_ab.specs.Noted.{DeliverOnceBut, DeliversEachOnce, KnowsAct}
-use Rattle.totem_search.specs.Search.{place, HoldsOfNone, IsOneEvent}
 use Rattle.totem_search.specs.Pairs.{Has}
 use Rattle.totem_search.specs.Bad.{AreTwice}
-use Rattle.totem_evs.proofs.LogOf.{log_of_cases}
 use Rattle.totem_pass_ab.proofs.Knowing.{meets_knows, meets_keeps}
 
 abbrev delivery : ℕ → MsgId → Delivery

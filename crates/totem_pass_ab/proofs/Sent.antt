@@ -1,31 +1,14 @@
 -- What is noted of sends, and the quick test that makes most searches for them unnecessary.
-use Rattle.std.proofs.Common.{◌≡◌, ℕ, inl, inr, List, [], ◌∷◌, ◌++◌, length, get_or, slice_get, Some, Result, Ok, Err, Bool, false, IsTrue, refl, true, sym, ◌∙◌, ap, subst}
-use Rattle.totem_names.specs.declared.ring.RingId.{RingId}
-use Rattle.totem_names.specs.declared.conf.ConfId.{ConfId}
-use Rattle.totem_names.specs.declared.conf.ConfId.TheVariants.{Regular}
-use Rattle.totem_names.specs.declared.message.MsgId.{MsgId}
-use Rattle.totem_evs.specs.declared.entry.Entry.{Entry}
-use Rattle.totem_evs.specs.declared.entry.Entry.TheVariants.{Send, Conf}
-use Rattle.totem_evs.specs.declared.log.Log.{Log}
-use Rattle.totem_evs.specs.Events.{log_of, IsTransitional, IsChange, WasSentIn}
-use Rattle.totem_evs.specs.Following.{IsFirstChange, Follows}
-use Rattle.totem_evs.specs.Changes.{ChangesNext}
+use Rattle.totem_pass_ab.proofs.Common.{◌≡◌, ℕ, inl, inr, List, [], ◌∷◌, ◌++◌, length, get_or, slice_get, Some, Result, Ok, Err, Bool, false, IsTrue, refl, true, sym, ◌∙◌, ap, subst, Contains, IfOk, RingId, ConfId, Regular, MsgId, Entry, Send, Conf, Log, log_of, IsTransitional, IsChange, WasSentIn, IsFirstChange, Follows, ChangesNext, OnTrue, Ordering, BTreeMap, not_there, All-push, Equal, StaysSound, KnowsLog, sending, WereSent, KnowsRegularChange, AreFollowed, equal_at, apart_or_at, both_equal, exact_ring, exact_message, change_by}
 use Rattle.totem_judge_run.specs.Sent.{WasSentTo}
 use Rattle.totem_judge_run.proofs.SentOrNot.{sent_or_not}
-use Rattle.std.specs.Bool.{OnTrue}
-use Rattle.std.specs.declared.cmp.Ordering.{Ordering}
-use Rattle.std.specs.BTreeMap.{BTreeMap}
 use Rattle.std.specs.BTreeMap as tree
 use Rattle.std.specs.BTreeSet.{BTreeSet}
 use Rattle.std.specs.BTreeSet as sorted
-use Rattle.std.proofs.lemmas.Grind.{not_there}
-use Rattle.std.proofs.lemmas.List.Elements.{All-push}
 use Rattle.std.proofs.lemmas.List.Sorted.{All-permutation}
-use Rattle.std.specs.Prelude.{Contains, IfOk}
 use Rattle.std.specs.List.Sorted.{IsPermutation, IsSearchInRange}
 use Rattle.std.specs.List.{HoldsAt}
 use Rattle.std.specs.Result.{is_ok}
-use Rattle.std.specs.declared.cmp.Ordering.TheVariants.{Equal}
 use Rattle.std.proofs.lemmas.Map.Lookups.{CmpEqualImpliesEq}
 use Rattle.totem_names.specs.declared.message.Service.{Service}
 use Rattle.totem_names.specs.contracts.ring.RingIdOrd.TheImpl as ring
@@ -33,10 +16,6 @@ use Rattle.totem_names.specs.contracts.message.MsgIdOrd.TheImpl as message
 use Rattle.totem_pass_ab.specs.declared.unsent_1_3.Sending.{Sending}
 use Rattle.totem_pass_ab.specs.contracts.unsent_1_3.SendingOrd.TheImpl as by_sending
 use Rattle.totem_table.specs.declared.keys.Change.{Change}
-use Rattle.totem_table.specs.Registers.{StaysSound, KnowsLog}
-use Rattle.totem_pass_ab.specs.Noted.{sending, WereSent, KnowsRegularChange, AreFollowed}
-use Rattle.totem_names.proofs.Exact.{equal_at, apart_or_at, both_equal, exact_ring, exact_message}
-use Rattle.totem_table.proofs.Exact.{change_by}
 
 -- ---- what is noted for the quick test
 

@@ -1,11 +1,6 @@
 -- Writing the deliveries of an old ring, one held message after another.
-use Rattle.std.proofs.Common.{◌≡◌, ℕ, ◌+◌, ◌≤◌, List, ◌++◌, length, Bool, true, false}
-use Rattle.totem_names.specs.declared.conf.ConfId.{ConfId}
+use Rattle.totem_recover.proofs.Common.{◌≡◌, ℕ, ◌+◌, ◌≤◌, List, ◌++◌, length, Bool, true, false, ConfId, Entry, Held, going_up, held_above, deliveries, rest_from, owed_of}
 use Rattle.totem_packets.specs.declared.message.Message as message
-use Rattle.totem_evs.specs.declared.entry.Entry.{Entry}
-use Rattle.totem_ring.specs.Rings.{Held, going_up}
-use Rattle.totem_recover.specs.Exchange.{held_above}
-use Rattle.totem_recover.specs.Finish.{deliveries, rest_from, owed_of}
 
 -- the entries so far and the deliveries still to be written make the regular part
 pub record RegularGoesOn (x : ConfId) (high handed : ℕ) (held : Held) (before entries : List Entry) (last : ℕ) (left : Held) : Type 0 where

@@ -1,3 +1,4 @@
+pub mod Common
 pub mod RingLives
 pub mod Reported
 pub mod Leaving

@@ -1,23 +1,12 @@
 -- What a process in O sent is delivered.
-use Rattle.std.proofs.Common.{◌≡◌, ℕ, ◌+◌, ◌==◌, ◌<◌, ◌≤◌, ◌&&◌, ◌⊎◌, inl, inr, List, [], ◌∷◌, ◌++◌, length, filter, Bool, true, false, Some, IsTrue, nat_lt, refl, sym, ◌∙◌, ap, subst, append_assoc, arith, ⊎_elim}
-use Rattle.std.specs.Prelude.{fold}
+use Rattle.totem_recover.proofs.Common.{◌≡◌, ℕ, ◌+◌, ◌==◌, ◌<◌, ◌≤◌, ◌&&◌, ◌⊎◌, inl, inr, List, [], ◌∷◌, ◌++◌, length, filter, Bool, true, false, Some, IsTrue, nat_lt, refl, sym, ◌∙◌, ap, subst, append_assoc, arith, ⊎_elim, fold, nat_tests, filter_map-append, ConfId, Regular, transitional_set, reports_from, has, with_process, union, Entry, Ring, Held, message_at, going_up, may_go_up, Leaving, IsReady, new_recovery, held_above, delivery, deliveries, owed_of, rest_from, between_rings, finish}
 use Rattle.std.proofs.lemmas.Bool.{cases_eq, cases_lt, cases_Bool, lt-leb, lt-ltb, eq-eqb, eqb-true, and_parts, or_cases, or_left, or_right, cases_order, cond-true, cond-false}
-use Rattle.std.proofs.lemmas.Bool.Decides.{nat_tests}
-use Rattle.std.proofs.lemmas.List.Elements.{filter_map-append}
 use Rattle.std.proofs.lemmas.List.Folds.{list_any-append}
-use Rattle.totem_names.specs.declared.conf.ConfId.{ConfId}
-use Rattle.totem_names.specs.declared.conf.ConfId.TheVariants.{Regular}
 use Rattle.totem_packets.specs.declared.commit.CommitToken.{CommitToken}
 use Rattle.totem_packets.specs.declared.commit_member.Report.{Report}
 use Rattle.totem_packets.specs.declared.message.Message as message
-use Rattle.totem_packets.specs.OldRings.{transitional_set, reports_from}
-use Rattle.totem_packets.specs.Sets.{has, with_process, union}
-use Rattle.totem_evs.specs.declared.entry.Entry.{Entry}
 use Rattle.totem_evs.specs.declared.entry.Entry.TheVariants.{Conf}
-use Rattle.totem_ring.specs.Rings.{Ring, Held, message_at, going_up, may_go_up}
 use Rattle.totem_ring.proofs.Rising.{at_same, at_other}
-use Rattle.totem_recover.specs.Exchange.{Leaving, IsReady, new_recovery, held_above}
-use Rattle.totem_recover.specs.Finish.{delivery, deliveries, owed_of, rest_from, between_rings, finish}
 use Rattle.totem_recover.specs.Owed.{Delivers}
 
 -- the message is in the list
@@ -44,12 +33,6 @@ is_behind n m e es other at = sym (at_other e es n other) ∙ at
 
 -- ---- the rest
 
-owed_yes : (obliged : List ℕ) (e : ℕ × message.Message) (es : Held) → has obliged e.1.sender ≡ true → owed_of obliged (e ∷ es) ≡ e.1 ∷ owed_of obliged es
-owed_yes obliged e es pass = cond-true (has obliged e.1.sender) (e.1 ∷ owed_of obliged es) (owed_of obliged es) pass
-
-owed_no : (obliged : List ℕ) (e : ℕ × message.Message) (es : Held) → has obliged e.1.sender ≡ false → owed_of obliged (e ∷ es) ≡ owed_of obliged es
-owed_no obliged e es no' = cond-false (has obliged e.1.sender) (e.1 ∷ owed_of obliged es) (owed_of obliged es) no'
-
 in_owed : (obliged : List ℕ) (n : ℕ) (m : message.Message) (es : Held) → message_at es n ≡ Some m → has obliged m.sender ≡ true → Stands m (owed_of obliged es)
 in_owed obliged n m [] at owed = absurd cc
 in_owed obliged n m (e ∷ es) at owed =
@@ -57,53 +40,31 @@ in_owed obliged n m (e ∷ es) at owed =
     (λ same.
     let first = is_first n m e es same at in
     let pass : has obliged e.1.sender ≡ true = ap (λ (x : message.Message). has obliged x.sender) first ∙ owed in
-    stands_in m (owed_of obliged (e ∷ es)) (e.1 ∷ owed_of obliged es) (owed_yes obliged e es pass) (stands_first e.1 m (owed_of obliged es) first))
+    rw pass (stands_first e.1 m (owed_of obliged es) first))
     (λ other.
     let later = in_owed obliged n m es (is_behind n m e es other at) owed in
-    ⊎_elim
-    (λ pass. stands_in m (owed_of obliged (e ∷ es)) (e.1 ∷ owed_of obliged es) (owed_yes obliged e es pass) (stands_later e.1 m (owed_of obliged es) later))
-    (λ no'. stands_in m (owed_of obliged (e ∷ es)) (owed_of obliged es) (owed_no obliged e es no') later)
-    (cases_Bool (has obliged e.1.sender)))
+    ⊎_elim (λ (pass : has obliged e.1.sender ≡ true). rw pass (stands_later e.1 m (owed_of obliged es) later)) (λ (no' : has obliged e.1.sender ≡ false). rw no' later) (cases_Bool (has obliged e.1.sender)))
     (cases_eq n e.0)
-
-rest_next : (obliged : List ℕ) (last : ℕ) (e : ℕ × message.Message) (es : Held) → (e.0 == last + 1) ≡ true → rest_from obliged last (e ∷ es) ≡ e.1 ∷ rest_from obliged (last + 1) es
-rest_next obliged last e es next = cond-true (e.0 == last + 1) (e.1 ∷ rest_from obliged (last + 1) es) (owed_of obliged (e ∷ es)) next
-
-rest_gap : (obliged : List ℕ) (last : ℕ) (e : ℕ × message.Message) (es : Held) → (e.0 == last + 1) ≡ false → rest_from obliged last (e ∷ es) ≡ owed_of obliged (e ∷ es)
-rest_gap obliged last e es gap = cond-false (e.0 == last + 1) (e.1 ∷ rest_from obliged (last + 1) es) (owed_of obliged (e ∷ es)) gap
 
 in_rest : (obliged : List ℕ) (last n : ℕ) (m : message.Message) (es : Held) → message_at es n ≡ Some m → has obliged m.sender ≡ true → Stands m (rest_from obliged last es)
 in_rest obliged last n m [] at owed = absurd cc
 in_rest obliged last n m (e ∷ es) at owed =
     ⊎_elim
-    (λ next. stands_in m (rest_from obliged last (e ∷ es)) (e.1 ∷ rest_from obliged (last + 1) es) (rest_next obliged last e es next)
-    (⊎_elim
+    (λ (next : (e.0 == last + 1) ≡ true). rw next (⊎_elim
     (λ same. stands_first e.1 m (rest_from obliged (last + 1) es) (is_first n m e es same at))
     (λ other. stands_later e.1 m (rest_from obliged (last + 1) es) (in_rest obliged (last + 1) n m es (is_behind n m e es other at) owed))
     (cases_eq n e.0)))
-    (λ gap. stands_in m (rest_from obliged last (e ∷ es)) (owed_of obliged (e ∷ es)) (rest_gap obliged last e es gap) (in_owed obliged n m (e ∷ es) at owed))
+    (λ (gap : (e.0 == last + 1) ≡ false). rw gap (in_owed obliged n m (e ∷ es) at owed))
     (cases_Bool (e.0 == last + 1))
-
-above_yes : (last : ℕ) (e : ℕ × message.Message) (es : Held) → nat_lt last e.0 ≡ true → held_above last (e ∷ es) ≡ e ∷ held_above last es
-above_yes last e es pass = cond-true (nat_lt last e.0) (e ∷ held_above last es) (held_above last es) pass
-
-above_no : (last : ℕ) (e : ℕ × message.Message) (es : Held) → nat_lt last e.0 ≡ false → held_above last (e ∷ es) ≡ held_above last es
-above_no last e es no' = cond-false (nat_lt last e.0) (e ∷ held_above last es) (held_above last es) no'
 
 at_above : (last n : ℕ) (m : message.Message) (es : Held) → message_at es n ≡ Some m → last < n → message_at (held_above last es) n ≡ Some m
 at_above last n m [] at above = at
 at_above last n m (e ∷ es) at above =
-    let A : Held → Type 0 = λ held. message_at held n ≡ Some m in
     ⊎_elim
-    (λ same.
-    let pass : nat_lt last e.0 ≡ true = lt-ltb last e.0 (omega arith) in
-    subst A (sym (above_yes last e es pass)) (at_same e (held_above last es) n same ∙ ap Some (is_first n m e es same at)))
+    (λ same. rw (lt-ltb last e.0 (omega arith)) (at_same e (held_above last es) n same ∙ ap Some (is_first n m e es same at)))
     (λ other.
     let later = at_above last n m es (is_behind n m e es other at) above in
-    ⊎_elim
-    (λ pass. subst A (sym (above_yes last e es pass)) (at_other e (held_above last es) n other ∙ later))
-    (λ no'. subst A (sym (above_no last e es no')) later)
-    (cases_Bool (nat_lt last e.0)))
+    ⊎_elim (λ (pass : nat_lt last e.0 ≡ true). rw pass (at_other e (held_above last es) n other ∙ later)) (λ (no' : nat_lt last e.0 ≡ false). rw no' later) (cases_Bool (nat_lt last e.0)))
     (cases_eq n e.0)
 
 -- ---- the regular part

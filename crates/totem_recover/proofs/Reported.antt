@@ -1,15 +1,8 @@
 -- The members that a commit token reports are the members of configurations.
-use Rattle.std.proofs.Common.{◌≡◌, ℕ, ◌<◌, List, [], ◌∷◌, length, sym, subst, IsTrue, arith}
-use Rattle.std.proofs.lemmas.List.{length-map}
-use Rattle.totem_names.specs.Names.{RingName}
+use Rattle.totem_recover.proofs.Common.{ℕ, ◌<◌, List, [], ◌∷◌, length, sym, subst, IsTrue, arith, length-map, RingName, IsCommitMembers, member_ranks, transitional_ranks, processes_of, reports_ring, transitional_set, has, ids_of, IsRingMembers}
 use Rattle.totem_packets.specs.declared.commit_member.CommitMember.{CommitMember}
-use Rattle.totem_packets.specs.CommitMembers.{IsCommitMembers}
-use Rattle.totem_packets.specs.Lives.{member_ranks, transitional_ranks}
-use Rattle.totem_packets.specs.OldRings.{processes_of, reports_ring, transitional_set}
-use Rattle.totem_packets.specs.Sets.{has}
 use Rattle.totem_packets.proofs.OldRingFacts.{members_are as set_is, all_are}
 use Rattle.totem_packets.proofs.RankFacts.{ids_of_members, ids_of_transitional}
-use Rattle.totem_recover.specs.Lives.{ids_of, IsRingMembers}
 
 some_has : (ps : List ℕ) (p : ℕ) → IsTrue (has ps p) → 0 < length ps
 some_has [] p had = absurd cc

@@ -1,13 +1,10 @@
 -- The lives of a ring's members as the members of a configuration.
-use Rattle.std.proofs.Common.{◌≡◌, ℕ, ◌<◌, List, [], ◌∷◌, length, get_or, refl, ap, ◌∙◌, arith}
-use Rattle.std.specs.Prelude.{AllPairs}
+use Rattle.totem_recover.proofs.Common.{◌≡◌, ℕ, ◌<◌, List, [], ◌∷◌, length, get_or, refl, ap, ◌∙◌, arith, AllPairs, id_of, first_rank, first_ranks, ids_of, IsRingMembers}
 use Rattle.std.proofs.lemmas.List.{length-map, get_or-map}
 use Rattle.totem_names.specs.Lists.{Refuses}
 use Rattle.totem_names.proofs.Kept.{not_refused}
 use Rattle.totem_evs.specs.Members.{IsBelow}
 use Rattle.totem_names.specs.declared.refused.ListFault.{ListFault}
-use Rattle.totem_names.specs.Ranks.{id_of}
-use Rattle.totem_recover.specs.Lives.{first_rank, first_ranks, ids_of, IsRingMembers}
 
 -- processes whose identifiers are those of a ring's members are ascending
 lives_rise : (lives : List ℕ) → IsRingMembers (ids_of lives) → AllPairs IsBelow lives

@@ -1,19 +1,7 @@
 -- Members that hold the same messages leave in the same way.
-use Rattle.std.proofs.Common.{length-append, ◌≡◌, ℕ, ◌+◌, ◌<◌, ◌≤◌, List, [], ◌∷◌, ◌++◌, length, refl, sym, ◌∙◌, ap, subst, append_assoc, arith, ⊎_elim}
-use Rattle.std.proofs.lemmas.Bool.{cases_eq, cases_lt}
-use Rattle.std.proofs.lemmas.Bool.Decides.{nat_tests}
-use Rattle.std.proofs.lemmas.List.Elements.{filter_map-append}
-use Rattle.std.specs.Prelude.{slice_index}
-use Rattle.totem_names.specs.Names.{RingName}
-use Rattle.totem_names.specs.Ranks.{id_of}
-use Rattle.totem_names.specs.declared.conf.ConfId.TheVariants.{Regular, Transitional}
-use Rattle.totem_evs.specs.declared.entry.Entry.{Entry}
+use Rattle.totem_recover.proofs.Common.{length-append, ◌≡◌, ℕ, ◌+◌, ◌<◌, ◌≤◌, List, [], ◌∷◌, ◌++◌, length, refl, sym, ◌∙◌, ap, subst, append_assoc, arith, ⊎_elim, slice_index, cases_eq, cases_lt, nat_tests, filter_map-append, RingName, id_of, Regular, Transitional, Entry, Ring, Held, whole_above, going_up, RisesFrom, Leaving, held_above, deliveries, rest_from, finish}
 use Rattle.totem_evs.specs.declared.entry.Entry.TheVariants.{Conf}
 use Rattle.totem_packets.specs.declared.message.Message as message
-use Rattle.totem_ring.specs.Rings.{Ring, Held, whole_above, going_up}
-use Rattle.totem_ring.specs.Invariant.{RisesFrom}
-use Rattle.totem_recover.specs.Exchange.{Leaving, held_above}
-use Rattle.totem_recover.specs.Finish.{deliveries, rest_from, finish}
 use Rattle.totem_recover.specs.Together.{LeaveTogether, messages_between}
 
 -- ---- what each definition says of the first message

@@ -1,13 +1,5 @@
 -- What a token asks for stays within its rules.
-use Rattle.std.proofs.Common.{◌≡◌, ℕ, zero, suc, ◌+◌, ◌^◌, ◌<◌, ◌≤◌, ◌==◌, List, [], ◌∷◌, length, Bool, true, false, not, cond, if◌then◌else◌, nat_lt, refl, arith, ltb-true, ltb-false}
-use Rattle.std.specs.Prelude.{All, AllPairs, filter}
-use Rattle.std.proofs.lemmas.Bool.{eqb-false}
-use Rattle.std.proofs.lemmas.List.Elements.{All-nil, All-cons, All-head, All-tail}
-use Rattle.std.proofs.lemmas.List.Kept.{AllPairs-cons}
-use Rattle.totem_packets.specs.Rising.{IsBelow, IsNumber, IsRequests}
-use Rattle.totem_ring.specs.Rings.{Held, holds}
-use Rattle.totem_ring.specs.Visits.{missing}
-use Rattle.totem_ring.specs.Requests.{with_number, with_requests, numbers_above}
+use Rattle.totem_ring.proofs.Common.{◌≡◌, ℕ, zero, suc, ◌+◌, ◌^◌, ◌<◌, ◌≤◌, ◌==◌, List, [], ◌∷◌, length, Bool, true, false, not, cond, if◌then◌else◌, nat_lt, refl, arith, ltb-true, ltb-false, All, AllPairs, filter, eqb-false, All-nil, All-cons, All-head, All-tail, AllPairs-cons, IsBelow, IsNumber, IsRequests, Held, holds, missing, with_number, with_requests, numbers_above}
 
 -- the numbers are ascending above low, and each is the number of a message
 abbrev pub Rises : ℕ → List ℕ → Type 0

@@ -1,15 +1,5 @@
 -- Every packet that a step sends is from the lists.
-use Rattle.std.proofs.Common.{◌≡◌, ℕ, List, [], ◌∷◌, ◌++◌, map, cond, Option, Some, None, refl, subst}
-use Rattle.std.specs.Prelude.{All}
-use Rattle.std.specs.List.{filter_map, cons_option}
-use Rattle.std.specs.Ordering.{nat_cmp, is_eq}
-use Rattle.std.specs.declared.cmp.Ordering.{Ordering}
-use Rattle.std.specs.declared.cmp.Ordering.TheVariants.{Less, Equal, Greater}
-use Rattle.std.proofs.lemmas.List.Elements.{All-nil, All-cons}
-use Rattle.totem_packets.specs.declared.message.Message.{Message}
-use Rattle.totem_packets.specs.declared.token.Token.{Token}
-use Rattle.totem_ring.specs.Rings.{Held, message_at}
-use Rattle.totem_ring.specs.Visits.{Sending, broadcasts}
+use Rattle.totem_ring.proofs.Common.{◌≡◌, ℕ, List, [], ◌∷◌, ◌++◌, map, cond, Option, Some, None, refl, subst, All, filter_map, cons_option, nat_cmp, is_eq, Ordering, Less, Equal, Greater, All-nil, All-cons, Message, Token, Held, message_at, Sending, broadcasts}
 use Rattle.totem_ring.proofs.Nth.{IsNth, IsOf}
 use Rattle.totem_ring.proofs.HeldOnes.{AreOf, StandIn}
 use Rattle.totem_ring.proofs.Numbering.{AreNumbered}

@@ -1,14 +1,6 @@
 -- Forgetting messages.
-use Rattle.std.proofs.Common.{◌≡◌, ℕ, ◌+◌, ◌-◌, ◌<◌, ◌≤◌, ◌==◌, nat_le, [], ◌∷◌, Option, Bool, true, false, cond, refl, sym, ◌∙◌, ap, arith, inl, inr, eqb-true}
-use Rattle.std.specs.Prelude.{is_some, min}
+use Rattle.totem_ring.proofs.Common.{◌≡◌, ℕ, ◌+◌, ◌-◌, ◌<◌, ◌≤◌, ◌==◌, nat_le, [], ◌∷◌, Option, Bool, true, false, cond, refl, sym, ◌∙◌, ap, arith, inl, inr, eqb-true, is_some, min, nat_cmp, MatchOrdering, is_eq, ranks, Ordering, Less, Equal, Greater, Message, up_to, Held, holds, whole_above, without, RisesFrom, KeepsAru}
 use Rattle.std.proofs.lemmas.Bool.{eqb-false, leb-true, leb-false, cases_lt, cases_eq}
-use Rattle.std.specs.Ordering.{nat_cmp, MatchOrdering, is_eq}
-use Rattle.std.specs.Cmp.{ranks}
-use Rattle.std.specs.declared.cmp.Ordering.{Ordering}
-use Rattle.std.specs.declared.cmp.Ordering.TheVariants.{Less, Equal, Greater}
-use Rattle.totem_packets.specs.declared.message.Message.{Message}
-use Rattle.totem_ring.specs.Rings.{up_to, Held, holds, whole_above, without}
-use Rattle.totem_ring.specs.Invariant.{RisesFrom, KeepsAru}
 use Rattle.totem_ring.proofs.Rising.{none_below, whole_is, whole_holds}
 use Rattle.totem_ring.proofs.Holding.{here, there}
 
@@ -52,10 +44,7 @@ Rises-without low n (e ∷ es) h = go (nat_cmp n e.0) (Rises-without e.0 n es h.
     go Greater rest = (h.0, h.1, rest)
 
 still_there : (e : ℕ × Message) (es new : Held) (q : ℕ) → holds new q ≡ holds es q → holds (e ∷ new) q ≡ holds (e ∷ es) q
-still_there e es new q same = elim (cases_eq q e.0) [
-  | inl at ↦ here e new q at ∙ sym (here e es q at)
-  | inr other ↦ there e new q other ∙ same ∙ sym (there e es q other)
-]
+still_there e es new q same = grind (arith, cases_eq, here, there)
 
 -- the other messages are still held
 pub holds_without : (n q : ℕ) (es : Held) → (q ≡ n → ⊥) → holds (without es n) q ≡ holds es q

@@ -1,8 +1,5 @@
 -- The messages delivered to the node are the next part of the list.
-use Rattle.std.proofs.Common.{◌≡◌, ℕ, ◌+◌, ◌==◌, ◌&&◌, nat_le, List, [], ◌∷◌, ◌++◌, length, slice_get, Bool, true, false, Some, if◌then◌else◌, refl, ◌∙◌, ap, append_assoc, append-nil, arith, eqb-true, length-append}
-use Rattle.totem_packets.specs.declared.message.Message.{Message}
-use Rattle.totem_ring.specs.Order.{IsPrefixOf}
-use Rattle.totem_ring.specs.Rings.{Held, going_up, may_go_up}
+use Rattle.totem_ring.proofs.Common.{◌≡◌, ℕ, ◌+◌, ◌==◌, ◌&&◌, nat_le, List, [], ◌∷◌, ◌++◌, length, slice_get, Bool, true, false, Some, if◌then◌else◌, refl, ◌∙◌, ap, append_assoc, append-nil, arith, eqb-true, length-append, Message, IsPrefixOf, Held, going_up, may_go_up}
 use Rattle.totem_ring.proofs.Prefixes.{goes_on}
 use Rattle.totem_ring.proofs.Nth.{IsNth}
 use Rattle.totem_ring.proofs.HeldOnes.{AreOf}

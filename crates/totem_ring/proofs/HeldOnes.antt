@@ -1,12 +1,5 @@
 -- Held messages that are all from one list.
-use Rattle.std.proofs.Common.{◌≡◌, ℕ, ◌<◌, List, [], ◌∷◌, ◌++◌}
-use Rattle.std.specs.Ordering.{nat_cmp, MatchOrdering, match_ordering}
-use Rattle.std.specs.Cmp.{ranks}
-use Rattle.std.specs.declared.cmp.Ordering.{Ordering}
-use Rattle.std.specs.declared.cmp.Ordering.TheVariants.{Less, Equal, Greater}
-use Rattle.std.specs.BTreeMap.{insert_entry}
-use Rattle.totem_packets.specs.declared.message.Message.{Message}
-use Rattle.totem_ring.specs.Rings.{Held, with_message, with_messages}
+use Rattle.totem_ring.proofs.Common.{◌≡◌, ℕ, ◌<◌, List, [], ◌∷◌, ◌++◌, nat_cmp, MatchOrdering, match_ordering, ranks, Ordering, Less, Equal, Greater, insert_entry, Message, Held, with_message, with_messages}
 use Rattle.totem_ring.proofs.Nth.{IsNth, IsNth-append}
 
 abbrev pub AreOf : List Message → Held → Type 0

@@ -1,21 +1,7 @@
 -- What holding a message changes.
-use Rattle.std.proofs.Common.{◌≡◌, ℕ, ◌+◌, ◌^◌, ◌<◌, List, [], ◌∷◌, length, Option, Some, None, Err, Bool, true, false, not, if◌then◌else◌, refl, sym, ◌∙◌, ap, arith, inl, inr}
-use Rattle.std.specs.Prelude.{is_some}
-use Rattle.std.proofs.lemmas.Bool.{cases_lt, cases_eq}
-use Rattle.std.specs.Ordering.{nat_cmp, match_ordering}
-use Rattle.std.specs.declared.cmp.Ordering.{Ordering}
-use Rattle.std.specs.declared.cmp.Ordering.TheVariants.{Less, Equal, Greater}
-use Rattle.std.specs.BTreeMap.{insert_entry}
-use Rattle.totem_ring.specs.Steps.{Done, unless_refused}
-use Rattle.totem_ring.specs.Answers.{Answers}
-use Rattle.totem_packets.specs.declared.message.Message.{Message}
-use Rattle.totem_ring.specs.declared.fault.RingFault.{RingFault}
-use Rattle.totem_ring.specs.declared.fault.RingFault.TheVariants.{OtherRing, Repeat, Range, Memory}
-use Rattle.totem_ring.specs.Rings.{Ring, Held, message_at, holds, aru_of, same_ring, going_up, with_message, without}
-use Rattle.totem_packets.specs.Sets.{has}
-use Rattle.totem_ring.specs.Refusals.{message_refusal}
-use Rattle.totem_ring.specs.Invariant.{RisesFrom, IsWholeTo, KeepsAru}
-use Rattle.totem_ring.proofs.Rising.{at_same, at_other, whole_is, whole_holds, Rises-insert, remove-insert, going_fits}
+use Rattle.totem_ring.proofs.Common.{◌≡◌, ℕ, ◌^◌, ◌<◌, [], ◌∷◌, Option, Some, None, true, false, refl, sym, ◌∙◌, ap, arith, inl, inr, is_some, cases_lt, cases_eq, nat_cmp, match_ordering, Ordering, Less, Equal, Greater, insert_entry, Message, Ring, Held, message_at, holds, same_ring, with_message, without, has, message_refusal, RisesFrom, IsWholeTo, KeepsAru}
+use Rattle.totem_ring.proofs.NotRefused.{passed}
+use Rattle.totem_ring.proofs.Rising.{at_same, at_other, whole_is, whole_holds, Rises-insert, remove-insert}
 
 -- nothing that was held is lost
 pub record Grows (held new : Held) : Type 0 where
@@ -44,26 +30,11 @@ Grows-insert es k m = record { still = still_insert es k m }
 
 -- the aru after one more message
 pub KeepsAru-grown : (held new : Held) (my_aru n : ℕ) → KeepsAru held my_aru → Grows held new → RisesFrom 0 new → IsWholeTo new my_aru n → KeepsAru new n
-KeepsAru-grown held new my_aru n h grows rises whole = record {
-  aru_is = sym (whole_is 0 n new rises (record {
-    begins = omega arith;
-    whole = λ k above under. elim (cases_lt my_aru k) [
-      | inl over ↦ whole.whole k over under
-      | inr within ↦ grows.still k (whole_holds 0 k held above (let at : my_aru ≡ aru_of held = h.aru_is in omega arith))
-    ];
-    stops = whole.stops;
-  }));
-  rises = rises;
-}
+KeepsAru-grown held new my_aru n h grows rises whole = grind (arith, whole_is, cases_lt, whole_holds)
 
 pub KeepsAru-insert : (held new : Held) (my_aru n k : ℕ) (m : Message) → KeepsAru held my_aru → new ≡ insert_entry nat_cmp held k m → 0 < k → k < 2 ^ 32 → IsWholeTo new my_aru n → KeepsAru new n
 KeepsAru-insert held new my_aru n k m h is above fits whole =
     rw is (KeepsAru-grown held (insert_entry nat_cmp held k m) my_aru n h (Grows-insert held k m) (Rises-insert 0 held k m h.rises above fits) (rw is at whole))
-
-refusal_parts : (a b c : Bool) → (if not a then Some OtherRing else if b then Some Repeat else if not c then Some Range else None) ≡ None → b ≡ false
-refusal_parts false b c h = absurd cc
-refusal_parts true true c h = absurd cc
-refusal_parts true false c h = refl
 
 none_at : (o : Option Message) → is_some o ≡ false → o ≡ None
 none_at None h = refl
@@ -71,18 +42,8 @@ none_at (Some m) h = absurd cc
 
 -- a message that isn't refused is new
 pub not_held : (s : Ring) (m : Message) → message_refusal s m ≡ None → message_at s.held m.number ≡ None
-not_held s m h = none_at _ (refusal_parts (same_ring m.ring s.ring) (holds s.held m.number) (has s.members m.sender) h)
+not_held s m h = none_at _ (passed (same_ring m.ring s.ring) (holds s.held m.number) (has s.members m.sender) h).0
 
 -- removing the message again leaves what was held before
 pub undone : (s : Ring) (m : Message) (held new newer : Held) → message_refusal s m ≡ None → s.held ≡ held → new ≡ with_message held m → newer ≡ without new m.number → newer ≡ held
-undone s m held new newer passed same put taken =
-    let none : message_at held m.number ≡ None = rw (← same) (not_held s m passed) in
-    taken ∙ ap (λ held. without held m.number) put ∙ remove-insert 0 held m.number m none
-
--- out of memory is a possible result of a step that isn't refused
-pub memory_answers : (refusal : Option RingFault) (done : Done) (old new : Ring) → refusal ≡ None → new ≡ old → Answers (Err Memory) old new (unless_refused refusal done)
-memory_answers None done old new passed same = record { unchanged = same; fault_is = refl }
-memory_answers (Some fault) done old new passed same = absurd cc
-
-pub new_fits : (handed safe_to n : ℕ) (held : Held) (up : List Message) → RisesFrom 0 held → handed < 2 ^ 32 → up ≡ going_up handed safe_to held → n ≡ length up → handed + n < 2 ^ 32
-new_fits handed safe_to n held up rises fits is len = rw (len, is) (going_fits 0 handed safe_to held rises fits)
+undone s m held new newer passed same put taken = grind (arith, not_held, remove-insert)

@@ -1,18 +1,5 @@
 -- Holding several messages, and removing them again.
-use Rattle.std.proofs.Common.{◌≡◌, ℕ, ◌+◌, ◌<◌, ◌≤◌, nat_le, List, [], ◌∷◌, ◌++◌, length, get_or, take, drop, Some, None, Bool, true, false, not, cond, refl, sym, ◌∙◌, ap, arith, append-nil, append_assoc, add-one, drop-cons, le-leb}
-use Rattle.std.specs.Prelude.{filter, All}
-use Rattle.std.specs.List.{filter_map, cons_option}
-use Rattle.std.proofs.lemmas.Bool.{lt-leb}
-use Rattle.std.proofs.lemmas.List.{take_more, get_or_default}
-use Rattle.std.proofs.lemmas.List.Elements.{filter_map-append, filter-append, All-head, All-tail}
-use Rattle.std.specs.Ordering.{nat_cmp, MatchOrdering, match_ordering}
-use Rattle.std.specs.Cmp.{ranks}
-use Rattle.std.specs.declared.cmp.Ordering.{Ordering}
-use Rattle.std.specs.declared.cmp.Ordering.TheVariants.{Less, Equal, Greater}
-use Rattle.std.specs.BTreeMap.{insert_entry}
-use Rattle.totem_packets.specs.declared.message.Message.{Message}
-use Rattle.totem_ring.specs.Rings.{Held, message_at, holds, with_message, with_messages, up_to}
-use Rattle.totem_ring.specs.Invariant.{RisesFrom}
+use Rattle.totem_ring.proofs.Common.{◌≡◌, ℕ, ◌+◌, ◌<◌, ◌≤◌, nat_le, List, [], ◌∷◌, ◌++◌, length, get_or, take, drop, Some, None, Bool, true, false, not, cond, refl, sym, ◌∙◌, ap, arith, append-nil, append_assoc, add-one, drop-cons, le-leb, filter, All, filter_map, cons_option, lt-leb, take_more, get_or_default, filter_map-append, filter-append, All-head, All-tail, nat_cmp, MatchOrdering, match_ordering, ranks, Ordering, Less, Equal, Greater, insert_entry, Message, Held, message_at, holds, with_message, with_messages, up_to, RisesFrom}
 
 -- what is added above seq changes nothing up to it
 pub up_to-insert : (seq : ℕ) (es : Held) (k : ℕ) (m : Message) → seq < k → up_to seq (insert_entry nat_cmp es k m) ≡ up_to seq es
@@ -40,20 +27,7 @@ pub record IsAhead (now before : Held) (seq : ℕ) (messages : List Message) (i 
 
 pub one_held : (now new before : Held) (seq : ℕ) (messages : List Message) (i n : ℕ) (m : Message) → IsAhead now before seq messages i → i < length messages → m ≡ get_or messages i m
     → All (λ m. seq < m.number) messages → n ≡ m.number → new ≡ insert_entry nat_cmp now n m → IsAhead new before seq messages (i + 1)
-one_held now new before seq messages i n m h lt here all number put =
-    let is : new ≡ with_message now m = put ∙ ap (λ k. insert_entry nat_cmp now k m) number in
-    let above : seq < m.number = rw here (all i m lt) in
-    record {
-      ahead =
-          ap (λ held. with_messages held (drop (i + 1) messages)) is
-          ∙ ap (λ x. with_messages (with_message now x) (drop (i + 1) messages)) here
-          ∙ sym (ap (λ ms. with_messages now ms) (opened m))
-          ∙ h.ahead;
-      below = ap (up_to seq) is ∙ up_to-insert seq now m.number m above ∙ h.below;
-    }
-  where
-    opened : (d : Message) → drop i messages ≡ get_or messages i d ∷ drop (i + 1) messages
-    opened d = rw (add-one, drop-cons messages i d)
+one_held now new before seq messages i n m h lt here all number put = grind (arith, up_to-insert, add-one, drop-cons)
 
 -- a message above all others is put at the end
 above_each : (low : ℕ) (es rest : Held) (k : ℕ) (m : Message) → RisesFrom low (es ++ (k, m) ∷ rest) → low < k
@@ -72,9 +46,7 @@ insert_end low (e ∷ es) rest k m h = go (nat_cmp k e.0) (ranks k e.0) (above_e
 
 -- the copy so far with what is still to be copied
 pub copies_on : (now new all left rest : Held) (k : ℕ) (m : Message) → RisesFrom 0 all → now ++ left ≡ all → left ≡ (k, m) ∷ rest → new ≡ insert_entry nat_cmp now k m → new ++ rest ≡ all
-copies_on now new all left rest k m rises far next put =
-    let whole : now ++ (k, m) ∷ rest ≡ all = ap (λ es. now ++ es) (sym next) ∙ far in
-    ap (λ es. es ++ rest) (put ∙ insert_end 0 now rest k m (rw whole rises)) ∙ append_assoc now ((k, m) ∷ []) rest ∙ whole
+copies_on now new all left rest k m rises far next put = grind (arith, insert_end, append_assoc)
 
 -- what is held up to seq is everything, if nothing above it is held
 pub up_to-all : (seq : ℕ) (held : Held) → (all : All (λ (e : ℕ × Message). e.0 ≤ seq) held) → up_to seq held ≡ held

@@ -1,9 +1,6 @@
 -- The last of the held messages.
-use Rattle.std.proofs.Common.{◌≡◌, ℕ, zero, suc, ◌+◌, ◌<◌, ◌||◌, nat_lt, [], ◌∷◌, length, slice_get, Bool, true, false, Some, refl, sym, ◌∙◌, ap, arith, lt-ltb, ltb-true}
-use Rattle.totem_packets.specs.declared.message.Message.{Message}
-use Rattle.totem_ring.specs.Rings.{Held}
-use Rattle.totem_ring.specs.Refusals.{holds_above}
-use Rattle.totem_ring.specs.Invariant.{RisesFrom}
+use Rattle.totem_ring.proofs.Common.{◌≡◌, ℕ, zero, suc, ◌+◌, ◌<◌, ◌||◌, nat_lt, [], ◌∷◌, length, slice_get, Bool, true, false, Some, refl, sym, ◌∙◌, ap, arith, lt-ltb, ltb-true, Message, Held, holds_above, RisesFrom}
+use Rattle.std.proofs.Math.Bool.{or-false}
 
 -- every element is above the lower bound of the list
 above_at : (low k : ℕ) (es : Held) (e : ℕ × Message) → RisesFrom low es → slice_get es k ≡ Some e → low < e.0
@@ -11,14 +8,10 @@ above_at low k [] e h at = absurd cc
 above_at low zero (x ∷ xs) e h at = let same : x ≡ e = cc in let number : x.0 ≡ e.0 = ap (λ (y : ℕ × Message). y.0) same in omega (arith, h.0)
 above_at low (suc k) (x ∷ xs) e h at = let above : x.0 < e.0 = above_at x.0 k xs e h.2 at in omega (arith, h.0)
 
-alone : (b : Bool) → b || false ≡ b
-alone true = refl
-alone false = refl
-
 -- a number above seq is held exactly where the last one is above it
 pub last_above : (low k seq : ℕ) (es : Held) (e : ℕ × Message) → RisesFrom low es → k + 1 ≡ length es → slice_get es k ≡ Some e → holds_above es seq ≡ nat_lt seq e.0
 last_above low k seq [] e h len at = absurd cc
-last_above low zero seq (x ∷ []) e h len at = let same : x ≡ e = cc in alone (nat_lt seq x.0) ∙ ap (λ (y : ℕ × Message). nat_lt seq y.0) same
+last_above low zero seq (x ∷ []) e h len at = let same : x ≡ e = cc in or-false (nat_lt seq x.0) ∙ ap (λ (y : ℕ × Message). nat_lt seq y.0) same
 last_above low zero seq (x ∷ y ∷ ys) e h len at = absurd (omega arith)
 last_above low (suc k) seq (x ∷ xs) e h len at =
     go (nat_lt seq x.0) refl (last_above x.0 k seq xs e h.2 (omega arith) at) (above_at x.0 k xs e h.2 at)

@@ -1,15 +1,5 @@
 -- The walk over the missing numbers.
-use Rattle.std.proofs.Common.{◌≡◌, ℕ, zero, suc, ◌+◌, ◌-◌, ◌<◌, ◌≤◌, List, [], ◌∷◌, ◌++◌, length, take, get_or, Bool, true, false, not, cond, refl, sym, ◌∙◌, ap, arith, le-ltb, lt-ltb, inl, inr}
-use Rattle.std.specs.Prelude.{filter}
-use Rattle.std.proofs.lemmas.Bool.{cases_lt}
-use Rattle.totem_ring.specs.Requests.{with_number}
-use Rattle.totem_names.specs.Names.{RingName}
-use Rattle.std.proofs.lemmas.List.{take_more, length-take-le}
-use Rattle.totem_packets.specs.declared.message.Body.{Body}
-use Rattle.totem_packets.specs.declared.message.Message.{Message}
-use Rattle.totem_ring.specs.Rings.{Ring, Held, holds, aru_of}
-use Rattle.totem_ring.specs.Requests.{numbers_above, with_requests}
-use Rattle.totem_ring.specs.Visits.{missing, numbered}
+use Rattle.totem_ring.proofs.Common.{◌≡◌, ℕ, zero, suc, ◌+◌, ◌-◌, ◌<◌, ◌≤◌, List, [], ◌∷◌, ◌++◌, length, take, get_or, Bool, true, false, not, cond, refl, sym, ◌∙◌, ap, arith, le-ltb, lt-ltb, inl, inr, filter, cases_lt, with_number, numbers_above, with_requests, RingName, take_more, length-take-le, Body, Message, Ring, Held, holds, aru_of, missing, numbered}
 use Rattle.totem_ring.proofs.Rising.{whole_holds}
 
 -- what is missing above n
@@ -20,9 +10,7 @@ counted : (n seq : ℕ) → n < seq → numbers_above n (seq - n) ≡ (n + 1) �
 counted n seq lt = let more : seq - n ≡ suc (seq - (n + 1)) = omega arith in ap (numbers_above n) more
 
 gap_held : (held : Held) (n seq : ℕ) (b : Bool) → n < seq → holds held (n + 1) ≡ b → gaps held n seq ≡ cond (not b) ((n + 1) ∷ gaps held (n + 1) seq) (gaps held (n + 1) seq)
-gap_held held n seq b lt is =
-    ap (filter (λ k. not (holds held k))) (counted n seq lt)
-    ∙ ap (λ (b : Bool). cond (not b) ((n + 1) ∷ gaps held (n + 1) seq) (gaps held (n + 1) seq)) is
+gap_held held n seq b lt is = grind (arith, counted)
 
 no_gaps : (held : Held) (n seq : ℕ) → seq ≤ n → gaps held n seq ≡ []
 no_gaps held n seq le = let none : seq - n ≡ 0 = omega arith in ap (λ count. filter (λ k. not (holds held k)) (numbers_above n count)) none
@@ -44,11 +32,7 @@ pub record IsAsking (rtr before : List ℕ) (held : Held) (n seq : ℕ) : Type 0
   pub all : with_requests rtr (gaps held n seq) ≡ with_requests before (missing held seq)
 
 pub asking_starts : (rtr : List ℕ) (held : Held) (n seq : ℕ) → n ≡ aru_of held → IsAsking rtr rtr held n seq
-asking_starts rtr held n seq is = record {
-  all =
-      ap (with_requests rtr) (gaps_from held seq n (omega (arith, is)))
-      ∙ (let whole : seq - 0 ≡ seq = omega arith in ap (λ count. with_requests rtr (filter (λ k. not (holds held k)) (numbers_above 0 count))) whole);
-}
+asking_starts rtr held n seq is = grind (arith, gaps_from)
 
 full_stays : (rtr ns : List ℕ) → 64 ≤ length rtr → with_requests rtr ns ≡ rtr
 full_stays rtr [] full = refl
@@ -72,9 +56,6 @@ asking_more rtr more before held n seq h lt at room is = record {
 pub asking_there : (rtr before : List ℕ) (held : Held) (n seq : ℕ) → IsAsking rtr before held n seq → n < seq → holds held (n + 1) ≡ false → length rtr < 64 → with_number rtr (n + 1) ≡ rtr → IsAsking rtr before held (n + 1) seq
 asking_there rtr before held n seq h lt at room is = asking_more rtr rtr before held n seq h lt at room (sym is)
 
-pub asking_ends : (rtr before : List ℕ) (held : Held) (n seq : ℕ) → IsAsking rtr before held n seq → seq ≤ n → rtr ≡ with_requests before (missing held seq)
-asking_ends rtr before held n seq h le = sym (ap (with_requests rtr) (no_gaps held n seq le)) ∙ h.all
-
 -- one more number is given
 pub numbered_push : (s : Ring) (seq : ℕ) (bodies : List Body) (body : Body) → numbered s seq (bodies ++ body ∷ []) ≡ numbered s seq bodies ++ record { ring = s.ring; number = (seq + length bodies) + 1; sender = s.me; body = body } ∷ []
 numbered_push s seq [] body =
@@ -85,24 +66,10 @@ numbered_push s seq (b ∷ bs) body =
     ap (λ ms. record { ring = s.ring; number = seq + 1; sender = s.me; body = b } ∷ ms) (numbered_push s (seq + 1) bs body
     ∙ ap (λ (n : ℕ). numbered s (seq + 1) bs ++ record { ring = s.ring; number = n + 1; sender = s.me; body = body } ∷ []) same)
 
-pub numbered_one : (s : Ring) (seq i given number me : ℕ) (ring : RingName) (bodies : List Body) (own items : List Message) (body copy : Body)
-    → own ≡ numbered s seq (take i bodies) → i < length bodies → given ≡ seq + i → body ≡ get_or bodies i body → copy ≡ body → number ≡ given + 1 → ring ≡ s.ring → me ≡ s.me
-    → items ≡ own ++ record { ring = ring; number = number; sender = me; body = copy } ∷ [] → items ≡ numbered s seq (take (i + 1) bodies)
-numbered_one s seq i given number me ring bodies own items body copy far lt count at same is ring_is me_is put =
-    let len : length (take i bodies) ≡ i = length-take-le i bodies (omega arith) in
-    let the_number : number ≡ (seq + length (take i bodies)) + 1 = omega (arith, len) in
-    put
-    ∙ ap (λ ms. ms ++ record { ring = ring; number = number; sender = me; body = copy } ∷ []) far
-    ∙ ap (λ (r : RingName). numbered s seq (take i bodies) ++ record { ring = r; number = number; sender = me; body = copy } ∷ []) ring_is
-    ∙ ap (λ (p : ℕ). numbered s seq (take i bodies) ++ record { ring = s.ring; number = number; sender = p; body = copy } ∷ []) me_is
-    ∙ ap (λ (n : ℕ). numbered s seq (take i bodies) ++ record { ring = s.ring; number = n; sender = s.me; body = copy } ∷ []) the_number
-    ∙ ap (λ (b : Body). numbered s seq (take i bodies) ++ record { ring = s.ring; number = (seq + length (take i bodies)) + 1; sender = s.me; body = b } ∷ []) (same ∙ at)
-    ∙ sym (numbered_push s seq (take i bodies) (get_or bodies i body))
-    ∙ ap (numbered s seq) (sym (take_more bodies i body lt))
-
 pub numbered_of : (s : Ring) (seq i given number me : ℕ) (ring : RingName) (bodies waiting : List Body) (own items : List Message) (body copy : Body) → bodies ≡ waiting
     → own ≡ numbered s seq (take i waiting) → i < length bodies → given ≡ seq + i → body ≡ get_or bodies i body → copy ≡ body → number ≡ given + 1 → ring ≡ s.ring → me ≡ s.me
     → items ≡ own ++ record { ring = ring; number = number; sender = me; body = copy } ∷ [] → items ≡ numbered s seq (take (i + 1) waiting)
 numbered_of s seq i given number me ring bodies waiting own items body copy whole far lt count at same is ring_is me_is put =
-    numbered_one s seq i given number me ring bodies own items body copy (far ∙ ap (λ bs. numbered s seq (take i bs)) (sym whole)) lt count at same is ring_is me_is put
-    ∙ ap (λ bs. numbered s seq (take (i + 1) bs)) whole
+    let len : length (take i bodies) ≡ i = length-take-le i bodies (omega arith) in
+    let the_number : number ≡ (seq + length (take i bodies)) + 1 = omega (arith, len) in
+    rw (← whole) (rw (put, far, ← whole, ring_is, me_is, the_number, same ∙ at) (sym (numbered_push s seq (take i bodies) (get_or bodies i body)) ∙ ap (numbered s seq) (sym (take_more bodies i body lt))))

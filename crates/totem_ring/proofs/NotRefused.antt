@@ -1,33 +1,23 @@
 -- The tests that a token passes if it isn't refused.
-use Rattle.std.proofs.Common.{◌≡◌, ◌<◌, nat_le, Bool, true, false, not, if◌then◌else◌, ◌&&◌, [], Some, None, refl, ap, eqb-true, leb-false}
+use Rattle.std.proofs.Common.{arith}
+use Rattle.totem_ring.proofs.Common.{◌≡◌, ◌<◌, Bool, true, false, not, if◌then◌else◌, ◌&&◌, [], Some, None, refl, ap, Token, Ring, taker_of, token_refusal, given}
 use Rattle.std.proofs.lemmas.List.{append-nil}
-use Rattle.totem_packets.specs.declared.token.Token.{Token}
 use Rattle.totem_ring.specs.declared.fault.RingFault.TheVariants.{OtherRing, Repeat, Range}
-use Rattle.totem_ring.specs.Rings.{Ring, same_ring, taker_of}
-use Rattle.totem_ring.specs.Refusals.{is_token_in_range, token_refusal}
-use Rattle.totem_ring.specs.Steps.{given}
 
 pub record IsTaken (s : Ring) (t : Token) : Type 0 where
   pub new : s.last < t.token_seq
   pub mine : taker_of s.members t.token_seq ≡ s.me
 
-passed : (a b c : Bool) → (if not a then Some OtherRing else if b then Some Repeat else if not c then Some Range else None) ≡ None → (b ≡ false) × (c ≡ true)
-passed false b c h = absurd cc
-passed true true c h = absurd cc
-passed true false false h = absurd cc
-passed true false true h = (refl, refl)
+-- a message or a token that isn't refused: it is no repeat, and in range
+pub passed : (a b c : Bool) → (if not a then Some OtherRing else if b then Some Repeat else if not c then Some Range else None) ≡ None → (b ≡ false) × (c ≡ true)
+passed a b c h = grind arith
 
 first_of_three : (a b c : Bool) → (a && b && c) ≡ true → a ≡ true
 first_of_three true b c h = refl
 first_of_three false b c h = h
 
 pub token_is_taken : (s : Ring) (t : Token) → token_refusal s t ≡ None → IsTaken s t
-token_is_taken s t h =
-    let both = passed (same_ring t.ring s.ring) (nat_le t.token_seq s.last) (is_token_in_range s t) h in
-    record {
-      new = leb-false t.token_seq s.last both.0;
-      mine = eqb-true (taker_of s.members t.token_seq) s.me (first_of_three _ _ _ both.1);
-    }
+token_is_taken s t h = grind (arith, passed, first_of_three)
 
 -- if no bodies are given, nothing more is waiting
 pub given_nothing : (s : Ring) (t : Token) → token_refusal (given s []) t ≡ token_refusal s t

@@ -1,7 +1,5 @@
 -- The n-th element of a list, counted from 1.
-use Rattle.std.proofs.Common.{◌≡◌, ℕ, ◌+◌, List, ◌++◌, slice_get, Some}
-use Rattle.totem_packets.specs.declared.message.Message.{Message}
-use Rattle.totem_packets.specs.declared.token.Token.{Token}
+use Rattle.totem_ring.proofs.Common.{◌≡◌, ℕ, ◌+◌, List, ◌++◌, slice_get, Some, Message, Token}
 use Rattle.totem_packets.specs.declared.packet.Packet.{Packet}
 use Rattle.totem_packets.specs.declared.packet.Packet.TheVariants.{Message as AMessage, Token as AToken, Join as AJoin, Commit as ACommit}
 use Rattle.totem_ring.proofs.Prefixes.{slice_get-append}

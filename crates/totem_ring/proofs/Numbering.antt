@@ -1,10 +1,5 @@
 -- The numbers that a visit gives.
-use Rattle.std.proofs.Common.{◌≡◌, ℕ, zero, suc, ◌+◌, ◌==◌, ◌⊎◌, inl, inr, List, [], ◌∷◌, ◌++◌, length, slice_get, true, false, Some, refl, sym, ◌∙◌, ap, subst, append_assoc, append-nil, length-append}
-use Rattle.totem_packets.specs.declared.message.Body.{Body}
-use Rattle.totem_packets.specs.declared.message.Message.{Message}
-use Rattle.totem_ring.specs.Rings.{Ring}
-use Rattle.totem_ring.specs.Visits.{numbered}
-use Rattle.totem_ring.specs.Order.{bodies_of}
+use Rattle.totem_ring.proofs.Common.{◌≡◌, ℕ, zero, suc, ◌+◌, ◌==◌, ◌⊎◌, inl, inr, List, [], ◌∷◌, ◌++◌, length, slice_get, true, false, Some, refl, sym, ◌∙◌, ap, subst, append_assoc, append-nil, length-append, Body, Message, Ring, numbered, bodies_of}
 use Rattle.totem_ring.proofs.HeldOnes.{StandIn}
 
 -- the number of each message is its place in the list

@@ -1,20 +1,9 @@
 -- Every schedule keeps the one order.
-use Rattle.std.proofs.Common.{◌≡◌, ℕ, List, [], ◌∷◌, ◌++◌, nat_lt, Option, Some, None, Bool, true, false, if◌then◌else◌, Ok, refl, sym, ◌∙◌, ap, append_assoc, append-nil, arith}
-use Rattle.std.specs.Prelude.{Contains}
-use Rattle.std.proofs.lemmas.List.Elements.{All-nil, All-cons, All-contains}
-use Rattle.totem_names.specs.Names.{RingName}
-use Rattle.totem_packets.specs.declared.message.Body.{Body}
-use Rattle.totem_packets.specs.declared.message.Message.{Message}
-use Rattle.totem_packets.specs.declared.token.Token.{Token}
+use Rattle.totem_ring.proofs.Common.{◌≡◌, ℕ, List, [], ◌∷◌, ◌++◌, Option, Some, None, Ok, refl, sym, ◌∙◌, ap, append_assoc, append-nil, arith, Contains, All-nil, All-cons, All-contains, RingName, Body, Message, Token, Ring, first_token, message_refusal, token_refusal, Done, act_on, submit, on_message, after_message, holding, on_token, after_token, on_resend, resent, kept_after, World, start, happens, world_after, MayCome, IsSchedule, run, submitted, IsPrefixOf, IsOneOrder, OneOrder, bodies_of}
 use Rattle.totem_packets.specs.declared.packet.Packet.TheVariants.{Message as AMessage, Token as AToken}
 use Rattle.totem_ring.specs.declared.moves.Act.{Act}
 use Rattle.totem_ring.specs.declared.moves.Act.TheVariants.{Submit as DoesSubmit, Message as GetsMessage, Token as GetsToken, Resend as DoesResend}
 use Rattle.totem_ring.specs.declared.moves.RingMove.{RingMove}
-use Rattle.totem_ring.specs.Rings.{Ring, first_token}
-use Rattle.totem_ring.specs.Refusals.{submit_refusal, message_refusal, token_refusal}
-use Rattle.totem_ring.specs.Steps.{Done, act_on, submit, after_submit, on_message, after_message, holding, on_token, after_token, on_resend, resent, kept_after}
-use Rattle.totem_ring.specs.Worlds.{World, start, happens, world_after, MayCome, IsSchedule, run, submitted}
-use Rattle.totem_ring.specs.Order.{IsPrefixOf, IsOneOrder, OneOrder, bodies_of}
 use Rattle.totem_ring.proofs.Prefixes.{one_begins, slice_get-append, bodies_begin}
 use Rattle.totem_ring.proofs.Nth.{IsNth, IsOf}
 use Rattle.totem_ring.proofs.HeldOnes.{AreOf-with_message}
@@ -48,26 +37,10 @@ same_tokens w p act done h same_last fit mine = record {
 }
 
 submit_keeps : (w : World) (p : ℕ) (body : Body) → HasOrder w → HasOrder (world_after w p (DoesSubmit body) (submit (w.state p) body))
-submit_keeps w p body h = unless_refused_keeps w p (DoesSubmit body) (submit_refusal (w.state p)) (after_submit (w.state p) body) h (λ _. same_tokens w p (DoesSubmit body) (after_submit (w.state p) body) h refl tt (
-    let mine = h.keeping.each p in
-    record {
-      me = mine.me;
-      members = mine.members;
-      held = mine.held;
-      handed = rw append-nil mine.handed;
-      begins = (mine.begins.0, rw append-nil mine.begins.1);
-      bodies = sym (append_assoc (bodies_of p h.msgs) (w.state p).waiting (body ∷ [])) ∙ ap (λ bodies. bodies ++ body ∷ []) mine.bodies;
-      kept = mine.kept;
-    }
-    ))
+submit_keeps w p body h = grind (arith, unless_refused_keeps, same_tokens, append-nil, append_assoc)
 
 kept_or_gone : (tokens : List Token) (kept : Option Token) (n : ℕ) → KeptIsOf tokens kept → KeptIsOf tokens (kept_after kept n)
-kept_or_gone tokens None n h = tt
-kept_or_gone tokens (Some t) n h = go (nat_lt t.seq n)
-  where
-    go : (b : Bool) → KeptIsOf tokens (if b then None else Some t)
-    go true = tt
-    go false = h
+kept_or_gone tokens kept n h = grind arith
 
 message_keeps : (w : World) (p : ℕ) (m : Message) → HasOrder w → Contains w.sent (AMessage m) → HasOrder (world_after w p (GetsMessage m) (on_message (w.state p) m))
 message_keeps w p m h sent = unless_refused_keeps w p (GetsMessage m) (message_refusal (w.state p) m) (after_message (w.state p) m) h (λ _. same_tokens w p (GetsMessage m) (after_message (w.state p) m) h refl tt (

@@ -1,10 +1,6 @@
 -- Lists of which one is a prefix of the other.
-use Rattle.std.proofs.Common.{◌≡◌, ◌==◌, ℕ, zero, suc, ◌⊎◌, inl, inr, List, [], ◌∷◌, ◌++◌, length, slice_get, Some, None, map, refl, sym, ◌∙◌, ap, append_assoc}
-use Rattle.std.specs.Prelude.{filter}
-use Rattle.std.proofs.lemmas.List.{map-append}
-use Rattle.std.proofs.lemmas.List.Elements.{filter-append}
-use Rattle.totem_packets.specs.declared.message.Message.{Message}
-use Rattle.totem_ring.specs.Order.{IsPrefixOf, bodies_of}
+use Rattle.std.proofs.Common.{arith}
+use Rattle.totem_ring.proofs.Common.{◌≡◌, ℕ, zero, suc, ◌⊎◌, inl, inr, List, [], ◌∷◌, ◌++◌, length, slice_get, Some, None, refl, sym, ◌∙◌, ap, append_assoc, map-append, filter-append, Message, IsPrefixOf, bodies_of}
 
 pub slice_get-append : {X : Type 0} (xs ys : List X) (k : ℕ) (x : X) → slice_get xs k ≡ Some x → slice_get (xs ++ ys) k ≡ Some x
 slice_get-append [] ys k x h = absurd cc
@@ -43,9 +39,7 @@ goes_on (y ∷ xs) (z ∷ zs) x (rest, e) h =
     (more.0, (let e' = more.1 in let joined : y ∷ ((xs ++ x ∷ []) ++ more.0) ≡ z ∷ zs = cc in joined))
 
 pub bodies_of-append : (p : ℕ) (xs ys : List Message) → bodies_of p (xs ++ ys) ≡ bodies_of p xs ++ bodies_of p ys
-bodies_of-append p xs ys =
-    ap (λ ms. map (λ (m : Message). m.body) ms) (filter-append (λ (m : Message). m.sender == p) xs ys)
-    ∙ map-append (λ (m : Message). m.body) (filter (λ (m : Message). m.sender == p) xs) (filter (λ (m : Message). m.sender == p) ys)
+bodies_of-append p xs ys = grind (arith, filter-append, map-append)
 
 -- what a process sends in a prefix is a prefix of what it sends in the whole
 pub bodies_begin : (p : ℕ) (xs zs : List Message) → IsPrefixOf xs zs → IsPrefixOf (bodies_of p xs) (bodies_of p zs)

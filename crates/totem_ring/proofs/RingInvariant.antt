@@ -1,16 +1,9 @@
 -- The invariant of every schedule, over two lists: the tokens in the order in which they were made, and the messages by number.
-use Rattle.std.proofs.Common.{◌≡◌, ℕ, ◌+◌, ◌==◌, ◌<◌, List, [], ◌∷◌, ◌++◌, length, Bool, true, false, if◌then◌else◌, Option, Some, None, Ok, refl, ◌∙◌, ap, append-nil, eqb-true, length-append}
+use Rattle.std.proofs.Common.{arith}
+use Rattle.totem_ring.proofs.Common.{◌≡◌, ℕ, ◌+◌, ◌==◌, ◌<◌, List, [], ◌∷◌, ◌++◌, length, Bool, true, false, if◌then◌else◌, Option, Some, None, Ok, refl, ◌∙◌, ap, append-nil, eqb-true, length-append, All-append, Body, Message, Token, Ring, taker_of, handed_up, after_hand_up, Done, unless_refused, World, world_after, submitted, IsPrefixOf, bodies_of}
 use Rattle.std.specs.Prelude.{All, ⊤}
-use Rattle.std.proofs.lemmas.List.Elements.{All-append}
-use Rattle.totem_packets.specs.declared.message.Body.{Body}
-use Rattle.totem_packets.specs.declared.message.Message.{Message}
-use Rattle.totem_packets.specs.declared.token.Token.{Token}
 use Rattle.totem_ring.specs.declared.fault.RingFault.{RingFault}
 use Rattle.totem_ring.specs.declared.moves.Act.{Act}
-use Rattle.totem_ring.specs.Rings.{Ring, taker_of, handed_up, after_hand_up}
-use Rattle.totem_ring.specs.Steps.{Done, unless_refused}
-use Rattle.totem_ring.specs.Worlds.{World, world_after, submitted}
-use Rattle.totem_ring.specs.Order.{IsPrefixOf, bodies_of}
 use Rattle.totem_ring.proofs.Prefixes.{begins_longer, bodies_of-append}
 use Rattle.totem_ring.proofs.Nth.{IsNth, IsNth-append, IsOf}
 use Rattle.totem_ring.proofs.HeldOnes.{AreOf, AreOf-append}
@@ -66,15 +59,7 @@ Keeps-longer members tokens more msgs new p s up accepted silent h = record {
 -- delivering to the node keeps the order
 pub Keeps-hand_up : (members : List ℕ) (tokens : List Token) (msgs : List Message) (p : ℕ) (s : Ring) (up : List Message) (accepted : List Body)
     → Keeps members tokens msgs p s up accepted → Keeps members tokens msgs p (after_hand_up s) (up ++ handed_up s) accepted
-Keeps-hand_up members tokens msgs p s up accepted h = record {
-  me = h.me;
-  members = h.members;
-  held = h.held;
-  handed = length-append up (handed_up s) ∙ ap (λ n. n + length (handed_up s)) h.handed;
-  begins = going_up_begins msgs up s.handed s.safe_to s.held h.handed h.begins h.held;
-  bodies = h.bodies;
-  kept = h.kept;
-}
+Keeps-hand_up members tokens msgs p s up accepted h = grind (arith, length-append, going_up_begins)
 
 -- a member that took no token
 pub Keeping-same_tokens : (w : World) (earlier : List Token) (newest : Token) (msgs : List Message) (p : ℕ) (act : Act) (done : Done)

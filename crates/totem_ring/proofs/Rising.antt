@@ -1,32 +1,13 @@
 -- Held messages with ascending numbers.
-use Rattle.std.proofs.Common.{◌≡◌, ℕ, ◌+◌, ◌^◌, ◌<◌, ◌≤◌, ◌==◌, ◌&&◌, ◌⊎◌, [], ◌∷◌, length, Option, Some, None, Bool, true, false, cond, refl, sym, ◌∙◌, ap, arith, inl, inr, eqb-true, le-leb}
-use Rattle.std.specs.Prelude.{is_some}
+use Rattle.totem_ring.proofs.Common.{◌≡◌, ℕ, ◌+◌, ◌^◌, ◌<◌, ◌≤◌, ◌==◌, ◌&&◌, ◌⊎◌, [], ◌∷◌, Option, Some, None, Bool, true, false, cond, refl, sym, ◌∙◌, ap, arith, inl, inr, eqb-true, le-leb, is_some, nat_cmp, MatchOrdering, match_ordering, is_eq, ranks, Ordering, Less, Equal, Greater, insert_entry, is_at, Message, Held, message_at, holds, whole_above, going_up, may_go_up, RisesFrom, IsWholeTo}
 use Rattle.std.proofs.lemmas.Bool.{lt-leb, ne_eqb, eqb-false, eq-eqb, cases_lt, cases_eq}
-use Rattle.std.specs.Ordering.{nat_cmp, MatchOrdering, match_ordering, is_eq}
-use Rattle.std.specs.Cmp.{ranks}
-use Rattle.std.specs.declared.cmp.Ordering.{Ordering}
-use Rattle.std.specs.declared.cmp.Ordering.TheVariants.{Less, Equal, Greater}
-use Rattle.std.specs.BTreeMap.{insert_entry, is_at}
 use Rattle.std.specs.Map.{remove_entry}
-use Rattle.totem_packets.specs.declared.message.Message.{Message}
-use Rattle.totem_ring.specs.Rings.{Held, message_at, holds, whole_above, going_up, may_go_up}
-use Rattle.totem_ring.specs.Invariant.{RisesFrom, IsWholeTo}
 
 pub at_same : (e : ℕ × Message) (es : Held) (k : ℕ) → k ≡ e.0 → message_at (e ∷ es) k ≡ Some e.1
-at_same e es k same = go (nat_cmp k e.0) (ranks k e.0)
-  where
-    go : (o : Ordering) → MatchOrdering o (k < e.0) (k ≡ e.0) (e.0 < k) → cond (is_eq o) (Some e.1) (message_at es k) ≡ Some e.1
-    go Less lt = absurd (omega arith)
-    go Equal eq = refl
-    go Greater gt = absurd (omega arith)
+at_same e es k same = grind arith
 
 pub at_other : (e : ℕ × Message) (es : Held) (k : ℕ) → (k ≡ e.0 → ⊥) → message_at (e ∷ es) k ≡ message_at es k
-at_other e es k other = go (nat_cmp k e.0) (ranks k e.0)
-  where
-    go : (o : Ordering) → MatchOrdering o (k < e.0) (k ≡ e.0) (e.0 < k) → cond (is_eq o) (Some e.1) (message_at es k) ≡ message_at es k
-    go Less lt = refl
-    go Equal eq = absurd (other eq)
-    go Greater gt = refl
+at_other e es k other = grind arith
 
 pub none_below : (low k : ℕ) (es : Held) → RisesFrom low es → k ≤ low → message_at es k ≡ None
 none_below low k [] h le = refl
@@ -50,25 +31,19 @@ Rises-insert low (e ∷ es) k m h above fits = go (nat_cmp k e.0) (ranks k e.0) 
     go Equal eq rest = (h.0, h.1, h.2)
     go Greater gt rest = (h.0, h.1, rest gt)
 
+-- removing a message that is the first
+remove_first : (k : ℕ) (m : Message) (es : Held) → remove_entry (is_at (nat_cmp k)) ((k, m) ∷ es) ≡ es
+remove_first k m es = grind arith
+
 -- removing a new message again
 pub remove-insert : (low : ℕ) (es : Held) (k : ℕ) (m : Message) → message_at es k ≡ None → remove_entry (is_at (nat_cmp k)) (insert_entry nat_cmp es k m) ≡ es
-remove-insert low [] k m none = itself (nat_cmp k k) (ranks k k)
-  where
-    itself : (o : Ordering) → MatchOrdering o (k < k) (k ≡ k) (k < k) → cond {A = Held} (is_eq o) [] ((k, m) ∷ []) ≡ []
-    itself Less lt = absurd (omega arith)
-    itself Equal eq = refl
-    itself Greater gt = absurd (omega arith)
+remove-insert low [] k m none = remove_first k m []
 remove-insert low (e ∷ es) k m none = go (nat_cmp k e.0) refl (ranks k e.0) none (λ none. remove-insert low es k m none)
   where
-    itself : (o : Ordering) → MatchOrdering o (k < k) (k ≡ k) (k < k) → cond {A = Held} (is_eq o) (e ∷ es) ((k, m) ∷ remove_entry (is_at (nat_cmp k)) (e ∷ es)) ≡ e ∷ es
-    itself Less lt = absurd (omega arith)
-    itself Equal eq = refl
-    itself Greater gt = absurd (omega arith)
-
     go : (o : Ordering) → nat_cmp k e.0 ≡ o → MatchOrdering o (k < e.0) (k ≡ e.0) (e.0 < k) → cond (is_eq o) (Some e.1) (message_at es k) ≡ None
         → (message_at es k ≡ None → remove_entry (is_at (nat_cmp k)) (insert_entry nat_cmp es k m) ≡ es)
         → remove_entry (is_at (nat_cmp k)) (match_ordering o ((k, m) ∷ e ∷ es) ((e.0, m) ∷ es) (e ∷ insert_entry nat_cmp es k m)) ≡ e ∷ es
-    go Less is lt none rest = itself (nat_cmp k k) (ranks k k)
+    go Less is lt none rest = remove_first k m (e ∷ es)
     go Equal is eq none rest = absurd cc
     go Greater is gt none rest = rw is (ap (λ tail. e ∷ tail) (rest none))
 
@@ -130,37 +105,32 @@ up_passed handed safe_to e es le =
 
 up_here : (handed safe_to : ℕ) (e : ℕ × Message) (es : Held) (may : Bool) → e.0 ≡ handed + 1 → may_go_up safe_to e ≡ may
     → going_up handed safe_to (e ∷ es) ≡ cond may (e.1 ∷ going_up (handed + 1) safe_to es) []
-up_here handed safe_to e es may same is =
-    ap (λ (b : Bool). cond b (going_up handed safe_to es) (cond ((e.0 == handed + 1) && may_go_up safe_to e) (e.1 ∷ going_up (handed + 1) safe_to es) [])) (lt-leb e.0 handed (omega arith))
-    ∙ ap (λ (b : Bool). cond (b && may_go_up safe_to e) (e.1 ∷ going_up (handed + 1) safe_to es) []) (eq-eqb e.0 (handed + 1) same)
-    ∙ ap (λ (b : Bool). cond b (e.1 ∷ going_up (handed + 1) safe_to es) []) is
+up_here handed safe_to e es may same is = grind (arith, lt-leb, eq-eqb)
 
 up_gap : (handed safe_to : ℕ) (e : ℕ × Message) (es : Held) → handed + 1 < e.0 → going_up handed safe_to (e ∷ es) ≡ []
-up_gap handed safe_to e es gap =
-    ap (λ (b : Bool). cond b (going_up handed safe_to es) (cond ((e.0 == handed + 1) && may_go_up safe_to e) (e.1 ∷ going_up (handed + 1) safe_to es) [])) (lt-leb e.0 handed (omega arith))
-    ∙ ap (λ (b : Bool). cond (b && may_go_up safe_to e) (e.1 ∷ going_up (handed + 1) safe_to es) []) (ne_eqb e.0 (handed + 1) (λ same. omega arith))
+up_gap handed safe_to e es gap = grind (arith, lt-leb, ne_eqb)
 
 -- how the number after handed compares with the others
 three_ways : (n handed : ℕ) → (n ≤ handed) ⊎ ((n ≡ handed + 1) ⊎ (handed + 1 < n))
 three_ways n handed = grind arith
 
--- the messages to deliver, one after another
-pub going_next : (low handed safe_to : ℕ) (es : Held) (m : Message) → RisesFrom low es → message_at es (handed + 1) ≡ Some m → may_go_up safe_to (handed + 1, m) ≡ true
-    → going_up handed safe_to es ≡ m ∷ going_up (handed + 1) safe_to es
-going_next low handed safe_to [] m h at may = absurd cc
-going_next low handed safe_to (e ∷ es) m h at may = elim (three_ways e.0 handed) [
+-- the messages to deliver, one after another: the next one, if it may be delivered
+pub going_at : (low handed safe_to : ℕ) (es : Held) (m : Message) (may : Bool) → RisesFrom low es → message_at es (handed + 1) ≡ Some m → may_go_up safe_to (handed + 1, m) ≡ may
+    → going_up handed safe_to es ≡ cond may (m ∷ going_up (handed + 1) safe_to es) []
+going_at low handed safe_to [] m may h at is = absurd cc
+going_at low handed safe_to (e ∷ es) m may h at is = elim (three_ways e.0 handed) [
   | inl le ↦
       up_passed handed safe_to e es le
-      ∙ going_next e.0 handed safe_to es m h.2 (sym (at_other e es (handed + 1) (λ same. omega arith)) ∙ at) may
-      ∙ ap (λ ms. m ∷ ms) (sym (up_passed (handed + 1) safe_to e es (omega arith)))
+      ∙ going_at e.0 handed safe_to es m may h.2 (sym (at_other e es (handed + 1) (λ same. omega arith)) ∙ at) is
+      ∙ ap (λ ms. cond may (m ∷ ms) []) (sym (up_passed (handed + 1) safe_to e es (omega arith)))
   | inr rest ↦ elim rest [
     | inl same ↦ (
-        let is : Some e.1 ≡ Some m = sym (at_same e es (handed + 1) (sym same)) ∙ at in
+        let found : Some e.1 ≡ Some m = sym (at_same e es (handed + 1) (sym same)) ∙ at in
         let the_message : e.1 ≡ m = cc in
-        let free : may_go_up safe_to (e.0, e.1) ≡ true = rw (same, the_message) may in
-        up_here handed safe_to e es true same free
-        ∙ ap (λ x. x ∷ going_up (handed + 1) safe_to es) the_message
-        ∙ ap (λ ms. m ∷ ms) (sym (up_passed (handed + 1) safe_to e es (omega arith)))
+        let free : may_go_up safe_to (e.0, e.1) ≡ may = rw (same, the_message) is in
+        up_here handed safe_to e es may same free
+        ∙ ap (λ x. cond may (x ∷ going_up (handed + 1) safe_to es) []) the_message
+        ∙ ap (λ ms. cond may (m ∷ ms) []) (sym (up_passed (handed + 1) safe_to e es (omega arith)))
         )
     | inr gap ↦ (
         let none : None ≡ Some m = sym (at_other e es (handed + 1) (λ same. omega arith) ∙ none_below e.0 (handed + 1) es h.2 (omega arith)) ∙ at in
@@ -178,34 +148,3 @@ going_none low handed safe_to (e ∷ es) h at = elim (three_ways e.0 handed) [
     | inr gap ↦ up_gap handed safe_to e es gap
   ]
 ]
-
-pub going_waits : (low handed safe_to : ℕ) (es : Held) (m : Message) → RisesFrom low es → message_at es (handed + 1) ≡ Some m → may_go_up safe_to (handed + 1, m) ≡ false
-    → going_up handed safe_to es ≡ []
-going_waits low handed safe_to [] m h at may = refl
-going_waits low handed safe_to (e ∷ es) m h at may = elim (three_ways e.0 handed) [
-  | inl le ↦ up_passed handed safe_to e es le ∙ going_waits e.0 handed safe_to es m h.2 (sym (at_other e es (handed + 1) (λ same. omega arith)) ∙ at) may
-  | inr rest ↦ elim rest [
-    | inl same ↦ (
-        let is : Some e.1 ≡ Some m = sym (at_same e es (handed + 1) (sym same)) ∙ at in
-        let the_message : e.1 ≡ m = cc in
-        let waits : may_go_up safe_to (e.0, e.1) ≡ false = rw (same, the_message) may in
-        up_here handed safe_to e es false same waits
-        )
-    | inr gap ↦ up_gap handed safe_to e es gap
-  ]
-]
-
--- the messages to deliver have numbers within the width
-pub going_fits : (low handed safe_to : ℕ) (es : Held) → RisesFrom low es → handed < 2 ^ 32 → handed + length (going_up handed safe_to es) < 2 ^ 32
-going_fits low handed safe_to [] h fits = omega arith
-going_fits low handed safe_to (e ∷ es) h fits = elim (three_ways e.0 handed) [
-  | inl le ↦ rw (up_passed handed safe_to e es le) (going_fits e.0 handed safe_to es h.2 fits)
-  | inr rest ↦ elim rest [
-    | inl same ↦ here (may_go_up safe_to e) refl same (going_fits e.0 (handed + 1) safe_to es h.2 (let small : e.0 < 2 ^ 32 = h.1 in omega arith))
-    | inr gap ↦ rw (up_gap handed safe_to e es gap) (omega arith)
-  ]
-]
-  where
-    here : (b : Bool) → may_go_up safe_to e ≡ b → e.0 ≡ handed + 1 → (handed + 1) + length (going_up (handed + 1) safe_to es) < 2 ^ 32 → handed + length (going_up handed safe_to (e ∷ es)) < 2 ^ 32
-    here true is same rest = rw (up_here handed safe_to e es true same is) (omega arith)
-    here false is same rest = rw (up_here handed safe_to e es false same is) (omega arith)

@@ -1,20 +1,9 @@
 -- A visit keeps the order: only the newest token can be taken, and only by one member.
-use Rattle.std.proofs.Common.{◌≡◌, ℕ, ◌+◌, ◌==◌, ◌<◌, inl, inr, List, [], ◌∷◌, ◌++◌, length, Bool, true, false, if◌then◌else◌, Some, Ok, refl, sym, ◌∙◌, ap, subst, append-nil, eqb-true, eq-eqb, ne_eqb, length-append, arith}
-use Rattle.std.specs.Prelude.{Contains}
-use Rattle.std.specs.List.{filter_map}
-use Rattle.std.proofs.lemmas.Bool.{eqb-false, cases_lt}
+use Rattle.totem_ring.proofs.Common.{◌≡◌, ℕ, ◌+◌, ◌==◌, ◌<◌, inl, inr, List, [], ◌∷◌, ◌++◌, length, Bool, true, false, if◌then◌else◌, Some, Ok, refl, sym, ◌∙◌, ap, subst, append-nil, eqb-true, eq-eqb, ne_eqb, length-append, arith, Contains, filter_map, eqb-false, cases_lt, All-append, All-weaker, Message, Token, Ring, taker_of, message_at, with_messages, handed_up, after_hand_up, visit, arrival, answer_requests, number_waiting, set_aru, request_missing, hand_up_safe, leaving, numbered, broadcasts, Done, World, world_after, bodies_of}
 use Rattle.totem_ring.specs.declared.outcome.To.{To}
 use Rattle.std.proofs.lemmas.Option.{slice_get_within}
-use Rattle.std.proofs.lemmas.List.Elements.{All-append, All-weaker, All-contains}
-use Rattle.totem_packets.specs.declared.message.Message.{Message}
-use Rattle.totem_packets.specs.declared.token.Token.{Token}
 use Rattle.totem_packets.specs.declared.packet.Packet.TheVariants.{Token as AToken}
 use Rattle.totem_ring.specs.declared.moves.Act.TheVariants.{Token as GetsToken}
-use Rattle.totem_ring.specs.Rings.{Ring, taker_of, message_at, with_messages, handed_up, after_hand_up}
-use Rattle.totem_ring.specs.Visits.{visit, arrival, answer_requests, number_waiting, set_aru, request_missing, hand_up_safe, leaving, numbered, broadcasts}
-use Rattle.totem_ring.specs.Steps.{Done}
-use Rattle.totem_ring.specs.Worlds.{World, world_after}
-use Rattle.totem_ring.specs.Order.{bodies_of}
 use Rattle.totem_ring.proofs.Prefixes.{begins_longer, bodies_of-append}
 use Rattle.totem_ring.proofs.Nth.{IsNth, IsOf, IsOf-append}
 use Rattle.totem_ring.proofs.HeldOnes.{StandIn, AreOf-append, AreOf-with_messages, StandIn-append}
@@ -26,18 +15,7 @@ use Rattle.totem_ring.proofs.NotRefused.{IsTaken}
 -- a token that is taken is the newest
 pub newest_is_taken : (w : World) (earlier : List Token) (newest : Token) (msgs : List Message) (p : ℕ) (t : Token)
     → Keeping w earlier newest msgs → Contains w.sent (AToken t) → IsTaken (w.state p) t → (t.token_seq ≡ length earlier + 1) × (newest ≡ t)
-newest_is_taken w earlier newest msgs p t h sent taken =
-    let nth : IsNth (earlier ++ newest ∷ []) t.token_seq t = All-contains (IsOf (earlier ++ newest ∷ []) msgs) w.sent (AToken t) h.sent sent in
-    elim (slice_get_push earlier newest nth.before t nth.at) [
-      | inl old ↦ absurd (again nth.before nth.after (h.taken nth.before (slice_get_within earlier nth.before t old)))
-      | inr (place, same) ↦ (nth.after ∙ ap (λ n. n + 1) place, same)
-    ]
-  where
-    again : (k : ℕ) → t.token_seq ≡ k + 1 → k < (w.state (taker_of w.members (k + 1))).last → ⊥
-    again k is below =
-        let by_me : taker_of w.members (k + 1) ≡ p = rw (← is, ← (h.each p).members) (taken.mine ∙ (h.each p).me) in
-        let at_p : k < (w.state p).last = rw by_me at below in
-        omega (arith, taken.new)
+newest_is_taken w earlier newest msgs p t h sent taken = grind (arith, slice_get_push, slice_get_within)
 
 -- a member that has numbered the waiting bodies
 abbrev numbered_ring : Ring → List Message → ℕ → ℕ → Ring

@@ -1,17 +1,12 @@
 -- Steps that can be taken back.
-use Rattle.std.proofs.Common.{◌≡◌, ℕ, ◌+◌, [], length, Option, Some, None, Result, Ok, Err, ◌∙◌, ap, refl}
-use Rattle.totem_packets.specs.declared.message.Message.{Message}
-use Rattle.totem_packets.specs.declared.token.Token.{Token}
+use Rattle.std.proofs.Common.{arith}
+use Rattle.totem_ring.proofs.Common.{◌≡◌, ℕ, ◌+◌, [], length, Option, Some, None, Ok, Err, refl, Message, Token, Ring, Held, with_message, going_up, message_refusal, Done, unless_refused, on_message, kept_after, AnswersUndoably, taken_back, kept_again}
 use Rattle.totem_ring.specs.declared.fault.RingFault.{RingFault}
 use Rattle.totem_ring.specs.declared.fault.RingFault.TheVariants.{Memory}
 use Rattle.totem_ring.specs.declared.outcome.RingOut.{RingOut}
 use Rattle.totem_ring.specs.declared.undo.RingUndo.{RingUndo}
 use Rattle.totem_ring.specs.declared.undo.RingUndo.TheVariants.{Message as OfMessage}
-use Rattle.totem_ring.specs.Rings.{Ring, Held, with_message, without, going_up}
-use Rattle.totem_ring.specs.Refusals.{message_refusal}
-use Rattle.totem_ring.specs.Steps.{Done, unless_refused, on_message, after_message, kept_after}
-use Rattle.totem_ring.specs.Answers.{Answers, IsDone}
-use Rattle.totem_ring.specs.Undoing.{AnswersUndoably, taken_back, kept_again}
+use Rattle.totem_ring.specs.Answers.{IsDone}
 use Rattle.totem_ring.proofs.Rising.{remove-insert}
 use Rattle.totem_ring.proofs.Holding.{not_held}
 
@@ -25,25 +20,9 @@ pub undoable_memory : (refusal : Option RingFault) (done : Done) (old new : Ring
 undoable_memory None done old new passed same = record { unchanged = same; fault_is = refl }
 undoable_memory (Some fault) done old new passed same = absurd cc
 
--- a call that is not taken back needs no undo
-pub without_undo : (out : RingOut) (undo : RingUndo) (old new : Ring) (r : Result Done RingFault) → AnswersUndoably (Ok (out, undo)) old new r → Answers (Ok out) old new r
-without_undo out undo old new (Ok done) h = h.is_done
-without_undo out undo old new (Err fault) h = h
-
-pub refused_too : (fault : RingFault) (old new : Ring) (r : Result Done RingFault) → AnswersUndoably (Err fault) old new r → Answers (Err fault) old new r
-refused_too fault old new (Ok done) h = h
-refused_too fault old new (Err written) h = h
-
 -- the code of a message does its step, which can be taken back
 pub message_comes : (s : Ring) (m : Message) (held : Held) (n : ℕ) (kept forgotten : Option Token) (out : RingOut)
     → message_refusal s m ≡ None → held ≡ with_message s.held m → out.handed.items ≡ going_up s.handed s.safe_to held → out.packets.items ≡ [] → n ≡ length out.handed.items
     → kept ≡ kept_after s.kept m.number → kept_again forgotten kept ≡ s.kept
     → AnswersUndoably (Ok (out, OfMessage m.number s.handed forgotten)) s (record s { held = held; handed = s.handed + n; kept = kept }) (on_message s m)
-message_comes s m held n kept forgotten out passed held_is up_is packets_is n_is kept_is again =
-    let back : without held m.number ≡ s.held = ap (λ held. without held m.number) held_is ∙ remove-insert 0 s.held m.number m (not_held s m passed) in
-    undoably (message_refusal s m) (after_message s m) out _ s _ passed
-    (record { state = cc; packets = packets_is; handed = cc })
-    (ap (λ (x : Held × Option Token). record s { held = x.0; kept = x.1 }) (pair back again))
-  where
-    pair : {a b : Held} {c d : Option Token} → a ≡ b → c ≡ d → ◌≡◌ {A = Held × Option Token} (a, c) (b, d)
-    pair p q = cc
+message_comes s m held n kept forgotten out passed held_is up_is packets_is n_is kept_is again = grind (arith, remove-insert, not_held, undoably)

@@ -1,10 +1,6 @@
 -- The steps of a walk over the messages to deliver.
-use Rattle.std.proofs.Common.{◌≡◌, ℕ, ◌+◌, ◌^◌, ◌<◌, ◌≤◌, List, [], ◌∷◌, ◌++◌, Option, Some, None, true, false, ap, sym, ◌∙◌, arith, append-nil, append_assoc}
-use Rattle.std.specs.Prelude.{is_some}
-use Rattle.totem_packets.specs.declared.message.Message.{Message}
-use Rattle.totem_ring.specs.Rings.{Held, message_at, holds, going_up, may_go_up}
-use Rattle.totem_ring.specs.Invariant.{RisesFrom, IsWholeTo}
-use Rattle.totem_ring.proofs.Rising.{none_past, going_none, going_next, going_waits}
+use Rattle.totem_ring.proofs.Common.{◌≡◌, ℕ, ◌+◌, ◌^◌, ◌<◌, ◌≤◌, List, [], ◌∷◌, ◌++◌, Some, None, true, false, ap, sym, ◌∙◌, arith, append-nil, append_assoc, Message, Held, message_at, holds, going_up, may_go_up, RisesFrom, IsWholeTo}
+use Rattle.totem_ring.proofs.Rising.{none_past, going_none, going_at}
 
 -- the list so far with what is still to be added
 pub record IsSoFar (up : List Message) (n handed safe_to : ℕ) (held : Held) : Type 0 where
@@ -18,7 +14,7 @@ ends_none up n handed safe_to held rises far at = ends up n handed safe_to held 
 
 pub ends_waits : (up : List Message) (n handed safe_to : ℕ) (held : Held) (m : Message) → RisesFrom 0 held → IsSoFar up n handed safe_to held → message_at held (n + 1) ≡ Some m → may_go_up safe_to (n + 1, m) ≡ false
     → up ≡ going_up handed safe_to held
-ends_waits up n handed safe_to held m rises far at may = ends up n handed safe_to held far (going_waits 0 n safe_to held m rises at may)
+ends_waits up n handed safe_to held m rises far at may = ends up n handed safe_to held far (going_at 0 n safe_to held m false rises at may)
 
 pub ends_full : (up : List Message) (n handed safe_to : ℕ) (held : Held) → RisesFrom 0 held → IsSoFar up n handed safe_to held → 4294967295 ≤ n → up ≡ going_up handed safe_to held
 ends_full up n handed safe_to held rises far full = ends_none up n handed safe_to held rises far (none_past 0 held (n + 1) rises (omega arith))
@@ -30,13 +26,9 @@ one_more up items n handed safe_to held m copy rises far at may same is = record
       ap (λ ms. ms ++ going_up (n + 1) safe_to held) is
       ∙ append_assoc up (copy ∷ []) (going_up (n + 1) safe_to held)
       ∙ ap (λ x. up ++ (x ∷ going_up (n + 1) safe_to held)) same
-      ∙ ap (λ ms. up ++ ms) (sym (going_next 0 n safe_to held m rises at may))
+      ∙ ap (λ ms. up ++ ms) (sym (going_at 0 n safe_to held m true rises at may))
       ∙ far.all;
 }
 
 pub whole_full : (low n : ℕ) (held : Held) → RisesFrom 0 held → n < 2 ^ 32 → 4294967295 ≤ n → low ≤ n → ((k : ℕ) → low < k → k ≤ n → holds held k ≡ true) → IsWholeTo held low 4294967295
-whole_full low n held rises small full begins whole = record {
-  begins = omega arith;
-  whole = λ k above under. whole k above (omega arith);
-  stops = ap (λ (o : Option Message). is_some o) (none_past 0 held 4294967296 rises (omega arith));
-}
+whole_full low n held rises small full begins whole = grind (arith, none_past)

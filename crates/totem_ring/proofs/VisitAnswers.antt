@@ -1,23 +1,12 @@
 -- The code of a visit does what the visit is defined to do.
-use Rattle.std.proofs.Common.{Vec, Global, ◌≡◌, ℕ, ◌+◌, ◌^◌, ◌<◌, List, [], ◌∷◌, ◌++◌, length, Option, Some, None, false, not, refl, sym, ◌∙◌, ap, arith}
-use Rattle.std.specs.Prelude.{All, filter, min, max}
-use Rattle.std.specs.List.{filter_map}
-use Rattle.totem_packets.specs.declared.message.Body.{Body}
-use Rattle.totem_packets.specs.declared.message.Message.{Message}
-use Rattle.totem_packets.specs.declared.token.Token.{Token}
+use Rattle.totem_ring.proofs.Common.{Vec, Global, ◌≡◌, ℕ, ◌+◌, ◌^◌, ◌<◌, List, [], ◌∷◌, ◌++◌, length, Option, Some, None, false, not, refl, sym, ◌∙◌, ap, arith, All, filter, min, max, filter_map, Body, Message, Token, up_to, Ring, Held, message_at, holds, with_messages, aru_of, going_up, next_of, token_refusal, holds_above, with_requests, Sending, broadcasts, numbered, aru_set, missing, after_token, IsDoneUndoably}
 use Rattle.totem_packets.specs.declared.packet.Packet.TheVariants.{Token as AToken}
 use Rattle.totem_ring.specs.declared.outcome.To.TheVariants.{One as ToOne}
 use Rattle.totem_ring.specs.declared.departure.Departure.{Departure}
 use Rattle.totem_ring.specs.declared.outcome.RingOut.{RingOut}
 use Rattle.totem_ring.specs.declared.requests.Answered.{Answered}
-use Rattle.totem_ring.specs.Rings.{up_to, Ring, Held, message_at, holds, with_messages, aru_of, going_up, next_of}
-use Rattle.totem_ring.specs.Refusals.{token_refusal, holds_above}
-use Rattle.totem_ring.specs.Requests.{with_requests}
-use Rattle.totem_ring.specs.Visits.{Sending, broadcasts, numbered, aru_set, missing}
-use Rattle.totem_ring.specs.Steps.{after_token}
 use Rattle.totem_ring.specs.declared.undo.RingUndo.TheVariants.{Visit as OfVisit}
 use Rattle.totem_ring.specs.Answers.{IsDone}
-use Rattle.totem_ring.specs.Undoing.{IsDoneUndoably}
 use Rattle.totem_ring.specs.Departures.{IsAnswered, IsDeparture}
 use Rattle.totem_ring.proofs.Numbering.{length-numbered}
 use Rattle.totem_ring.proofs.VisitSteps.{has_passed, numbered_above, forgotten}
@@ -40,9 +29,7 @@ pub record Computed (s : Ring) (t : Token) (held : Held) (my_aru seq aru : ℕ) 
 is_done : (s : Ring) (t : Token) (held : Held) (my_aru seq aru : ℕ) (aru_id : Option ℕ) (rtr : List ℕ) (safe_to n : ℕ) (leaving : Token) (out : RingOut)
     → Computed s t held my_aru seq aru aru_id rtr safe_to n out.handed.items out.packets.items leaving
     → IsDone out (record { me = s.me; ring = s.ring; members = s.members; held = held; handed = s.handed + n; safe_to = safe_to; sent_aru = aru; last = t.token_seq; waiting = []; kept = Some leaving }) (after_token s t)
-is_done s t held my_aru seq aru aru_id rtr safe_to n leaving out h =
-    let e1 = h.held_is in let e2 = h.aru_of_is in let e3 = h.seq_is in let e4 = h.aru_is in let e5 = h.aru_id_is in let e6 = h.rtr_is in let e7 = h.safe_is in let e8 = h.up_is in let e9 = h.n_is in let e10 = h.leaving_is in let e11 = h.packets_is in
-    record { state = cc; packets = cc; handed = cc }
+is_done s t held my_aru seq aru aru_id rtr safe_to n leaving out h = grind arith
 
 -- the count of waiting bodies
 pub own_count : (s : Ring) (t : Token) (own : List Message) (n : ℕ) → own ≡ numbered s t.seq s.waiting → n ≡ length own → n ≡ length s.waiting
@@ -117,8 +104,5 @@ departs s t held answered own lent n last waiting waited kept d passed own_is le
     let back : up_to t.seq held ≡ s.held = back_again s t s.held held (up_to t.seq held) own lent passed own_is refl lent_is held_is refl in
     record {
       is_done = rw (waiting_is, last_is) done;
-      undone = ap (λ (x : Held × List Body × Option Token). record s { held = x.0; waiting = x.1; kept = x.2 }) (triple back waited_is kept_is);
+      undone = rw (back, waited_is, kept_is) refl;
     }
-  where
-    triple : {a b : Held} {c d : List Body} {e f : Option Token} → a ≡ b → c ≡ d → e ≡ f → ◌≡◌ {A = Held × List Body × Option Token} (a, c, e) (b, d, f)
-    triple p q r = cc

@@ -1,22 +1,10 @@
 -- The steps of a process of a script.
-use Rattle.std.proofs.Common.{◌≡◌, ◌≢◌, ℕ, zero, suc, ◌<◌, ◌≤◌, ◌+◌, List, [], ◌∷◌, ◌++◌, length, Bool, true, false, cond, Some, Ok, Err, nat_lt, refl, ap, ◌∙◌, arith}
-use Rattle.std.specs.Prelude.{slice_get}
-use Rattle.std.proofs.lemmas.Bool.Decides.{nat_tests}
-use Rattle.totem_names.specs.Names.{RingName}
-use Rattle.totem_evs.specs.declared.entry.Entry.{Entry}
+use Rattle.totem_script.proofs.Common.{◌≡◌, ◌≢◌, ℕ, zero, suc, ◌<◌, ◌≤◌, ◌+◌, List, [], ◌∷◌, ◌++◌, length, Bool, true, false, cond, Some, Ok, Err, nat_lt, refl, ap, ◌∙◌, arith, slice_get, nat_tests, RingName, Entry, Standing, Failed, Quiet, LogRecord, IsFailure, EndsInFail, IsClosedBy, Sending, Input, Node, new_node, IsRefused, first_change}
 use Rattle.totem_evs.specs.declared.entry.Entry.TheVariants.{Conf, Send, Deliver, Fail}
 use Rattle.totem_evs.specs.declared.ending.Ending.{Ending}
-use Rattle.totem_evs.specs.declared.ending.Ending.TheVariants.{Standing, Failed, Quiet}
-use Rattle.totem_evs.specs.LogRecord.{LogRecord}
-use Rattle.totem_evs.specs.Runs.{IsFailure, EndsInFail, IsClosedBy}
-use Rattle.totem_ring.specs.Visits.{Sending}
-use Rattle.totem_core.specs.declared.input.Input.{Input}
 use Rattle.totem_core.specs.declared.fault.NodeFault.{NodeFault}
 use Rattle.totem_core.specs.declared.fault.NodeFault.TheVariants as node
 use Rattle.totem_core.specs.declared.ring_step.RingStep.{RingStep}
-use Rattle.totem_core.specs.Nodes.{Node, new_node}
-use Rattle.totem_core.specs.Outcomes.{IsRefused}
-use Rattle.totem_core.specs.Replay.{first_change}
 use Rattle.totem_core.specs.Table.{step}
 use Rattle.totem_script.specs.declared.script_fault.ScriptFault.TheVariants.{TooMany}
 use Rattle.totem_script.specs.Actors.{Actor, new_actor, after_step, actor_step, is_failure, ends_in_failure, log_with}

@@ -1,8 +1,5 @@
 -- The digits of a number, one after the other.
-use Rattle.std.proofs.Common.{◌≡◌, ℕ, ◌<◌, ◌≤◌, ◌+◌, ◌-◌, ◌*◌, List, [], ◌∷◌, length, get_or, drop, true, false, Ok, Err, refl, ap, ◌∙◌, arith}
-use Rattle.std.proofs.lemmas.List.{drop_more, drop_all}
-use Rattle.std.proofs.lemmas.Bool.Decides.{nat_tests}
-use Rattle.totem_names.specs.Numbers.{is_digit}
+use Rattle.totem_script.proofs.Common.{◌≡◌, ℕ, ◌<◌, ◌≤◌, ◌+◌, ◌-◌, ◌*◌, List, [], ◌∷◌, length, get_or, drop, true, false, Ok, Err, refl, ap, ◌∙◌, arith, drop_more, drop_all, nat_tests, is_digit}
 use Rattle.totem_script.specs.declared.fault.LineFault.TheVariants.{Word, Number}
 use Rattle.totem_script.specs.Numbers.{begins_number, digits_in, number_in}
 

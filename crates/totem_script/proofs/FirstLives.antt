@@ -1,54 +1,27 @@
 -- In a script of version 1 no life but the first is named.
-use Rattle.std.proofs.Common.{◌≡◌, ℕ, zero, suc, ◌+◌, ◌-◌, ◌==◌, not, Bool, true, false, List, [], ◌∷◌, length, map, take, drop, Option, None, Some, Result, Ok, Err, nat_lt, refl, ◌∙◌, arith}
-use Rattle.std.specs.Prelude.{if◌then◌else◌, IfOk, IfSome, All, slice_get, codes}
+use Rattle.totem_script.proofs.Common.{◌≡◌, ℕ, zero, suc, ◌+◌, ◌-◌, ◌==◌, not, Bool, true, false, List, [], ◌∷◌, length, map, take, drop, Option, None, Some, Ok, Err, nat_lt, refl, ◌∙◌, arith, if◌then◌else◌, IfOk, IfSome, All, slice_get, codes, All-nil, All-cons, All-head, All-tail, All-append, All-push, All-take, All-drop, RingName, id_of, life_of, Packet, RunRecord, AreFirst, HasFirstLives, Sending, first_rank, first_ranks, Input, Stepped, Outcome, first_change, ◌>>=◌, Judged, by_line, process_in, ring_in, only, FitVersion, version_of, run_of}
 use Rattle.std.specs.Str.{bytes_eq}
-use Rattle.std.proofs.lemmas.List.Elements.{All-nil, All-cons, All-head, All-tail, All-append, All-push, All-take, All-drop}
-use Rattle.totem_names.specs.Names.{RingName}
-use Rattle.totem_names.specs.Ranks.{id_of, life_of}
 use Rattle.totem_names.specs.declared.message.Service.{Service}
-use Rattle.totem_packets.specs.declared.packet.Packet.{Packet}
-use Rattle.totem_evs.specs.RunRecord.{RunRecord}
-use Rattle.totem_evs.specs.Lives.{AreFirst, HasFirstLives}
 use Rattle.totem_ring.specs.declared.outcome.To.{To}
 use Rattle.totem_ring.specs.declared.outcome.To.TheVariants.{All as ToAll, One as ToOne}
-use Rattle.totem_ring.specs.Visits.{Sending}
-use Rattle.totem_recover.specs.Lives.{first_rank, first_ranks}
-use Rattle.totem_core.specs.declared.input.Input.{Input}
 use Rattle.totem_core.specs.declared.input.Input.TheVariants as input
-use Rattle.totem_core.specs.Nodes.{Stepped}
-use Rattle.totem_core.specs.Outcomes.{Outcome}
-use Rattle.totem_core.specs.Replay.{first_change}
 use Rattle.totem_core.specs.Table.{step}
 use Rattle.totem_core.specs.FirstLives.{IsFirstPacket, IsFirstSending, IsFirstInput, IsFirstEntry, IsFirstNode, IsFirstStep}
-use Rattle.totem_core.proofs.FirstLives.{step_stays}
+use Rattle.totem_core.proofs.FirstLives.{if_holds, then_holds, Anything, anyway, step_stays}
 use Rattle.totem_script.specs.declared.command.Command.{Command}
 use Rattle.totem_script.specs.declared.command.Command.TheVariants as command
 use Rattle.totem_script.specs.declared.keyword.Keyword.{Keyword}
 use Rattle.totem_script.specs.declared.script_version.ScriptVersion.{ScriptVersion}
 use Rattle.totem_script.specs.declared.script_version.ScriptVersion.TheVariants as script
-use Rattle.totem_script.specs.Judged.{Judged, ◌>>=◌, by_line}
-use Rattle.totem_script.specs.Parsed as parsed
 use Rattle.totem_script.specs.Parsed.{Parsed}
 use Rattle.totem_script.specs.Keywords.{keyword_of}
-use Rattle.totem_script.specs.Numbers.{process_in, ring_in, only}
 use Rattle.totem_script.specs.Commands.{words_of, number_words, process_words, some_processes, service_in, payload_in, payload_words, service_words, submit_words, ring_words, groups_from, count_command, process_command, command_by, command_named, command_in, command_of}
 use Rattle.totem_script.specs.Actors.{Actor, ActorStepped, new_actor, after_step, actor_step, log_of, logs_of}
 use Rattle.totem_script.specs.Casts.{CastStepped, logs_in, with_actor, with_nodes, with_ring, may_make, lives_of, with_return, cast_step, is_known}
 use Rattle.totem_script.specs.Scenes.{Queue, Scene, empty_scene, may_pass, to_others, posted_to, posted, posted_all, scene_step, named_step, run_one, run_times, with_first_token, once_more, is_partition, effect, makes_ring, is_in_order, carried_out}
 use Rattle.totem_script.specs.Lines.{lines_of}
 use Rattle.totem_script.specs.Simulation.{Texts, Told, LinePlayed, at_line, and_then, line_played, closing, play, first_headed, simulate}
-use Rattle.totem_script.specs.Versions.{FitVersion, version_of, run_of}
 use Rattle.totem_script.proofs.Judging.{a_head}
-
--- ---- what becomes of values that may be missing
-
-if_holds : {A E : Type 0} (P : A → Type 0) (b : Bool) (v w : Result A E) → IfOk v P → IfOk w P → IfOk (if b then v else w) P
-if_holds P true v w then_so else_so = then_so
-if_holds P false v w then_so else_so = else_so
-
-then_holds : {A B : Type 0} (P : A → Type 0) (Q : B → Type 0) (v : Judged A) (f : A → Judged B) → IfOk v P → ((x : A) → P x → IfOk (f x) Q) → IfOk (v >>= f) Q
-then_holds P Q (Ok x) f is each = each x is
-then_holds P Q (Err fault) f is each = tt
 
 -- ---- what a script has, where no life but the first is named
 
@@ -257,9 +230,8 @@ carried_first s c is kind =
 
 -- ---- no line of version 1 says `return`
 
-then_parsed : {A B : Type 0} (Q : B → Type 0) (v : Parsed A) (f : A → Parsed B) → ((x : A) → IfOk (f x) Q) → IfOk (parsed.◌>>=◌ v f) Q
-then_parsed Q (Ok x) f each = each x
-then_parsed Q (Err fault) f each = tt
+then_parsed : {A B : Type 0} (Q : B → Type 0) (v : Parsed A) (f : A → Parsed B) → ((x : A) → IfOk (f x) Q) → IfOk (v >>= f) Q
+then_parsed Q v f each = then_holds Anything Q v f (anyway v) (λ x any. each x)
 
 only_this : (c : Command) (ws : List (List ℕ)) → BringsNobodyBack c → IfOk (only c ws) BringsNobodyBack
 only_this c [] kind = kind
@@ -325,13 +297,6 @@ first_command : (version : ScriptVersion) (line : List ℕ) → version ≡ scri
 first_command version line is = rw is (in_words (words_of line))
 
 -- ---- the version stays
-
-abbrev pub Anything : {A : Type 0} → A → Type 0
-Anything x = Unit {0}
-
-anyway : {A E : Type 0} (v : Result A E) → IfOk v Anything
-anyway (Ok x) = tt
-anyway (Err fault) = tt
 
 module _ (version : ScriptVersion) where
   abbrev pub IsIn : Scene → Type 0

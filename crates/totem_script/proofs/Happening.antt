@@ -1,15 +1,8 @@
 -- What becomes of a scene.
-use Rattle.std.proofs.Common.{◌≡◌, ℕ, zero, suc, ◌<◌, ◌+◌, ◌-◌, List, [], ◌∷◌, ◌++◌, length, get_or, take, Ok, refl, ap, ◌∙◌, arith, append-nil}
-use Rattle.std.specs.List.{concat}
-use Rattle.std.proofs.lemmas.List.{take_more}
+use Rattle.totem_script.proofs.Common.{◌≡◌, ℕ, zero, suc, ◌<◌, ◌+◌, ◌-◌, List, [], ◌∷◌, ◌++◌, length, get_or, take, Ok, refl, ap, ◌∙◌, arith, append-nil, concat, take_more, Packet, Sending, Input, ◌>>=◌, Judged, Fails, Actor}
 use Rattle.std.proofs.lemmas.List.Folds.{concat-append}
-use Rattle.totem_packets.specs.declared.packet.Packet.{Packet}
-use Rattle.totem_ring.specs.Visits.{Sending}
-use Rattle.totem_core.specs.declared.input.Input.{Input}
 use Rattle.totem_core.specs.declared.input.Input.TheVariants as input
 use Rattle.totem_script.specs.declared.script_fault.ScriptFault.{ScriptFault}
-use Rattle.totem_script.specs.Judged.{Judged, Fails, ◌>>=◌}
-use Rattle.totem_script.specs.Actors.{Actor}
 use Rattle.totem_script.specs.Casts.{cast_step}
 use Rattle.totem_script.specs.Scenes.{Queue, Scene, posted_all, scene_step, run_one, run_times}
 

@@ -1,21 +1,14 @@
 -- A script, line by line.
-use Rattle.std.proofs.Common.{◌≡◌, ℕ, zero, suc, ◌≤◌, ◌+◌, ◌==◌, List, [], ◌∷◌, length, drop, Bool, true, false, cond, Ok, Err, refl, ap, ◌∙◌, arith}
-use Rattle.std.proofs.lemmas.List.{length-drop}
-use Rattle.totem_evs.specs.RunRecord.{RunRecord}
+use Rattle.totem_script.proofs.Common.{◌≡◌, ℕ, zero, suc, ◌≤◌, ◌+◌, ◌==◌, List, [], ◌∷◌, length, drop, Bool, true, false, cond, Ok, Err, refl, ap, ◌∙◌, arith, length-drop, RunRecord, command_of, Fails, logs_in, Scene, empty_scene, carried_out, run_of}
 use Rattle.totem_script.specs.declared.command.Command.{Command}
 use Rattle.totem_script.specs.declared.fault.LineFault.{LineFault}
 use Rattle.totem_script.specs.declared.script_fault.FaultyLine.{FaultyLine}
 use Rattle.totem_script.specs.declared.script_fault.ScriptFault.{ScriptFault}
 use Rattle.totem_script.specs.declared.script_fault.ScriptFault.TheVariants.{End, Truncated}
 use Rattle.totem_script.specs.declared.script_version.ScriptVersion.{ScriptVersion}
-use Rattle.totem_script.specs.Commands.{command_of}
 use Rattle.totem_script.specs.Lines.{lines_of, longer_line}
-use Rattle.totem_script.specs.Judged.{Fails}
 use Rattle.totem_script.specs.Parsed as parsed
 use Rattle.totem_script.specs.ScriptFaults.{of_line}
-use Rattle.totem_script.specs.Casts.{logs_in}
-use Rattle.totem_script.specs.Scenes.{Scene, empty_scene, carried_out}
-use Rattle.totem_script.specs.Versions.{run_of}
 use Rattle.totem_script.specs.Simulation.{Texts, Told, is_end, line_played, closing, play, all_played, simulate, FailsAt, first_line_played, first_headed}
 
 -- ---- A line

@@ -1,9 +1,6 @@
 -- Where a script's lines end.
-use Rattle.std.proofs.Common.{◌≡◌, ◌≢◌, ℕ, zero, suc, ◌<◌, ◌≤◌, ◌+◌, ◌-◌, ◌==◌, List, [], ◌∷◌, length, get_or, take, drop, Bool, true, false, cond, Ok, Err, refl, sym, ap, ◌∙◌, arith}
-use Rattle.std.proofs.lemmas.Bool.{eq-eqb, ne_eqb}
-use Rattle.std.proofs.lemmas.List.{get_or-take}
+use Rattle.totem_script.proofs.Common.{◌≡◌, ◌≢◌, ℕ, zero, suc, ◌<◌, ◌≤◌, ◌+◌, ◌-◌, ◌==◌, List, [], ◌∷◌, length, get_or, take, drop, Bool, true, false, cond, Ok, Err, refl, sym, ap, ◌∙◌, arith, eq-eqb, ne_eqb, get_or-take, Judged}
 use Rattle.totem_script.specs.declared.script_fault.ScriptFault.TheVariants.{Truncated, TooMany}
-use Rattle.totem_script.specs.Judged.{Judged}
 use Rattle.totem_script.specs.Lines.{longer_line, lines_of}
 
 -- no line ends before i

@@ -1,27 +1,15 @@
 -- A process that returns.
-use Rattle.std.proofs.Common.{◌≡◌, ◌≢◌, ℕ, ◌<◌, ◌+◌, ◌&&◌, List, [], ◌∷◌, ◌++◌, Bool, true, false, nat_lt, nat_le, refl, ap, arith}
-use Rattle.std.proofs.lemmas.Bool.Decides.{nat_tests}
-use Rattle.totem_names.specs.Names.{RingName}
-use Rattle.totem_names.specs.Ranks.{id_of, life_of}
-use Rattle.totem_evs.specs.declared.entry.Entry.{Entry}
-use Rattle.std.proofs.lemmas.List.Elements.{All-push}
-use Rattle.totem_evs.specs.LogRecord.{LogRecord}
-use Rattle.totem_evs.specs.declared.ending.Ending.TheVariants.{Quiet}
-use Rattle.totem_core.specs.Nodes.{Node, new_node}
-use Rattle.totem_core.specs.Replay.{first_change}
+use Rattle.totem_script.proofs.Common.{◌≡◌, ◌≢◌, ℕ, ◌<◌, ◌+◌, ◌&&◌, List, [], ◌∷◌, ◌++◌, true, nat_lt, nat_le, refl, ap, arith, nat_tests, RingName, id_of, life_of, Entry, All-push, LogRecord, Quiet, Node, new_node, first_change}
+use Rattle.std.proofs.lemmas.Bool.{and_parts}
 use Rattle.totem_script.specs.Laws.{CanReturn}
 use Rattle.totem_script.specs.Actors.{Actor, new_actor, log_of, may_return, next_life, ring_of_return, returned, procs_in, IsBelowAll, Rises, AreLives, IsHistory}
 
 -- ---- What the tests say
 
-both : (a b : Bool) → (a && b) ≡ true → (a ≡ true) × (b ≡ true)
-both true b is = (refl, is)
-both false b is = absurd (cc)
-
 pub can_return : (a : Actor) → may_return a ≡ true → CanReturn a
 can_return a may =
-    let crashed = both a.node.crashed (nat_lt (life_of a.proc) 65535 && nat_le (a.node.seq + 4) 4294967295) may in
-    let numbers = both (nat_lt (life_of a.proc) 65535) (nat_le (a.node.seq + 4) 4294967295) crashed.1 in
+    let crashed = and_parts a.node.crashed (nat_lt (life_of a.proc) 65535 && nat_le (a.node.seq + 4) 4294967295) may in
+    let numbers = and_parts (nat_lt (life_of a.proc) 65535) (nat_le (a.node.seq + 4) 4294967295) crashed.1 in
     let less = numbers.0 in
     let most = numbers.1 in
     record { crashed = crashed.0; life = grind (arith, nat_tests); seq = grind (arith, nat_tests) }

@@ -1,12 +1,8 @@
 -- The result of a return.
+use Rattle.totem_script.proofs.Common.{Contains, slice_index_or, eqb-true, nat_tests, id_of, life_of, ◌>>=◌, Judged}
 use Rattle.std.proofs.Common.{◌≡◌, ◌⊎◌, ◌↔◌, ℕ, zero, suc, ◌<◌, ◌+◌, ◌==◌, List, [], ◌∷◌, ◌++◌, length, Bool, true, false, cond, Ok, Err, nat_lt, refl, ap, subst, ◌∙◌, inl, inr, eq-eqb, arith}
-use Rattle.std.specs.Prelude.{Contains, slice_index_or}
 use Rattle.std.specs.Result.{IsOk}
-use Rattle.std.proofs.lemmas.Bool.{eqb-true}
-use Rattle.std.proofs.lemmas.Bool.Decides.{nat_tests}
-use Rattle.totem_names.specs.Ranks.{id_of, life_of}
 use Rattle.totem_script.specs.declared.script_fault.ScriptFault.TheVariants.{Members, Place, TooMany}
-use Rattle.totem_script.specs.Judged.{Judged, ◌>>=◌}
 use Rattle.totem_script.specs.Actors.{Actor, new_actor, may_return, next_life, returned, ring_of_return, IsBelowAll, Rises}
 use Rattle.totem_script.specs.Casts.{Returned, IsCast, ids_in, is_known, lives_of, return_of, with_return}
 use Rattle.totem_script.specs.Laws.{CanReturn, ReturnsIfCrashed, IsNextLife}

@@ -1,11 +1,6 @@
 -- Packets that are put on their way, one after the other.
-use Rattle.std.proofs.Common.{◌≡◌, ℕ, ◌<◌, ◌≤◌, ◌+◌, ◌==◌, ◌&&◌, List, [], ◌∷◌, ◌++◌, length, get_or, drop, Bool, true, false, not, Option, sym, ap, ◌∙◌, append_assoc, append-nil}
-use Rattle.std.proofs.lemmas.List.{drop_more, drop_all}
+use Rattle.totem_script.proofs.Common.{◌≡◌, ℕ, ◌<◌, ◌≤◌, ◌+◌, ◌==◌, ◌&&◌, List, [], ◌∷◌, ◌++◌, length, get_or, drop, Bool, true, false, not, Option, sym, ap, ◌∙◌, append_assoc, append-nil, drop_more, drop_all, id_of, Packet, Sending, Actor}
 use Rattle.std.proofs.lemmas.Grind.{flat_map-append}
-use Rattle.totem_names.specs.Ranks.{id_of}
-use Rattle.totem_packets.specs.declared.packet.Packet.{Packet}
-use Rattle.totem_ring.specs.Visits.{Sending}
-use Rattle.totem_script.specs.Actors.{Actor}
 use Rattle.totem_script.specs.Scenes.{Queue, may_pass, to_others, posted, posted_all}
 
 module _ (cut : Option (List (List ℕ))) (from : ℕ) (packet : Packet) (actors : List Actor) (start now : Queue) (i : ℕ) (a : Actor)

@@ -1,14 +1,9 @@
 -- Lists of processes and groups, word by word.
-use Rattle.std.proofs.Common.{◌≡◌, ◌≢◌, ℕ, ◌++◌, List, [], ◌∷◌, Ok, Err, None, Some, refl, ap, ◌∙◌}
+use Rattle.totem_script.proofs.Common.{◌≡◌, ◌≢◌, ℕ, ◌++◌, List, [], ◌∷◌, Ok, Err, None, Some, refl, ap, ◌∙◌, process_in}
 use Rattle.totem_script.specs.declared.fault.LineFault.{LineFault}
 use Rattle.totem_script.specs.declared.fault.LineFault.TheVariants.{Word}
-use Rattle.totem_script.specs.Numbers.{process_in}
 use Rattle.totem_script.specs.Commands.{processes_from, group_word, groups_from}
-use Rattle.totem_script.specs.Parsed.{Parsed, Fails}
-
--- a fault of the parser is one of its answers
-pub fails : {A : Type 0} (fault : LineFault) (parsed whole : Parsed A) → whole ≡ parsed → parsed ≡ Err fault → Fails fault whole
-fails fault parsed whole same is = record { is = λ other. same ∙ is }
+use Rattle.totem_script.specs.Parsed.{Parsed}
 
 module _ (whole : Parsed (List ℕ)) (procs : List ℕ) (words : List (List ℕ)) (so_far : whole ≡ processes_from procs words) where
   pub no_word : words ≡ [] → whole ≡ Ok procs

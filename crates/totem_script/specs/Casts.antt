@@ -9,7 +9,8 @@ use Rattle.totem_ring.specs.Visits.{Sending}
 use Rattle.totem_recover.specs.Lives.{first_ranks}
 use Rattle.totem_core.specs.declared.input.Input.{Input}
 use Rattle.totem_script.specs.declared.script_fault.ScriptFault.TheVariants.{Members, Place, TooMany}
-use Rattle.totem_script.specs.Judged.{Judged, Fails, ◌>>=◌}
+use Rattle.totem_names.specs.Sources.{◌>>=◌}
+use Rattle.totem_script.specs.Judged.{Judged, Fails}
 use Rattle.totem_script.specs.Actors.{Actor, new_actor, actor_step, logs_of, may_return, returned, ring_of_return, Rises}
 
 -- the identifiers: of each there is one process, in its present life

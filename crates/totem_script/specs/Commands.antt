@@ -14,7 +14,8 @@ use Rattle.totem_script.specs.declared.keyword.Keyword.TheVariants as keyword
 use Rattle.totem_script.specs.declared.script_version.ScriptVersion.{ScriptVersion}
 use Rattle.totem_script.specs.Keywords.{keyword_of}
 use Rattle.totem_script.specs.Numbers.{number_in, process_in, ring_in, only}
-use Rattle.totem_script.specs.Parsed.{Parsed, ◌>>=◌}
+use Rattle.totem_names.specs.Sources.{◌>>=◌}
+use Rattle.totem_script.specs.Parsed.{Parsed}
 use Rattle.totem_script.specs.Parts.{parts}
 
 -- the words of a line, which single spaces separate

@@ -8,12 +8,6 @@ use Rattle.totem_script.specs.Parsed.{Parsed}
 abbrev pub Judged : Type 0 → Type 0
 Judged A = Result A ScriptFault
 
--- one part after the other, up to the first fault
-infixl 10 ◌>>=◌
-abbrev pub ◌>>=◌ : {A B : Type 0} → Judged A → (A → Judged B) → Judged B
-(Ok x) >>= f = f x
-(Err fault) >>= f = Err fault
-
 -- a line's command, or the line's fault as the script's
 abbrev pub by_line : {A : Type 0} → Parsed A → Judged A
 by_line (Ok x) = Ok x

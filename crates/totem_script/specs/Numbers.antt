@@ -3,7 +3,8 @@ use Rattle.std.specs.Prelude.{ℕ, ◌+◌, ◌-◌, ◌*◌, ◌==◌, ◌&&◌
 use Rattle.totem_names.specs.Names.{RingName}
 use Rattle.totem_names.specs.Numbers.{is_digit}
 use Rattle.totem_script.specs.declared.fault.LineFault.TheVariants.{Word, Number}
-use Rattle.totem_script.specs.Parsed.{Parsed, ◌>>=◌}
+use Rattle.totem_names.specs.Sources.{◌>>=◌}
+use Rattle.totem_script.specs.Parsed.{Parsed}
 use Rattle.totem_script.specs.Parts.{parts}
 
 -- `1` to `9`

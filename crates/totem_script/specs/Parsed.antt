@@ -6,12 +6,6 @@ use Rattle.totem_script.specs.declared.fault.LineFault.TheVariants.{Memory}
 abbrev pub Parsed : Type 0 → Type 0
 Parsed A = Result A LineFault
 
--- one part after the other, up to the first fault
-infixl 10 ◌>>=◌
-abbrev pub ◌>>=◌ : {A B : Type 0} → Parsed A → (A → Parsed B) → Parsed B
-(Ok x) >>= f = f x
-(Err fault) >>= f = Err fault
-
 -- this fault is the parser's, unless it is out of memory
 pub record Fails {A : Type 0} (fault : LineFault) (parsed : Parsed A) : Type 0 where
   pub is : fault ≢ Memory → parsed ≡ Err fault

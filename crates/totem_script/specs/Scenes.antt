@@ -16,7 +16,8 @@ use Rattle.totem_script.specs.declared.command.Command.{Command}
 use Rattle.totem_script.specs.declared.command.Command.TheVariants as command
 use Rattle.totem_script.specs.declared.script_fault.ScriptFault.TheVariants.{Order, Members, Place}
 use Rattle.totem_script.specs.declared.script_version.ScriptVersion.{ScriptVersion}
-use Rattle.totem_script.specs.Judged.{Judged, ◌>>=◌}
+use Rattle.totem_names.specs.Sources.{◌>>=◌}
+use Rattle.totem_script.specs.Judged.{Judged}
 use Rattle.totem_script.specs.Actors.{Actor}
 use Rattle.totem_script.specs.Casts.{is_known, with_ring, cast_step, with_return}
 

@@ -8,7 +8,8 @@ use Rattle.totem_script.specs.declared.script_fault.ScriptFault.TheVariants.{Hea
 use Rattle.totem_script.specs.declared.script_version.ScriptVersion.{ScriptVersion}
 use Rattle.totem_script.specs.Commands.{command_of}
 use Rattle.totem_script.specs.Lines.{lines_of}
-use Rattle.totem_script.specs.Judged.{Judged, Fails, by_line, ◌>>=◌}
+use Rattle.totem_names.specs.Sources.{◌>>=◌}
+use Rattle.totem_script.specs.Judged.{Judged, Fails, by_line}
 use Rattle.totem_script.specs.Casts.{logs_in}
 use Rattle.totem_script.specs.Scenes.{Scene, empty_scene, carried_out}
 use Rattle.totem_script.specs.Versions.{version_in, run_of}

@@ -1,24 +1,13 @@
 -- Entering a log in its table, entry by entry.
-use Rattle.std.proofs.Common.{◌≡◌, ℕ, ◌+◌, ◌<◌, ◌≤◌, inl, inr, List, length, Option, Some, None, true, false, is_some, unwrap_or, sym, refl, ap, subst, arith}
-use Rattle.std.proofs.lemmas.Option.{slice_get_within}
-use Rattle.std.specs.BTreeMap.{BTreeMap}
+use Rattle.totem_stitch.proofs.Common.{◌≡◌, ℕ, ◌+◌, ◌<◌, ◌≤◌, inl, inr, List, length, Option, Some, None, true, false, is_some, unwrap_or, sym, refl, ap, subst, arith, slice_get_within, BTreeMap, RingId, ConfId, Regular, Entry, ChangesTo, IsNextChange, IsFirstChange, Follows, NothingFollows, IsFollower, FollowsFirst, IsOrigin, IsNoRegular, NoneComesNext, MovesNext, HasNotCome, HasCome, KnowsFollower, HasNoOrigin, KnowsOrigin, KnowsLog, IsTable, one_next, same_first}
 use Rattle.std.specs.BTreeMap as tree
-use Rattle.totem_names.specs.declared.ring.RingId.{RingId}
-use Rattle.totem_names.specs.declared.conf.ConfId.{ConfId}
-use Rattle.totem_names.specs.declared.conf.ConfId.TheVariants.{Regular}
-use Rattle.totem_evs.specs.declared.entry.Entry.{Entry}
 use Rattle.totem_evs.specs.declared.entry.Entry.TheVariants.{Conf}
-use Rattle.totem_evs.specs.Events.{ChangesTo}
-use Rattle.totem_evs.specs.Following.{IsNextChange, IsFirstChange, Follows}
 use Rattle.totem_evs.proofs.LogOf.{less_or_not}
-use Rattle.totem_stitch.specs.Followers.{NothingFollows, IsFollower, FollowsFirst, IsOrigin}
-use Rattle.totem_stitch.specs.Building.{IsNoRegular, NoneComesNext, MovesNext, HasNotCome, HasCome, KnowsFollower, HasNoOrigin, KnowsOrigin, KnowsLog, IsTable}
 use Rattle.totem_stitch.specs.Tables.{ring_order, conf_order}
 use Rattle.totem_stitch.specs.declared.table.Table.{Table}
 use Rattle.totem_names.proofs.Exact.{exact_ring, exact_conf}
 use Rattle.totem_stitch.proofs.Updating.{everywhere}
 use Rattle.totem_stitch.proofs.NextChanges.{one_change}
-use Rattle.totem_evs.proofs.NextChanges.{one_next, same_first}
 
 -- at most one configuration follows
 pub one_follower : (log : List Entry) (c : RingId) (t u : ConfId) → Follows log c t → Follows log c u → t ≡ u

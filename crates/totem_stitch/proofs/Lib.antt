@@ -1,3 +1,4 @@
+pub mod Common
 pub mod NextChanges
 pub mod Updating
 pub mod Entering

@@ -1,15 +1,6 @@
 -- The changes of a log, found by walking along it.
-use Rattle.std.proofs.Common.{◌≡◌, ℕ, ◌+◌, ◌<◌, ◌≤◌, List, length, slice_get, Some, sym, ◌∙◌, arith}
-use Rattle.std.proofs.lemmas.Option.{slice_get_within}
-use Rattle.totem_names.specs.declared.ring.RingId.{RingId}
-use Rattle.totem_names.specs.declared.conf.ConfId.{ConfId}
-use Rattle.totem_names.specs.declared.conf.ConfId.TheVariants.{Regular, Transitional}
-use Rattle.totem_evs.specs.declared.entry.Entry.{Entry}
+use Rattle.totem_stitch.proofs.Common.{◌≡◌, ℕ, ◌<◌, ◌≤◌, List, length, slice_get, Some, sym, ◌∙◌, arith, slice_get_within, RingId, ConfId, Regular, Transitional, Entry, ChangesTo, IsChange, IsNextChange, NoneBetween, one_next, NoneComesNext, MovesNext}
 use Rattle.totem_evs.specs.declared.entry.Entry.TheVariants.{Conf}
-use Rattle.totem_evs.specs.Events.{ChangesTo, IsChange}
-use Rattle.totem_evs.specs.Following.{IsNextChange}
-use Rattle.totem_evs.proofs.NextChanges.{NoneBetween, one_next}
-use Rattle.totem_stitch.specs.Building.{NoneComesNext, MovesNext}
 
 -- an entry changes to one configuration
 pub one_change : (log : List Entry) (i : ℕ) (x y : ConfId) → ChangesTo log i x → ChangesTo log i y → x ≡ y

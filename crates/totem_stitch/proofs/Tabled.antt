@@ -1,19 +1,11 @@
 -- Building the tables of a run, log by log.
-use Rattle.std.proofs.Common.{◌≡◌, ℕ, ◌+◌, ◌<◌, ◌≤◌, ◌⊎◌, inl, inr, List, [], length, slice_get, Option, Some, None, sym, ◌∙◌, refl, arith}
-use Rattle.std.proofs.lemmas.Option.{slice_get_within}
-use Rattle.std.specs.BTreeMap.{BTreeMap}
+use Rattle.totem_stitch.proofs.Common.{◌≡◌, ℕ, ◌+◌, ◌<◌, ◌≤◌, ◌⊎◌, inl, inr, List, [], length, slice_get, Option, Some, None, sym, ◌∙◌, refl, arith, slice_get_within, BTreeMap, RingId, ConfId, Entry, log_of, IsFollower, IsOrigin, IsTable}
 use Rattle.std.specs.BTreeMap as tree
-use Rattle.totem_names.specs.declared.ring.RingId.{RingId}
-use Rattle.totem_names.specs.declared.conf.ConfId.{ConfId}
-use Rattle.totem_evs.specs.declared.entry.Entry.{Entry}
 use Rattle.totem_evs.specs.declared.log.Log.{Log}
-use Rattle.totem_evs.specs.Events.{log_of}
 use Rattle.totem_evs.proofs.LogOf.{log_of_cases, log_of_at, Rising, less_or_not}
 use Rattle.totem_stitch.specs.declared.table.Table.{Table}
 use Rattle.totem_stitch.specs.declared.stitch.Stitch.{Stitch}
-use Rattle.totem_stitch.specs.Followers.{IsFollower, IsOrigin}
 use Rattle.totem_stitch.specs.Tables.{process_order}
-use Rattle.totem_stitch.specs.Building.{IsTable}
 use Rattle.totem_stitch.specs.Stitched.{follower_by, origin_by, IsStitch}
 use Rattle.totem_evs.proofs.ProcOrder.{exact_proc}
 use Rattle.totem_stitch.proofs.Updating.{everywhere}

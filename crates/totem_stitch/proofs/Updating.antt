@@ -1,9 +1,8 @@
 -- What a map has after an insertion.
-use Rattle.std.proofs.Common.{◌≡◌, ◌⊎◌, inl, inr, Option, Some, Bool, true, false, refl, sym, ◌∙◌, ap, subst}
+use Rattle.totem_stitch.proofs.Common.{◌≡◌, ◌⊎◌, inl, inr, Option, Some, Bool, true, false, refl, sym, ◌∙◌, ap, subst, BTreeMap, is_at}
 use Rattle.std.specs.declared.cmp.Ordering.{Ordering}
 use Rattle.std.specs.declared.cmp.Ordering.TheVariants.{Less, Equal, Greater}
 use Rattle.std.specs.Ordering.{is_eq}
-use Rattle.std.specs.BTreeMap.{BTreeMap, is_at}
 use Rattle.std.specs.BTreeMap as tree
 use Rattle.std.proofs.lemmas.Map.Lookups.{CmpEqualImpliesEq}
 

@@ -1,13 +1,7 @@
 -- The changes of a log, in a list of their indices.
-use Rattle.std.proofs.lemmas.Grind.{common_steps}
-use Rattle.std.proofs.Common.{below_more, ◌≡◌, ℕ, ◌+◌, ◌<◌, ◌≤◌, inl, inr, List, [], ◌∷◌, ◌++◌, length, slice_get, Some, arith}
-use Rattle.std.proofs.lemmas.Option.{slice_get_within}
-use Rattle.totem_evs.specs.declared.entry.Entry.{Entry}
+use Rattle.totem_table.proofs.Common.{below_more, ◌≡◌, ℕ, ◌+◌, ◌<◌, ◌≤◌, inl, inr, List, [], ◌∷◌, ◌++◌, length, slice_get, Some, arith, common_steps, slice_get_within, Entry, IsChange, IsListed, ListsChanges, before_push, stands_before, stands_last}
 use Rattle.totem_evs.specs.declared.entry.Entry.TheVariants.{Conf}
-use Rattle.totem_evs.specs.Events.{IsChange}
 use Rattle.totem_evs.specs.Following.{IsNextOrEnd}
-use Rattle.totem_table.specs.Changes.{IsListed, ListsChanges}
-use Rattle.totem_evs.proofs.Pushing.{before_push, stands_before, stands_last}
 
 -- the entry at n is no change
 pub no_more : (log : List Entry) (n : ℕ) (e : Entry) (list : List ℕ) → slice_get log n ≡ Some e → ((x : _) (ms : _) → e ≡ Conf x ms → ⊥) → ListsChanges log n list → ListsChanges log (n + 1) list

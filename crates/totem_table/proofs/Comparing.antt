@@ -1,8 +1,7 @@
 -- What comparing the parts of two processes shows.
-use Rattle.std.proofs.Common.{◌≡◌, ℕ, true, false, ◌&&◌, ap}
+use Rattle.totem_table.proofs.Common.{◌≡◌, ℕ, true, false, ◌&&◌, ap, id_of, life_of}
 use Rattle.std.proofs.Math.Dec.{eqb}
 use Rattle.std.proofs.lemmas.Bool.{eq-eqb}
-use Rattle.totem_names.specs.Ranks.{id_of, life_of}
 
 pub other_parts : (a b : ℕ) → a ≡ b → false ≡ (eqb (id_of a) (id_of b) && eqb (life_of a) (life_of b)) → ⊥
 other_parts a b same e =

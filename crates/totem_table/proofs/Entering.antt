@@ -1,12 +1,6 @@
 -- Entering a run in a register, log by log and entry by entry.
-use Rattle.std.proofs.Common.{◌≡◌, ℕ, ◌+◌, ◌<◌, ◌≤◌, ◌⊎◌, inl, inr, List, [], length, slice_get, Some, arith}
-use Rattle.std.proofs.lemmas.Option.{slice_get_within}
-use Rattle.totem_evs.specs.declared.entry.Entry.{Entry}
-use Rattle.totem_evs.specs.declared.log.Log.{Log}
-use Rattle.totem_evs.specs.Events.{log_of}
-use Rattle.totem_table.specs.Registers.{Keeps, KnowsLog, KnowsRun}
+use Rattle.totem_table.proofs.Common.{◌≡◌, ℕ, ◌+◌, ◌<◌, ◌≤◌, ◌⊎◌, inl, inr, List, [], length, slice_get, Some, arith, slice_get_within, Entry, Log, log_of, Keeps, KnowsLog, KnowsRun, log_of_cases}
 use Rattle.totem_table.proofs.Checking.{HoldsTo, holds_more}
-use Rattle.totem_evs.proofs.LogOf.{log_of_cases}
 
 pub keeps_on : (P Q R : ℕ → List Entry → ℕ → Type 0) → Keeps P Q → Keeps Q R → Keeps P R
 keeps_on P Q R first second = record { each = λ p log i h. second.each p log i (first.each p log i h) }

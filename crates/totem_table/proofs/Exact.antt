@@ -1,7 +1,6 @@
 -- Changes that compare as equal are the same.
-use Rattle.std.proofs.Common.{ℕ, ap, ◌∙◌}
+use Rattle.totem_table.proofs.Common.{ℕ, ap, ◌∙◌, ConfId}
 use Rattle.std.proofs.lemmas.Map.Lookups.{CmpEqualImpliesEq}
-use Rattle.totem_names.specs.declared.conf.ConfId.{ConfId}
 use Rattle.totem_names.specs.contracts.life.ProcOrd.TheImpl as life
 use Rattle.totem_names.specs.contracts.conf.ConfIdOrd.TheImpl as conf
 use Rattle.totem_names.proofs.Exact.{both_equal, exact_conf}

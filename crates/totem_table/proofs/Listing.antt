@@ -1,11 +1,7 @@
 -- Entering only the changes of a run.
-use Rattle.std.proofs.Common.{◌≡◌, ℕ, ◌+◌, ◌≤◌, inl, inr, List, length, slice_get, Some, arith}
-use Rattle.totem_evs.specs.declared.entry.Entry.{Entry}
-use Rattle.totem_evs.specs.Events.{IsChange}
-use Rattle.totem_table.specs.Changes.{ListsChanges}
+use Rattle.totem_table.proofs.Common.{◌≡◌, ℕ, ◌+◌, ◌≤◌, inl, inr, List, length, slice_get, Some, arith, Entry, IsChange, ListsChanges, Keeps, KnowsLog}
 use Rattle.totem_evs.proofs.Originating.{change_or_not}
 use Rattle.totem_table.proofs.Changing.{listed_below, listed_before_end}
-use Rattle.totem_table.specs.Registers.{Keeps, KnowsLog}
 use Rattle.totem_table.proofs.Checking.{HoldsTo, holds_more}
 
 -- the first n of the listed changes are known

@@ -1,24 +1,14 @@
 -- Lists of names in ascending order.
-use Rattle.std.proofs.lemmas.Grind.{common_steps}
-use Rattle.std.proofs.Common.{◌≡◌, ℕ, zero, suc, ◌+◌, ◌≤◌, inl, inr, List, [], ◌∷◌, length, get_or, slice_get, Some, Bool, false, Result, Ok, Err, sym, ap, ◌∙◌, arith, MatchResult}
-use Rattle.std.specs.Prelude.{Contains, flat_map}
-use Rattle.std.specs.declared.cmp.Ordering.{Ordering}
-use Rattle.std.specs.declared.cmp.Ordering.TheVariants.{Less, Equal, Greater}
+use Rattle.totem_table.proofs.Common.{◌≡◌, ℕ, zero, suc, ◌+◌, ◌≤◌, inl, inr, List, [], ◌∷◌, length, get_or, slice_get, Some, Bool, false, Result, Ok, Err, sym, ap, ◌∙◌, arith, MatchResult, Contains, flat_map, common_steps, Ordering, Less, Equal, Greater, slice_get-get_or, slice_get_within, get_or_from_slice_get, Contains-append_left, Contains-append_right, less_or_not, Along, Rises, ListsNames}
 use Rattle.std.specs.Cmp.{IsEquivalence, IsTotalOrder, tied_itself}
 use Rattle.std.specs.Ordering.{is_lt, eq_by_cmp, ordering_reverse}
 use Rattle.std.specs.List.Retain.{IsFiltered, DiffersFromLast}
 use Rattle.std.specs.List.Sorted.{IsPermutation, IsSorted, IsSortedBy, IsStrictlySortedBy, IsBinarySearchResult, IsSearchInRange}
 use Rattle.std.proofs.lemmas.Map.Keys.{Less-from_sorted}
-use Rattle.std.proofs.lemmas.Option.{slice_get-get_or, slice_get_within, get_or_from_slice_get}
-use Rattle.std.proofs.lemmas.List.Elements.{Contains-append_left, Contains-append_right}
 use Rattle.std.proofs.lemmas.List.Filters.{dedup_is}
 use Rattle.std.proofs.lemmas.List.Kept.{IsStrictlySortedBy-dedup, Contains-dedup}
 use Rattle.std.proofs.lemmas.List.Sorted.{Contains-permutation, searchable_from_sorted}
 use Rattle.totem_names.proofs.Exact.{equal_at}
-use Rattle.totem_evs.proofs.LogOf.{less_or_not}
-use Rattle.totem_evs.proofs.Pushing.{Along}
-use Rattle.totem_table.specs.Tables.{Rises}
-use Rattle.totem_table.specs.Names.{ListsNames}
 
 -- what f gives for the element at an index is among what it gives for all
 gives_at : {A X : Type 0} (f : A → List X) (xs : List A) (i : ℕ) (a : A) (x : X) → slice_get xs i ≡ Some a → Contains (f a) x → Contains (flat_map f xs) x

@@ -1,41 +1,16 @@
 -- Where no life but the first is named: from the words of the threads to the logs of their books.
-use Rattle.std.proofs.Common.{◌≡◌, ℕ, zero, suc, ◌<◌, ◌+◌, ◌-◌, ◌==◌, List, [], ◌∷◌, length, map, fold, Bool, true, false, Ok, Err, IfSome, refl, arith}
-use Rattle.std.specs.Prelude.{All, IfOk, slice_get}
-use Rattle.std.proofs.lemmas.Bool.{eqb-true}
-use Rattle.std.proofs.lemmas.List.Elements.{All-nil, All-cons, All-head, All-tail, All-append, All-map, All-weaker}
-use Rattle.std.proofs.lemmas.List.Sums.{sum_by-cons}
-use Rattle.totem_names.specs.Ranks.{life_of}
-use Rattle.totem_names.specs.declared.version.Version.{Version}
-use Rattle.totem_names.specs.declared.version.Version.TheVariants.{One, Two, Three}
-use Rattle.totem_packets.specs.declared.commit_member.CommitMember.{CommitMember}
-use Rattle.totem_packets.specs.CommitMembers.{IsCommitMembers}
-use Rattle.totem_packets.specs.Lives.{has_later_life}
-use Rattle.totem_packets.proofs.GivenLives.{first_each}
-use Rattle.totem_evs.specs.declared.entry.Entry.{Entry}
+use Rattle.totem_threads.proofs.Common.{◌≡◌, ℕ, zero, suc, ◌<◌, ◌+◌, ◌-◌, ◌==◌, List, [], ◌∷◌, length, map, fold, Bool, true, false, Ok, Err, IfSome, refl, arith, All, IfOk, slice_get, eqb-true, All-nil, All-cons, All-head, All-tail, All-append, All-map, sum_by-cons, life_of, Version, One, Two, Three, Entry, AreFirst, AreLoud, HasFirstLives, IsFirstVersion, first_rank, first_ranks, Stepped, Outcome, node_numbers, Called, Receipt, FitRising, count_at, count_in, Agree, Covers, starts, AreLogsOf, IsFirstSeat, IsFirstBook}
 use Rattle.totem_evs.specs.LogRecord.{LogRecord}
-use Rattle.totem_evs.specs.Lives.{AreFirst, AreLoud, HasFirstLives, IsFirstVersion}
-use Rattle.totem_recover.specs.Lives.{first_rank, first_ranks}
-use Rattle.totem_core.specs.Nodes.{Stepped}
-use Rattle.totem_core.specs.Outcomes.{Outcome}
 use Rattle.totem_core.specs.Table.{step}
 use Rattle.totem_core.specs.declared.input.Input.{Input}
 use Rattle.totem_core.specs.Replay.{Life, lived, born, one_input, first_change}
-use Rattle.totem_core.specs.FirstLives.{AreFirstReports, IsFirstInput, IsFirstEntry, IsFirstNode, IsFirstStep}
+use Rattle.totem_core.specs.FirstLives.{IsFirstInput, IsFirstEntry, IsFirstNode, IsFirstStep}
 use Rattle.totem_core.proofs.FirstLives.{step_stays}
-use Rattle.totem_net.specs.Nodes.{node_numbers}
-use Rattle.totem_books.specs.Calls.{Called, Receipt}
 use Rattle.totem_books.specs.Replay.{Start, IsRecorded}
-use Rattle.totem_books.specs.Receipts.{FitRising, count_at, count_in, Agree, Covers}
 use Rattle.totem_books.specs.Seats.{SeatRecord, Closed}
-use Rattle.totem_threads.specs.Starts.{starts}
-use Rattle.totem_threads.specs.Books.{AreLogsOf}
-use Rattle.totem_threads.specs.FirstLives.{IsFirstSeat, IsFirstBook}
 use Rattle.totem_threads.proofs.Starting.{processes}
 
 -- ---- packets
-
-pub reports_first : (members : List CommitMember) → IsCommitMembers members → has_later_life members ≡ false → AreFirstReports members
-reports_first members are none = first_each members are.each none
 
 -- ---- the calls of a book
 
@@ -79,10 +54,6 @@ each_found P (x ∷ xs) at = All-cons P x xs (at zero (omega arith)) (each_found
 calls_first : (calls : List Called) (seats : List SeatRecord) → Agree calls seats → Covers calls seats → All IsFirstSeat seats → All IsFirstCall calls
 calls_first calls seats agree covers first =
     each_found IsFirstCall calls (λ k inside. found calls k seats agree.each first (let one = covers.one k inside in omega arith))
-
--- who has made no call has named no life
-pub empty_first : (seats : List SeatRecord) → All (λ seat. (seat.stubs ≡ []) × (seat.share ≡ 0)) seats → All IsFirstSeat seats
-empty_first seats empty = All-weaker (λ (s : SeatRecord). (s.stubs ≡ []) × (s.share ≡ 0)) IsFirstSeat (λ s none. rw none.0 (All-nil IsFirstReceipt)) seats empty
 
 pub three_first : (a b c : SeatRecord) → IsFirstSeat a → IsFirstSeat b → IsFirstSeat c → All IsFirstSeat (a ∷ b ∷ c ∷ [])
 three_first a b c first second third =

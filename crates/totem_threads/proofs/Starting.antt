@@ -1,23 +1,15 @@
 -- The members of the first ring, and the logs of its nodes.
-use Rattle.std.proofs.Common.{◌≡◌, ◌≢◌, ℕ, ◌+◌, ◌<◌, ◌≤◌, List, [], ◌∷◌, ◌++◌, length, take, get_or, map, refl, ap, sym, subst, ◌∙◌, arith}
-use Rattle.std.specs.Prelude.{AllPairs}
-use Rattle.std.proofs.lemmas.List.{length-map, get_or-map, map-append, take_more, take_all}
+use Rattle.totem_threads.proofs.Common.{◌≡◌, ℕ, ◌+◌, ◌<◌, ◌≤◌, List, [], ◌∷◌, ◌++◌, length, get_or, map, refl, ap, sym, ◌∙◌, arith, AllPairs, IsBelowLog, node_numbers, first_rank, first_ranks, IsRingMembers, start_of, starts, AreLogsOf}
+use Rattle.std.proofs.lemmas.List.{length-map, get_or-map}
 use Rattle.std.proofs.lemmas.List.FromFn.{length-range_with_len, get_or-range_with_len}
-use Rattle.std.proofs.lemmas.List.Elements.{All-push}
-use Rattle.totem_evs.specs.declared.ending.Ending.TheVariants.{Quiet}
 use Rattle.totem_names.specs.declared.refused.ListFault.{ListFault}
 use Rattle.totem_names.specs.Lists.{Refuses}
 use Rattle.totem_names.proofs.Kept.{not_refused}
 use Rattle.totem_evs.specs.LogRecord.{LogRecord}
-use Rattle.totem_evs.specs.Runs.{IsBelowLog}
 use Rattle.totem_net.specs.declared.ends.NodeEnds.{NodeEnds}
-use Rattle.totem_net.specs.Nodes.{node_numbers}
 use Rattle.totem_net.proofs.Numbers.{one_more}
-use Rattle.totem_recover.specs.Lives.{first_rank, first_ranks, IsRingMembers}
 use Rattle.totem_books.specs.Replay.{Start}
 use Rattle.totem_books.specs.Seats.{Closed}
-use Rattle.totem_threads.specs.Starts.{start_of, starts}
-use Rattle.totem_threads.specs.Books.{AreLogsOf}
 
 number_at : (n i d : ℕ) → i < n → get_or (node_numbers n) i d ≡ 1 + i
 number_at n i d less = get_or-range_with_len 1 n i d less
@@ -90,26 +82,3 @@ logs_taken nodes books logs fault few begun are refused =
     not_refused 0 32 IsBelowLog logs fault (omega arith) (omega (arith, same, few)) (rise nodes logs procs) refused
 
 -- ---- Books and their logs, one after another
-
-mapped : {A B C : Type 0} (f : A → C) (g : B → C) (xs : List A) (ys : List B) (x : A) (y : B) → map f xs ≡ map g ys → f x ≡ g y
-    → map f (xs ++ x ∷ []) ≡ map g (ys ++ y ∷ [])
-mapped {C = C} f g xs ys x y before here =
-    map-append f xs (x ∷ [])
-    ∙ ap (λ (zs : List C). zs ++ f x ∷ []) before
-    ∙ ap (λ (z : C). map g ys ++ z ∷ []) here
-    ∙ sym (map-append g ys (y ∷ []))
-
--- one log more
-pub logs_more : (books : List Closed) (logs : List LogRecord) (i : ℕ) (b : Closed) (l : LogRecord) → b ≡ get_or books i b → i < length books
-    → AreLogsOf (take i books) logs → l.proc ≡ b.start.me → l.entries ≡ b.log → l.ending ≢ Quiet → AreLogsOf (take (i + 1) books) (logs ++ l ∷ [])
-logs_more books logs i b l is within before proc entries loud =
-    let more : take (i + 1) books ≡ take i books ++ b ∷ [] = take_more books i b within ∙ ap (λ (x : Closed). take i books ++ x ∷ []) (sym is) in
-    rw more (record {
-      processes = mapped (λ (l : LogRecord). l.proc) (λ (b : Closed). b.start.me) logs (take i books) l b before.processes proc;
-      entries = mapped (λ (l : LogRecord). l.entries) (λ (b : Closed). b.log) logs (take i books) l b before.entries entries;
-      loud = All-push (λ (l : LogRecord). l.ending ≢ Quiet) logs l before.loud loud;
-    })
-
--- all of them
-pub logs_all : (books : List Closed) (logs : List LogRecord) (i : ℕ) → length books ≤ i → AreLogsOf (take i books) logs → AreLogsOf books logs
-logs_all books logs i end are = subst (λ (bs : List Closed). AreLogsOf bs logs) (take_all i books end) are

@@ -1,8 +1,7 @@
 -- Lines for the stream of errors.
-use Rattle.std.proofs.Common.{◌≡◌, ◌++◌, codes, refl}
+use Rattle.totem_certificate.proofs.Common.{◌≡◌, ◌++◌, codes, refl, line}
 use Rattle.totem_evs.specs.declared.run_fault.RunFault.{RunFault}
 use Rattle.totem_evs.specs.declared.run_fault.RunFault.TheVariants as run_faults
-use Rattle.totem_evs.specs.RunText.{line}
 use Rattle.totem_evs.specs.RunFaults.{fault_number, fault_name}
 use Rattle.totem_certificate.specs.declared.cert_fault.CertFault.{CertFault}
 use Rattle.totem_certificate.specs.declared.cert_fault.CertFault.TheVariants as cert_faults

@@ -1,22 +1,15 @@
 -- A run and a certificate after it, reports that were not written, and explanations of a no.
+use Rattle.totem_evs.proofs.Common.{Consumes, Seen, Version, RunRecord, run_text, FitsRun, No}
+use Rattle.totem_certificate.proofs.Common.{CertRecord, cert_text}
 use Rattle.std.proofs.Common.{◌≡◌, inl, inr, ℕ, List, ◌++◌, Option, Some, None, Result, Ok, Err, map, refl, sym, ap, ◌∙◌, IfSome, append_assoc}
-use Rattle.std.specs.Io.KnownBytes.{Consumes}
-use Rattle.totem_names.specs.Sources.{Seen}
 use Rattle.totem_names.specs.Writing.{Held}
 use Rattle.totem_evs.specs.declared.fault.Fault.{Fault}
-use Rattle.totem_names.specs.declared.version.Version.{Version}
-use Rattle.totem_evs.specs.RunRecord.{RunRecord}
 use Rattle.totem_evs.specs.declared.run.Run.{Run}
 use Rattle.totem_evs.specs.declared.writing.WriteFault.{WriteFault}
 use Rattle.totem_evs.specs.declared.writing.WriteFault.TheVariants as write_faults
-use Rattle.totem_evs.specs.RunText.{run_text}
 use Rattle.totem_evs.specs.WriteRun.{WritesText}
-use Rattle.totem_evs.specs.Reading.{FitsRun}
-use Rattle.totem_evs.specs.Answers.{No}
 use Rattle.totem_certificate.specs.declared.cert_fault.CertFault.{CertFault}
 use Rattle.totem_certificate.specs.declared.cert_fault.CertFault.TheVariants as cert_faults
-use Rattle.totem_certificate.specs.CertRecord.{CertRecord}
-use Rattle.totem_certificate.specs.CertText.{cert_text}
 use Rattle.totem_verdicts.specs.VerdictFaults.{cert_verdict_fault, write_verdict_fault}
 use Rattle.totem_verdicts.specs.declared.report.Form.{Form}
 use Rattle.totem_verdicts.specs.declared.explain_stream.Explanation.TheVariants.{Words}

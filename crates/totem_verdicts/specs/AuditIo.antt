@@ -1,5 +1,5 @@
 -- What auditing a stream returns, reads and writes (docs/SPECIFICATIONS.md, "Report text").
-use Rattle.std.specs.Prelude.{◌≡◌, ◌≢◌, ◌⊎◌, ◌+◌, ◌%◌, ◌^◌, List, IfSome, Result, Ok, Err}
+use Rattle.std.specs.Prelude.{◌≡◌, ◌≢◌, ◌⊎◌, ◌+◌, ◌%◌, ◌^◌, IfSome, Result, Ok, Err}
 use Rattle.std.specs.Io.KnownBytes.{Consumes}
 use Rattle.totem_names.specs.Sources.{Seen}
 use Rattle.totem_names.specs.Writing.{Held, Wrote}

@@ -1,20 +1,13 @@
 -- Finding the log of a process among the logs of a run.
-use Rattle.std.proofs.Common.{◌≡◌, ℕ, ◌+◌, ◌<◌, ◌≤◌, ◌⊎◌, inl, inr, List, [], length, slice_get, Some, Bool, true, false, ◌&&◌, refl, sym, ap, ◌∙◌, arith}
-use Rattle.std.proofs.lemmas.Option.{slice_get_within}
+use Rattle.totem_walk.proofs.Common.{◌≡◌, ℕ, ◌+◌, ◌<◌, ◌≤◌, ◌⊎◌, inl, inr, List, [], length, slice_get, Some, Bool, true, false, ◌&&◌, refl, sym, ap, ◌∙◌, arith, slice_get_within, rank_of, id_of, life_of, log_of, log_of_cases, less_or_not}
 use Rattle.std.proofs.Math.Dec.{eqb}
 use Rattle.std.proofs.lemmas.Bool.{eq-eqb, eqb-true}
-use Rattle.totem_names.specs.Ranks.{rank_of, id_of, life_of}
 use Rattle.totem_names.proofs.RankParts.{rank_of_parts}
 use Rattle.totem_evs.specs.declared.log.Log.{Log}
-use Rattle.totem_evs.specs.Events.{log_of}
-use Rattle.totem_evs.proofs.LogOf.{log_of_cases, less_or_not}
 
 -- none of the first k logs is p's
 pub record HasNoneOf (run : List Log) (p k : ℕ) : Type 0 where
   pub never : (j : ℕ) (log : Log) → j < k → slice_get run j ≡ Some log → log.proc ≡ p → ⊥
-
-pub none_of_yet : (run : List Log) (p : ℕ) → HasNoneOf run p 0
-none_of_yet run p = record { never = λ j log lt at same. omega arith }
 
 pub none_of_more : (run : List Log) (p k : ℕ) (log : Log) → slice_get run k ≡ Some log → (log.proc ≡ p → ⊥) → HasNoneOf run p k → HasNoneOf run p (k + 1)
 none_of_more run p k log at other before = record {

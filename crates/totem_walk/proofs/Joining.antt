@@ -1,27 +1,12 @@
 -- From the two walks to the run.
-use Rattle.std.proofs.Common.{◌≡◌, ℕ, zero, suc, ◌+◌, ◌<◌, ◌⊎◌, ◌↔◌, inl, inr, List, slice_get, Option, Some, None, Bool, true, false, IsTrue, refl, ◌∙◌, ap, subst, arith}
+use Rattle.totem_walk.proofs.Common.{◌≡◌, ℕ, zero, suc, ◌+◌, ◌<◌, ◌⊎◌, ◌↔◌, inl, inr, List, slice_get, Option, Some, None, Bool, true, false, IsTrue, refl, ◌∙◌, ap, subst, arith, RingId, ConfId, Regular, MsgId, Place, Entry, Send, log_of, entry_at, at_place, Delivers, WasSentIn, SendsAt, Com, DeliversIn, IsHop, MeetsPasses, Handles, index_in, IsFollowedBy, IsDelivered, AreDeliveries, KeepsOrder, BreaksOrder}
 use Rattle.std.specs.Bool.{OnTrue, OnFalse}
-use Rattle.totem_names.specs.declared.ring.RingId.{RingId}
-use Rattle.totem_names.specs.declared.conf.ConfId.{ConfId}
-use Rattle.totem_names.specs.declared.conf.ConfId.TheVariants.{Regular}
-use Rattle.totem_names.specs.declared.message.MsgId.{MsgId}
 use Rattle.totem_names.specs.declared.message.Service.{Service}
-use Rattle.totem_names.specs.declared.place.Place.{Place}
-use Rattle.totem_evs.specs.declared.entry.Entry.{Entry}
-use Rattle.totem_evs.specs.declared.entry.Entry.TheVariants.{Send}
 use Rattle.totem_evs.specs.declared.log.Log.{Log}
-use Rattle.totem_evs.specs.Events.{log_of, entry_at, at_place, Delivers, WasSentIn}
-use Rattle.totem_evs.specs.Steps.{SendsAt}
-use Rattle.totem_evs.specs.Following.{Com, DeliversIn}
-use Rattle.totem_evs.specs.RingAgreement.{IsHop}
-use Rattle.totem_evs.specs.Answers.{MeetsPasses}
 use Rattle.totem_stitch.specs.declared.stitch.Stitch.{Stitch}
 use Rattle.totem_stitch.specs.Stitched.{IsStitch, follower_of}
 use Rattle.totem_stitch.proofs.Answering.{com_is}
 use Rattle.totem_walk.specs.declared.deliveries.Deliveries.{Deliveries}
-use Rattle.totem_walk.specs.Acts.{Handles}
-use Rattle.totem_walk.specs.Deliveries.{index_in, IsFollowedBy, IsDelivered, AreDeliveries}
-use Rattle.totem_walk.specs.Order.{KeepsOrder, BreaksOrder}
 use Rattle.totem_walk.specs.Between.{IsCausalBetween, BreaksBetween, IsOfPairs}
 
 abbrev place : ℕ → ℕ → Place

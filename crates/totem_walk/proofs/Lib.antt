@@ -1,3 +1,4 @@
+pub mod Common
 pub mod Finding
 pub mod Noting
 pub mod Pacing

@@ -1,24 +1,12 @@
 -- Entering deliveries, entry by entry.
-use Rattle.std.proofs.Common.{◌≡◌, ℕ, ◌+◌, ◌≤◌, ◌⊎◌, inl, inr, List, length, slice_get, Option, Some, None, Bool, true, false, refl, sym, ◌∙◌, ap, subst, arith}
-use Rattle.std.proofs.lemmas.Option.{slice_get_within}
+use Rattle.totem_walk.proofs.Common.{◌≡◌, ℕ, ◌+◌, ◌≤◌, ◌⊎◌, inl, inr, List, length, slice_get, Option, Some, None, Bool, true, false, refl, sym, ◌∙◌, ap, subst, arith, slice_get_within, BTreeMap, is_at, RingId, ConfId, Regular, MsgId, Entry, Conf, Send, Deliver, Fail, DeliversIn, less_or_not, DeliversThere, DeliversNothing, message_order, IsFollowedBy, IsDeliveredBefore, AreDeliveriesBefore, IsDelivered, AreDeliveries}
 use Rattle.std.specs.declared.cmp.Ordering.{Ordering}
 use Rattle.std.specs.declared.cmp.Ordering.TheVariants.{Less, Equal, Greater}
 use Rattle.std.specs.Ordering.{ordering_then, nat_cmp, is_eq}
-use Rattle.std.specs.BTreeMap.{BTreeMap, is_at}
 use Rattle.std.specs.BTreeMap as tree
 use Rattle.std.proofs.lemmas.Map.Lookups.{CmpEqualImpliesEq, exact_unsigned}
-use Rattle.totem_names.specs.declared.ring.RingId.{RingId}
-use Rattle.totem_names.specs.declared.conf.ConfId.{ConfId}
-use Rattle.totem_names.specs.declared.conf.ConfId.TheVariants.{Regular}
-use Rattle.totem_names.specs.declared.message.MsgId.{MsgId}
 use Rattle.totem_names.specs.contracts.ring.RingIdOrd.TheImpl as ring
-use Rattle.totem_evs.specs.declared.entry.Entry.{Entry}
-use Rattle.totem_evs.specs.declared.entry.Entry.TheVariants.{Conf, Send, Deliver, Fail}
-use Rattle.totem_evs.specs.Following.{DeliversIn}
-use Rattle.totem_evs.proofs.LogOf.{less_or_not}
 use Rattle.totem_walk.specs.declared.deliveries.Deliveries.{Deliveries}
-use Rattle.totem_walk.specs.Acts.{DeliversThere, DeliversNothing}
-use Rattle.totem_walk.specs.Deliveries.{message_order, IsFollowedBy, IsDeliveredBefore, AreDeliveriesBefore, IsDelivered, AreDeliveries}
 
 -- messages that compare as equal are equal
 both_equal : (a b : Ordering) → ordering_then a b ≡ Equal → (a ≡ Equal) × (b ≡ Equal)
@@ -96,9 +84,6 @@ module _ (log : List Entry) (c : RingId) (n : ℕ) where
         (record { below = omega arith; delivers = delivers_there e follower m of at is })
         (λ o known. others_more o _ (λ none h. (let found = known (one_there m o (delivers_there e follower m of at is) h) in cc)) (before.each o));
   }
-
-pub enters_yet : (deliveries : Deliveries) (log : List Entry) (c : RingId) → tree.IsEmpty deliveries.indices → AreDeliveriesBefore deliveries log c 0
-enters_yet deliveries log c empty = record { each = λ m. rw empty (record { never = λ k lt h. omega arith }) }
 
 pub entered_all : (deliveries : Deliveries) (log : List Entry) (c : RingId) (n : ℕ) → length log ≤ n → AreDeliveriesBefore deliveries log c n → AreDeliveries deliveries log c
 entered_all deliveries log c n end before = record { each = λ m. whole m _ (before.each m) }

@@ -1,19 +1,9 @@
 -- A walk along the sender's log: the pace after its first entries, and the order that is kept so far.
-use Rattle.std.proofs.Common.{◌≡◌, ℕ, ◌+◌, ◌<◌, ◌≤◌, ◌⊎◌, max, inl, inr, List, length, slice_get, Option, Some, None, refl, sym, ◌∙◌, subst, arith}
-use Rattle.std.proofs.lemmas.Option.{slice_get_within}
-use Rattle.totem_names.specs.declared.conf.ConfId.{ConfId}
-use Rattle.totem_names.specs.declared.message.MsgId.{MsgId}
-use Rattle.totem_evs.specs.declared.entry.Entry.{Entry}
-use Rattle.totem_evs.specs.declared.entry.Entry.TheVariants.{Conf, Send, Deliver, Fail}
-use Rattle.totem_evs.specs.Events.{Sends}
-use Rattle.totem_evs.proofs.LogOf.{less_or_not}
+use Rattle.totem_walk.proofs.Common.{◌≡◌, ℕ, ◌+◌, ◌<◌, ◌≤◌, ◌⊎◌, max, inl, inr, List, length, slice_get, Option, Some, None, refl, sym, ◌∙◌, subst, arith, slice_get_within, ConfId, MsgId, Entry, Conf, Send, Deliver, Fail, Sends, less_or_not, SendsIn, HandlesIn, HandlesNothing, Handles, index_in, KeepsOrderBefore, KeepsOrder, BreaksOrder}
 use Rattle.totem_walk.specs.declared.deliveries.Deliveries.{Deliveries}
 use Rattle.totem_walk.specs.declared.pace.Pace.{Pace}
 use Rattle.totem_walk.specs.declared.pace.Pace.TheVariants.{Anywhere, Behind, Nowhere}
-use Rattle.totem_walk.specs.Acts.{SendsIn, HandlesIn, HandlesNothing, Handles}
-use Rattle.totem_walk.specs.Deliveries.{index_in}
-use Rattle.totem_walk.specs.Pace.{IsEarly, IsInTime, pace_with, ComesEarly, ComesInTime, GoesOn, HandlesBefore, HandlesNothingBefore, IsReached, IsLacking, IsPace}
-use Rattle.totem_walk.specs.Order.{KeepsOrderBefore, KeepsOrder, BreaksOrder}
+use Rattle.totem_walk.specs.Pace.{IsEarly, IsInTime, pace_with, ComesEarly, ComesInTime, GoesOn, HandlesBefore, IsReached, IsLacking, IsPace}
 
 -- an entry that was read is the entry of the log
 there_handles : (log : List Entry) (i : ℕ) (e : Entry) (m : MsgId) (x : ConfId) → slice_get log i ≡ Some e → HandlesIn e x m → Handles log i m x
@@ -156,12 +146,6 @@ module _ (log : List Entry) (x : ConfId) (deliveries : Deliveries) (n : ℕ) (e 
       go Anywhere is h = absurd is
       go (Behind last) is h = broken h.message h.handled (λ l found. (let same : last ≡ l = (let at_last = h.delivered in cc) in rw same at is))
       go Nowhere is h = broken h.message h.handled (λ l found. absurd (let none = h.lacks in cc))
-
-pub pace_yet : (log : List Entry) (x : ConfId) (deliveries : Deliveries) → HandlesNothingBefore log x 0
-pace_yet log x deliveries = record { never = λ m b. (let lt = b.before in omega arith) }
-
-pub order_yet : (log : List Entry) (x : ConfId) (deliveries : Deliveries) → KeepsOrderBefore log x deliveries 0
-order_yet log x deliveries = record { each = λ i j k m o lt below handles sends there. absurd (omega arith) }
 
 pub order_all : (log : List Entry) (x : ConfId) (deliveries : Deliveries) (n : ℕ) → length log ≤ n → KeepsOrderBefore log x deliveries n → KeepsOrder log x deliveries
 order_all log x deliveries n end before = record {

@@ -1,12 +1,7 @@
 -- What a commit token lets a member do.
-use Rattle.std.proofs.Common.{◌≡◌, ℕ, ◌==◌, ◌&&◌, ◌<◌, not, length, true, Option, None, Some, IfOk, is_some, nat_lt, sym, ap, ◌∙◌}
+use Rattle.totem_weave.proofs.Common.{◌≡◌, ℕ, ◌==◌, ◌&&◌, ◌<◌, not, length, true, Option, None, Some, IfOk, is_some, nat_lt, sym, ap, ◌∙◌, RingName, CommitToken, Report, same_processes, CommitView}
 use Rattle.std.proofs.lemmas.Bool.{and_parts, eqb-true, ltb-true, true≢false}
-use Rattle.totem_names.specs.Names.{RingName}
-use Rattle.totem_packets.specs.declared.commit.CommitToken.{CommitToken}
-use Rattle.totem_packets.specs.declared.commit_member.Report.{Report}
 use Rattle.totem_packets.specs.OldRings.{same_ring, processes_of, obligation_union}
-use Rattle.totem_packets.specs.Sets.{same_processes}
-use Rattle.totem_member.specs.declared.views.CommitView.{CommitView}
 use Rattle.totem_member.specs.declared.views.CommitOut.{CommitOut}
 use Rattle.totem_member.specs.declared.views.Act.{Act}
 use Rattle.totem_member.specs.declared.views.Act.TheVariants.{Filled, Entered, Started}

@@ -1,24 +1,8 @@
 -- From what the books recorded to what is woven.
-use Rattle.std.proofs.Common.{◌≡◌, ℕ, ◌<◌, ◌⊎◌, inl, inr, List, map, length, slice_get, get_or, Some, refl, sym, ◌∙◌, ap, subst, arith}
-use Rattle.std.specs.Prelude.{Contains}
-use Rattle.std.proofs.lemmas.List.{length-map, get_or-map}
-use Rattle.std.proofs.lemmas.Option.{slice_get_within, slice_get_cases, slice_get_read, get_or_from_slice_get, slice_get-map}
-use Rattle.totem_names.specs.Names.{RingName, PlaceName}
-use Rattle.totem_names.specs.Ranks.{id_of}
-use Rattle.totem_packets.specs.declared.message.Message.{Message}
-use Rattle.totem_ring.specs.Worlds.{start, run}
-use Rattle.totem_ring.specs.Order.{IsPrefixOf}
-use Rattle.totem_ring.proofs.OneOrderHolds.{one_order_holds}
-use Rattle.totem_recover.specs.Lives.{ids_of}
-use Rattle.totem_books.specs.Seats.{Closed}
+use Rattle.totem_weave.proofs.Common.{◌≡◌, ℕ, ◌<◌, ◌⊎◌, inl, inr, List, map, length, slice_get, get_or, Some, refl, sym, ◌∙◌, ap, subst, arith, Contains, length-map, get_or-map, slice_get_within, slice_get_cases, slice_get_read, get_or_from_slice_get, slice_get-map, RingName, PlaceName, id_of, Message, start, run, IsPrefixOf, one_order_holds, ids_of, Closed, acts_of, IsWeave, IsStuck, recorded, recorded_of, AreTracksOf, IsCallOf, AreApart, steps_of, start_of, IsUnderWay, IsThrough, IsFirstLeft, HasTaken, up_of_tracks, CanWeave, IsWoven, AreOneOrder, IsOrphan, handed_by}
 use Rattle.totem_weave.specs.declared.track.Track.{Track}
 use Rattle.totem_weave.specs.declared.weaver.Weaver.{Weaver}
 use Rattle.totem_weave.specs.declared.woven.Woven.{Woven}
-use Rattle.totem_weave.specs.Folds.{acts_of}
-use Rattle.totem_weave.specs.Weaves.{IsWeave, IsStuck}
-use Rattle.totem_weave.specs.Recorded.{recorded, recorded_of, AreTracksOf, IsCallOf}
-use Rattle.totem_weave.specs.Tracks.{AreApart, steps_of, start_of, IsUnderWay, IsThrough, IsFirstLeft, HasTaken, up_of_tracks}
-use Rattle.totem_weave.specs.Woven.{CanWeave, IsWoven, AreOneOrder, IsOrphan, handed_by}
 use Rattle.totem_weave.proofs.OthersActs.{members-run}
 use Rattle.totem_weave.proofs.Greatest.{stuck_is_greatest_holds}
 use Rattle.totem_weave.proofs.TracksOf.{IsSaid, is_said, rising_are_apart, steps_are, weave_is, stuck_is, all_done, done_before}

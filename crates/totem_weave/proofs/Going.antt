@@ -1,38 +1,16 @@
 -- If no step can follow on a ring below a number, none does, and none can after it: cell by cell of the node step.
-use Rattle.std.proofs.Common.{◌≡◌, ℕ, ◌+◌, ◌&&◌, ◌^◌, ◌<◌, ◌≤◌, max, not, List, [], ◌∷◌, length, Bool, true, false, cond, Option, None, Some, IfOk, Ok, Err, is_some, nat_lt, nat_le, refl, sym, ap, ◌∙◌, arith}
-use Rattle.std.specs.Prelude.{All}
-use Rattle.std.proofs.lemmas.Bool.{and_parts, not-true, cond_both}
-use Rattle.std.proofs.lemmas.List.Elements.{All-nil, All-cons, All-append, All-map}
-use Rattle.totem_names.specs.Names.{RingName}
+use Rattle.totem_weave.proofs.Common.{◌≡◌, ℕ, ◌+◌, ◌&&◌, ◌^◌, ◌<◌, ◌≤◌, max, not, List, [], ◌∷◌, length, Bool, true, false, cond, Option, None, Some, IfOk, Ok, Err, is_some, nat_lt, nat_le, refl, sym, ap, ◌∙◌, arith, All, and_parts, not-true, cond_both, All-nil, All-cons, All-append, All-map, RingName, Body, Message, Token, Join, CommitToken, Packet, has, is_least, Ring, same_ring, first_token, Sending, Done, given, on_message, on_token, CommitView, Gather, gathered, consensus, on_join, on_timeout, first_commit, on_commit, Leaving, next_bodies, on_ring, is_done, State, Node, Stepped, Told, on_its_ring, sending, is_sealed, commit_view, report, Outcome, by_member, commit_begun, look_at_consensus, taking, gather_begun, to_gather}
 use Rattle.totem_names.specs.declared.message.Service.{Service}
-use Rattle.totem_packets.specs.declared.message.Body.{Body}
-use Rattle.totem_packets.specs.declared.message.Message.{Message}
-use Rattle.totem_packets.specs.declared.token.Token.{Token}
-use Rattle.totem_packets.specs.declared.join.Join.{Join}
-use Rattle.totem_packets.specs.declared.commit.CommitToken.{CommitToken}
-use Rattle.totem_packets.specs.declared.packet.Packet.{Packet}
 use Rattle.totem_packets.specs.declared.packet.Packet.TheVariants as packet
-use Rattle.totem_packets.specs.Sets.{has, is_least}
-use Rattle.totem_ring.specs.Rings.{Ring, same_ring, first_token}
-use Rattle.totem_ring.specs.Visits.{Sending}
-use Rattle.totem_ring.specs.Steps.{Done, given, on_message, on_token}
 use Rattle.totem_member.specs.declared.views.Phase.{Phase}
 use Rattle.totem_member.specs.declared.views.Phase.TheVariants as phase
-use Rattle.totem_member.specs.declared.views.CommitView.{CommitView}
 use Rattle.totem_member.specs.declared.views.Act.{Act}
 use Rattle.totem_member.specs.declared.views.Act.TheVariants.{Filled, Entered, Started}
-use Rattle.totem_member.specs.Gathers.{Gather, gathered, consensus, on_join, on_timeout}
-use Rattle.totem_member.specs.Commits.{first_commit, on_commit}
-use Rattle.totem_recover.specs.Exchange.{Leaving, next_bodies, on_ring, is_done}
 use Rattle.totem_core.specs.declared.input.Input.{Input}
 use Rattle.totem_core.specs.declared.input.Input.TheVariants as input
 use Rattle.totem_core.specs.declared.state.Recovering.{Recovering}
-use Rattle.totem_core.specs.declared.state.State.{State}
 use Rattle.totem_core.specs.declared.state.State.TheVariants.{Operational, Gathering, Committing, InRecovery}
 use Rattle.totem_core.specs.declared.ring_step.RingStep.{RingStep}
-use Rattle.totem_core.specs.Nodes.{Node, Stepped, Told, on_its_ring, sending, is_sealed, commit_view, report}
-use Rattle.totem_core.specs.Outcomes.{Outcome, by_member}
-use Rattle.totem_core.specs.Gathering.{commit_begun, look_at_consensus, taking, gather_begun, to_gather}
 use Rattle.totem_core.specs.Visiting.{visit_steps, message_told, visit_told, message_on_installed, message_on_new, visit_installed, visit_new, carried, adopting, having_adopted, installing, after_visit, resend}
 use Rattle.totem_core.specs.Table.{on_message as take_message, on_token as take_token, is_late, says_nothing_new, join_in_commit, on_join_in, commit_taken, on_commit_in, acted, recovering, starting, is_quiet, on_timer, on_submit, on_packet, taken, step}
 use Rattle.totem_weave.proofs.Parts.{if_either, if_next, if_by_ring, if_by_member}

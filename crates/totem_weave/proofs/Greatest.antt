@@ -1,20 +1,6 @@
 -- If no member can continue, no member has got further in any other weave.
-use Rattle.std.proofs.Common.{◌≡◌, ℕ, ◌+◌, ◌==◌, ◌<◌, ◌≤◌, inl, inr, List, [], ◌∷◌, ◌++◌, map, length, slice_get, Bool, true, false, if◌then◌else◌, Some, refl, sym, ◌∙◌, ap, append_assoc, append-nil, eqb-true, length-append, arith}
-use Rattle.std.specs.Prelude.{Contains, filter}
-use Rattle.std.proofs.lemmas.Bool.{cases_lt, eq-eqb}
-use Rattle.std.proofs.lemmas.List.{map-append, length_push}
-use Rattle.std.proofs.lemmas.List.Elements.{filter-append}
-use Rattle.totem_names.specs.Names.{RingName}
-use Rattle.totem_packets.specs.declared.packet.Packet.{Packet}
-use Rattle.totem_ring.specs.declared.moves.Act.{Act}
-use Rattle.totem_ring.specs.declared.moves.RingMove.{RingMove}
-use Rattle.totem_ring.specs.Worlds.{World, start, happens, run, IsSchedule}
-use Rattle.totem_ring.specs.Order.{IsPrefixOf}
-use Rattle.totem_ring.proofs.OneOrderHolds.{one_order_holds}
+use Rattle.totem_weave.proofs.Common.{◌≡◌, ℕ, ◌+◌, ◌==◌, ◌<◌, ◌≤◌, inl, inr, List, [], ◌∷◌, ◌++◌, map, length, slice_get, Bool, true, false, if◌then◌else◌, Some, refl, sym, ◌∙◌, ap, append_assoc, append-nil, eqb-true, length-append, arith, Contains, filter, cases_lt, eq-eqb, map-append, length_push, filter-append, RingName, Packet, Act, RingMove, World, start, happens, run, IsSchedule, IsPrefixOf, one_order_holds, own_start, with_acts, acts_of, own_of, CanAct, NoneRefused, IsWeave, IsStuck, IsWhole, next_step, StuckIsGreatest, LeftIsOrphan, WholeIsFound, WholeIsOneOrder, up_of}
 use Rattle.totem_ring.proofs.Prefixes.{one_begins, slice_get-append}
-use Rattle.totem_weave.specs.Folds.{own_start, with_acts, acts_of, own_of}
-use Rattle.totem_weave.specs.Weaves.{CanAct, NoneRefused, IsWeave, IsStuck, IsWhole, next_step}
-use Rattle.totem_weave.specs.Laws.{StuckIsGreatest, LeftIsOrphan, WholeIsFound, WholeIsOneOrder, up_of}
 use Rattle.totem_weave.proofs.OwnActs.{in_longer, own_sent_grows_holds, state_is_own_holds, sent_by_all}
 use Rattle.totem_weave.proofs.OthersActs.{members-run, can_still_act}
 

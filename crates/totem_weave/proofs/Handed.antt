@@ -1,19 +1,6 @@
 -- What the members' tracks deliver is what the members deliver in a weave that has all of the tracks.
-use Rattle.std.proofs.Common.{◌≡◌, ℕ, suc, List, [], ◌∷◌, map, zip, slice_get, Some, refl, sym, ◌∙◌, ap}
-use Rattle.std.specs.List.Sorted.{IsStrictlyIncreasing}
-use Rattle.totem_names.specs.Names.{RingName}
-use Rattle.totem_names.specs.Ranks.{id_of}
-use Rattle.totem_packets.specs.declared.message.Message.{Message}
-use Rattle.totem_ring.specs.declared.moves.Act.{Act}
-use Rattle.totem_ring.specs.declared.moves.RingMove.{RingMove}
-use Rattle.totem_ring.specs.Worlds.{start, run}
-use Rattle.totem_recover.specs.Lives.{ids_of}
-use Rattle.totem_books.specs.Seats.{Closed}
+use Rattle.totem_weave.proofs.Common.{◌≡◌, ℕ, suc, List, [], ◌∷◌, map, zip, slice_get, Some, refl, sym, ◌∙◌, ap, IsStrictlyIncreasing, RingName, id_of, Message, Act, RingMove, start, run, ids_of, Closed, own_start, with_acts, acts_of, recorded, recorded_of, AreTracksOf, up_by, up_of_tracks, handed_by}
 use Rattle.totem_weave.specs.declared.track.Track.{Track}
-use Rattle.totem_weave.specs.Folds.{own_start, with_acts, acts_of}
-use Rattle.totem_weave.specs.Recorded.{recorded, recorded_of, AreTracksOf}
-use Rattle.totem_weave.specs.Tracks.{up_by, up_of_tracks}
-use Rattle.totem_weave.specs.Woven.{handed_by}
 use Rattle.totem_weave.proofs.OwnActs.{state_is_own_holds}
 use Rattle.totem_weave.proofs.RecordedOf.{same_cons, recorded_at}
 

@@ -1,18 +1,7 @@
 -- The messages that a member delivers, act by act, and those of all members, one member after the other.
-use Rattle.std.proofs.Common.{◌≡◌, ℕ, ◌+◌, ◌<◌, ◌≤◌, List, [], ◌∷◌, ◌++◌, map, zip, length, take, get_or, Some, None, Result, Ok, Err, refl, sym, ◌∙◌, ap, arith}
-use Rattle.std.proofs.lemmas.List.{take_more, take_all, map_more}
+use Rattle.totem_weave.proofs.Common.{◌≡◌, ℕ, ◌+◌, ◌<◌, ◌≤◌, List, [], ◌∷◌, ◌++◌, map, zip, length, take, get_or, Some, Result, Ok, Err, refl, sym, ◌∙◌, ap, arith, take_more, take_all, map_more, RingName, Message, RingFault, RingOut, Act, Ring, Done, act_on, Own, IsAt, own_start, own_after, with_act, with_acts, up_by, Tries}
 use Rattle.std.proofs.lemmas.Slice.Zip.{length-zip, get_or-zip}
-use Rattle.totem_names.specs.Names.{RingName}
-use Rattle.totem_packets.specs.declared.message.Message.{Message}
-use Rattle.totem_ring.specs.declared.fault.RingFault.{RingFault}
-use Rattle.totem_ring.specs.declared.outcome.RingOut.{RingOut}
-use Rattle.totem_ring.specs.declared.moves.Act.{Act}
-use Rattle.totem_ring.specs.Rings.{Ring}
-use Rattle.totem_ring.specs.Steps.{Done, act_on}
 use Rattle.totem_weave.specs.declared.track.Track.{Track}
-use Rattle.totem_weave.specs.Folds.{Own, IsAt, own_start, own_after, with_act, with_acts}
-use Rattle.totem_weave.specs.Tracks.{up_by}
-use Rattle.totem_weave.specs.Weaving.{Tries}
 use Rattle.totem_weave.proofs.OwnActs.{with_acts-append}
 
 pub done_more : (own : Own) (old new : Ring) (up : List Message) (act : Act) (out : RingOut) → Tries old new (act_on old act) (Some out) → IsAt own old up
@@ -26,18 +15,6 @@ done_more own old new up act out tries at = go (act_on old act) refl tries
         record {
           state_is = tries.state ∙ ap (λ r. (own_after own act r).state) (sym e);
           up_is = ap (λ ms. ms ++ out.handed.items) at.up_is ∙ ap (λ ms. own.up ++ ms) tries.handed ∙ ap (λ r. (own_after own act r).up) (sym e);
-        }
-
-pub refused_same : (own : Own) (old new : Ring) (up : List Message) (act : Act) → Tries old new (act_on old act) None → IsAt own old up → IsAt (with_act own act) new up
-refused_same own old new up act tries at = go (act_on old act) refl tries
-  where
-    go : (r : Result Done RingFault) → act_on old act ≡ r → Tries old new r None → IsAt (with_act own act) new up
-    go (Ok done) is tries = absurd tries
-    go (Err fault) is tries =
-        let e : act_on own.state act ≡ Err fault = rw (← at.state_is) is in
-        record {
-          state_is = tries ∙ at.state_is ∙ ap (λ r. (own_after own act r).state) (sym e);
-          up_is = at.up_is ∙ ap (λ r. (own_after own act r).up) (sym e);
         }
 
 -- one act more

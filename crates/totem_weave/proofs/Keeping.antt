@@ -1,13 +1,5 @@
 -- A step of a ring keeps the ring's name.
-use Rattle.std.proofs.Common.{◌≡◌, List, [], Option, None, Some, IfOk, refl}
-use Rattle.totem_names.specs.Names.{RingName}
-use Rattle.totem_packets.specs.declared.message.Body.{Body}
-use Rattle.totem_packets.specs.declared.message.Message.{Message}
-use Rattle.totem_packets.specs.declared.token.Token.{Token}
-use Rattle.totem_ring.specs.declared.fault.RingFault.{RingFault}
-use Rattle.totem_ring.specs.Rings.{Ring}
-use Rattle.totem_ring.specs.Refusals.{message_refusal, token_refusal}
-use Rattle.totem_ring.specs.Steps.{Done, unless_refused, given, holding, after_message, after_token, on_message, on_token}
+use Rattle.totem_weave.proofs.Common.{◌≡◌, List, [], Option, None, Some, IfOk, refl, RingName, Body, Message, Token, RingFault, Ring, message_refusal, token_refusal, Done, unless_refused, given, holding, after_message, after_token, on_message, on_token}
 use Rattle.totem_core.specs.Visiting.{adopting, adopted_or_same}
 
 -- the step leads to a state of this ring

@@ -1,19 +1,10 @@
 -- From the time when a node is sealed, as it is in Recovery, its life has no step on the ring that is installed then.
-use Rattle.std.proofs.Common.{◌≡◌, ◌≢◌, ℕ, ◌+◌, ◌≤◌, List, [], ◌∷◌, ◌++◌, length, drop, Option, None, Some, IfOk, Ok, Err, refl, sym, ap, ◌∙◌, subst, append_assoc, true, is_some, length-append, arith}
-use Rattle.std.specs.Prelude.{All, fold, map}
-use Rattle.std.proofs.lemmas.Bool.{true≢false}
+use Rattle.totem_weave.proofs.Common.{◌≡◌, ◌≢◌, ℕ, ◌+◌, ◌≤◌, List, [], ◌∷◌, ◌++◌, length, drop, Option, None, Some, IfOk, Ok, Err, refl, sym, ap, ◌∙◌, subst, append_assoc, true, is_some, length-append, arith, All, fold, map, true≢false, fold-append, All-nil, All-push, All-same, All-weaker, RingName, State, Node, Stepped, is_sealed, Outcome, Called}
 use Rattle.std.proofs.lemmas.List.{append-nil, map-append, length-map}
-use Rattle.std.proofs.lemmas.List.Sums.{fold-append}
-use Rattle.std.proofs.lemmas.List.Elements.{All-nil, All-push, All-same, All-weaker}
 use Rattle.std.proofs.Math.Seq.{drop-append_seam}
-use Rattle.totem_names.specs.Names.{RingName}
 use Rattle.totem_core.specs.declared.input.Input.{Input}
-use Rattle.totem_core.specs.declared.state.State.{State}
-use Rattle.totem_core.specs.Nodes.{Node, Stepped, is_sealed}
-use Rattle.totem_core.specs.Outcomes.{Outcome}
 use Rattle.totem_core.specs.Table.{step}
 use Rattle.totem_core.specs.Replay.{Answer, Life, born, lived, one_input, replay}
-use Rattle.totem_books.specs.Calls.{Called}
 use Rattle.totem_books.specs.Replay.{replies_of}
 use Rattle.totem_weave.specs.Adopting.{TellsNoStepOn, replies_after, OnlyAdoptsLast, BooksAdoptLast}
 use Rattle.totem_weave.proofs.Standing.{Suits, NodeStands, Goes, least_from}

@@ -1,3 +1,4 @@
+pub mod Common
 pub mod OwnActs
 pub mod OthersActs
 pub mod Greatest

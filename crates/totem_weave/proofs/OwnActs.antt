@@ -1,20 +1,6 @@
 -- A member is where its own acts brought it, and what was sent some member's own acts sent.
-use Rattle.std.proofs.Common.{◌≡◌, ℕ, ◌==◌, ◌⊎◌, inl, inr, List, [], ◌∷◌, ◌++◌, map, Bool, true, false, if◌then◌else◌, Result, Ok, Err, refl, sym, ◌∙◌, ap, subst, append_assoc, append-nil, eqb-true, arith}
-use Rattle.std.specs.Prelude.{Contains, filter}
-use Rattle.std.proofs.lemmas.Bool.{eq-eqb}
-use Rattle.std.proofs.lemmas.List.Elements.{Contains-append_left, Contains-append_right, Contains-append_cases, Contains-push, Contains-push_cases}
-use Rattle.totem_names.specs.Names.{RingName}
-use Rattle.totem_packets.specs.declared.packet.Packet.{Packet}
+use Rattle.totem_weave.proofs.Common.{◌≡◌, ℕ, ◌==◌, ◌⊎◌, inl, inr, List, [], ◌∷◌, ◌++◌, map, Bool, true, false, if◌then◌else◌, Result, Ok, Err, refl, sym, ◌∙◌, ap, subst, append_assoc, append-nil, eqb-true, arith, Contains, filter, eq-eqb, Contains-append_left, Contains-append_right, Contains-append_cases, Contains-push, Contains-push_cases, RingName, Packet, RingFault, Act, RingMove, Ring, first_token, Done, act_on, World, start, happens, world_after, run, submitted, IsPrefixOf, Own, own_start, own_after, with_act, with_acts, acts_of, own_of, IsAsOwn, StateIsOwn, SentIsOwn, SentGrows, OwnSentGrows}
 use Rattle.totem_packets.specs.declared.packet.Packet.TheVariants.{Token as AToken}
-use Rattle.totem_ring.specs.declared.fault.RingFault.{RingFault}
-use Rattle.totem_ring.specs.declared.moves.Act.{Act}
-use Rattle.totem_ring.specs.declared.moves.RingMove.{RingMove}
-use Rattle.totem_ring.specs.Rings.{Ring, first_token}
-use Rattle.totem_ring.specs.Steps.{Done, act_on}
-use Rattle.totem_ring.specs.Worlds.{World, start, happens, world_after, run, submitted}
-use Rattle.totem_ring.specs.Order.{IsPrefixOf}
-use Rattle.totem_weave.specs.Folds.{Own, own_start, own_after, with_act, with_acts, acts_of, own_of}
-use Rattle.totem_weave.specs.Laws.{IsAsOwn, StateIsOwn, SentIsOwn, SentGrows, OwnSentGrows}
 
 -- its own move brings a member where its own act does
 moved : (w : World) (p : ℕ) (act : Act) (own : Own) → IsAsOwn w p own → IsAsOwn (world_after w p act (act_on (w.state p) act)) p (with_act own act)

@@ -1,8 +1,6 @@
 -- What holds of all that isn't refused, by its parts.
-use Rattle.std.proofs.Common.{◌≡◌, Bool, true, false, cond, Result, Ok, Err, IfOk, refl}
-use Rattle.totem_ring.specs.declared.fault.RingFault.{RingFault}
+use Rattle.totem_weave.proofs.Common.{◌≡◌, Bool, true, false, cond, Result, Ok, Err, IfOk, refl, RingFault, ◌>>=◌, Outcome, by_ring, by_member}
 use Rattle.totem_member.specs.declared.fault.MemberFault.{MemberFault}
-use Rattle.totem_core.specs.Outcomes.{Outcome, ◌>>=◌, by_ring, by_member}
 
 pub if_either : {A E : Type 0} (P : A → Type 0) (test : Bool) (x y : Result A E) → (test ≡ true → IfOk x P) → (test ≡ false → IfOk y P) → IfOk (cond test x y) P
 if_either P true x y this other = this refl

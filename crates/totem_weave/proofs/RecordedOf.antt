@@ -1,17 +1,6 @@
 -- The ring knows its members by identifier: what is recorded of an identifier is what the book of its member's life reports.
-use Rattle.std.proofs.Common.{◌≡◌, ℕ, zero, suc, ◌==◌, ◌<◌, ◌⊎◌, inl, inr, List, [], ◌∷◌, map, length, slice_get, Some, Bool, true, false, if◌then◌else◌, refl, sym, ◌∙◌, ap, subst, eqb-true, arith}
-use Rattle.std.specs.Prelude.{Contains}
-use Rattle.std.specs.List.Sorted.{IsStrictlyIncreasing}
-use Rattle.std.proofs.lemmas.Bool.{eq-eqb}
-use Rattle.std.proofs.lemmas.List.{length-map}
-use Rattle.std.proofs.lemmas.List.Elements.{Contains-append_right}
-use Rattle.totem_names.specs.Names.{RingName}
-use Rattle.totem_names.specs.Ranks.{id_of}
-use Rattle.totem_ring.specs.declared.moves.Act.{Act}
-use Rattle.totem_recover.specs.Lives.{ids_of}
-use Rattle.totem_books.specs.Seats.{Closed}
+use Rattle.totem_weave.proofs.Common.{◌≡◌, ℕ, zero, suc, ◌==◌, ◌<◌, ◌⊎◌, inl, inr, List, [], ◌∷◌, map, length, slice_get, Some, Bool, true, false, if◌then◌else◌, refl, sym, ◌∙◌, ap, subst, eqb-true, arith, Contains, IsStrictlyIncreasing, eq-eqb, length-map, Contains-append_right, RingName, id_of, Act, ids_of, Closed, recorded, recorded_of, AreTracksOf}
 use Rattle.totem_weave.specs.declared.track.Track.{Track}
-use Rattle.totem_weave.specs.Recorded.{recorded, recorded_of, AreTracksOf}
 use Rattle.totem_weave.proofs.RisingIds.{rises, id_at}
 use Rattle.totem_weave.proofs.TracksOf.{SayOf, OfMembers}
 

@@ -1,10 +1,6 @@
 -- Ascending numbers, and ascending identifiers of processes, by their places.
-use Rattle.std.proofs.Common.{◌≡◌, ℕ, ◌<◌, ◌≤◌, List, length, get_or, slice_get, Some, refl, ◌∙◌, arith}
-use Rattle.std.specs.List.Sorted.{IsStrictlyIncreasing}
+use Rattle.totem_weave.proofs.Common.{◌≡◌, ℕ, ◌<◌, ◌≤◌, List, length, get_or, slice_get, Some, refl, ◌∙◌, arith, IsStrictlyIncreasing, slice_get_within, slice_get_read, get_or_from_slice_get, slice_get-map, id_of, ids_of}
 use Rattle.std.proofs.lemmas.List.Kept.{AllPairs-from_increasing}
-use Rattle.std.proofs.lemmas.Option.{slice_get_within, slice_get_read, get_or_from_slice_get, slice_get-map}
-use Rattle.totem_names.specs.Ranks.{id_of}
-use Rattle.totem_recover.specs.Lives.{ids_of}
 
 -- the one in front is the lesser
 pub rises : (ns : List ℕ) (j k m n : ℕ) → IsStrictlyIncreasing ns → slice_get ns j ≡ Some m → slice_get ns k ≡ Some n → j < k → m < n

@@ -1,19 +1,10 @@
 -- A round of the members.
-use Rattle.std.proofs.Common.{◌≡◌, ℕ, ◌+◌, ◌<◌, ◌≤◌, ◌||◌, inl, inr, List, [], length, Bool, true, false, refl, sym, ◌∙◌, ap, subst, arith}
-use Rattle.std.proofs.lemmas.Bool.{cases_eq}
-use Rattle.std.proofs.lemmas.List.{length-map}
-use Rattle.std.proofs.lemmas.Option.{slice_get-map}
-use Rattle.totem_names.specs.Names.{RingName}
+use Rattle.totem_weave.proofs.Common.{◌≡◌, ℕ, ◌+◌, ◌<◌, ◌≤◌, ◌||◌, inl, inr, List, [], length, Bool, true, false, refl, sym, ◌∙◌, ap, subst, arith, cases_eq, length-map, slice_get-map, RingName, RingMove, first_token, new_ring, first_seats, IsHeldUpAt, IsUnderWay, Steps, GoesRound, procs_of, steps_of, IsEmpty, Puts}
 use Rattle.totem_packets.specs.declared.packet.Packet.TheVariants.{Token as AToken}
-use Rattle.totem_ring.specs.declared.moves.RingMove.{RingMove}
-use Rattle.totem_ring.specs.Rings.{first_token, new_ring}
 use Rattle.totem_weave.specs.declared.track.Track.{Track}
 use Rattle.totem_weave.specs.declared.weaver.Weaver.{Weaver}
 use Rattle.totem_weave.specs.declared.seat.Seat.{Seat}
-use Rattle.totem_weave.specs.Weaving.{first_seats}
-use Rattle.totem_weave.specs.Tracks.{IsHeldUpAt, IsUnderWay, Steps, GoesRound, procs_of, steps_of}
 use Rattle.totem_weave.specs.declared.sent.Sent.{Sent}
-use Rattle.totem_weave.specs.Index.{IsEmpty, Puts}
 use Rattle.totem_weave.proofs.Indexing.{sent_are_one, index_first}
 use Rattle.totem_weave.proofs.Underway.{all_held_up}
 
@@ -30,17 +21,6 @@ RoundSoFar tracks old new place false = NoneYet tracks old new place
 abbrev pub AdvancedSoFar : Weaver → Weaver → Bool → Type 0
 AdvancedSoFar old new true = length old.moves.items < length new.moves.items
 AdvancedSoFar old new false = new.moves.items ≡ old.moves.items
-
-pub advance_more : (tracks : List Track) (old now new : Weaver) (place : ℕ) (moved : Bool) → AdvancedSoFar old now moved → Steps tracks place now new true → AdvancedSoFar old new true
-advance_more tracks old now new place true so_far more = omega arith
-advance_more tracks old now new place false so_far more = let count : length now.moves.items ≡ length old.moves.items = ap length so_far in omega arith
-
-pub advance_ends : (tracks : List Track) (old now new : Weaver) (place : ℕ) (moved : Bool) → AdvancedSoFar old now moved → Steps tracks place now new false → Steps tracks place old new moved
-advance_ends tracks old now new place true so_far last = let count : length new.moves.items ≡ length now.moves.items = ap length last.0 in omega arith
-advance_ends tracks old now new place false so_far last = (last.0 ∙ so_far, last.1)
-
-pub round_begins : (tracks : List Track) (w : Weaver) → RoundSoFar tracks w w 0 false
-round_begins tracks w = record { no_less = omega arith; held_up = λ k below. absurd (omega arith) }
 
 pub round_more : (tracks : List Track) (old now new : Weaver) (place : ℕ) (moved stepped : Bool) → new.ring ≡ now.ring → RoundSoFar tracks old now place moved → Steps tracks place now new stepped
     → RoundSoFar tracks old new (place + 1) (moved || stepped)

@@ -1,13 +1,6 @@
 -- A node's state, the ring of the commit token that it made or filled last, and the numbers of its rings.
-use Rattle.std.proofs.Common.{◌≡◌, ℕ, ◌+◌, ◌<◌, ◌≤◌, false, Option, None, Some, is_some, sym, subst, arith}
-use Rattle.std.specs.Prelude.{All}
-use Rattle.std.proofs.lemmas.Bool.{true≢false}
-use Rattle.totem_names.specs.Names.{RingName}
-use Rattle.totem_ring.specs.Rings.{Ring}
-use Rattle.totem_member.specs.Gathers.{Gather}
-use Rattle.totem_core.specs.declared.state.State.{State}
+use Rattle.totem_weave.proofs.Common.{◌≡◌, ℕ, ◌+◌, ◌<◌, ◌≤◌, false, Option, None, Some, is_some, sym, subst, arith, All, true≢false, RingName, Ring, Gather, State, Node, Stepped}
 use Rattle.totem_core.specs.declared.state.State.TheVariants.{Operational, Gathering, Committing, InRecovery}
-use Rattle.totem_core.specs.Nodes.{Node, Stepped}
 
 -- the ring made or filled last is above the installed one, and the node's number is no less than theirs
 abbrev pub IsAbove : Option RingName → ℕ → ℕ → Type 0

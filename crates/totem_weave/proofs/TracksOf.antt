@@ -1,20 +1,7 @@
 -- Tracks that say of each member, in order, what a function says of it.
-use Rattle.std.proofs.Common.{◌≡◌, ℕ, zero, suc, ◌<◌, ◌⊎◌, inl, inr, List, [], ◌∷◌, map, length, slice_get, Some, refl, sym, ◌∙◌, ap, subst, arith}
-use Rattle.std.specs.Prelude.{Contains}
-use Rattle.std.specs.List.Sorted.{IsStrictlyIncreasing}
-use Rattle.std.proofs.lemmas.Bool.{cases_lt, cases_eq}
-use Rattle.std.proofs.lemmas.List.{length-map}
-use Rattle.std.proofs.lemmas.Option.{slice_get_within, slice_get_cases, get_or_from_slice_get, slice_get-map}
-use Rattle.totem_names.specs.Names.{RingName}
-use Rattle.totem_ring.specs.declared.moves.Act.{Act}
-use Rattle.totem_ring.specs.declared.moves.RingMove.{RingMove}
-use Rattle.totem_ring.specs.Worlds.{start, run, IsSchedule}
-use Rattle.totem_ring.specs.Order.{IsPrefixOf}
+use Rattle.totem_weave.proofs.Common.{◌≡◌, ℕ, zero, suc, ◌<◌, ◌⊎◌, inl, inr, List, [], ◌∷◌, map, length, slice_get, Some, refl, sym, ◌∙◌, ap, subst, arith, Contains, IsStrictlyIncreasing, cases_lt, cases_eq, length-map, slice_get_within, slice_get_cases, get_or_from_slice_get, slice_get-map, RingName, Act, RingMove, start, run, IsSchedule, IsPrefixOf, acts_of, CanAct, NoneRefused, IsWeave, IsStuck, procs_of, steps_of, AreApart, start_of, IsUnderWay, IsThrough, IsFirstLeft}
 use Rattle.totem_weave.specs.declared.track.Track.{Track}
 use Rattle.totem_weave.specs.declared.weaver.Weaver.{Weaver}
-use Rattle.totem_weave.specs.Folds.{acts_of}
-use Rattle.totem_weave.specs.Weaves.{CanAct, NoneRefused, IsWeave, IsStuck}
-use Rattle.totem_weave.specs.Tracks.{procs_of, steps_of, AreApart, start_of, IsUnderWay, IsThrough, IsFirstLeft}
 use Rattle.totem_weave.proofs.RisingIds.{rises}
 use Rattle.totem_weave.proofs.Underway.{steps_of-at, track_or_none}
 

@@ -1,31 +1,11 @@
 -- A weave with one more move.
-use Rattle.std.proofs.Common.{◌≡◌, ◌≢◌, ℕ, zero, suc, ◌+◌, ◌==◌, ◌<◌, ◌≤◌, ◌⊎◌, inl, inr, List, [], ◌∷◌, ◌++◌, map, set, length, get_or, slice_get, Bool, true, false, if◌then◌else◌, Option, Some, None, Result, Ok, Err, refl, sym, ◌∙◌, ap, subst, append-nil, eqb-true, arith}
-use Rattle.std.specs.Prelude.{Contains, IsOk}
-use Rattle.std.proofs.lemmas.Bool.{cases_eq, eq-eqb, ne_eqb}
-use Rattle.std.proofs.lemmas.List.{get_or-set_same, get_or-set_other, length-set, length_push}
-use Rattle.std.proofs.lemmas.Option.{slice_get_read, slice_get_within, get_or_from_slice_get, slice_get-get_or, slice_get-map}
-use Rattle.totem_names.specs.Names.{RingName}
-use Rattle.totem_packets.specs.declared.packet.Packet.{Packet}
-use Rattle.totem_ring.specs.declared.fault.RingFault.{RingFault}
-use Rattle.totem_ring.specs.declared.outcome.RingOut.{RingOut}
-use Rattle.totem_ring.specs.declared.moves.Act.{Act}
-use Rattle.totem_ring.specs.declared.moves.RingMove.{RingMove}
-use Rattle.totem_ring.specs.Rings.{Ring}
-use Rattle.totem_ring.specs.Steps.{Done, act_on}
-use Rattle.totem_ring.specs.Worlds.{World, happens, world_after, run, MayCome, IsSchedule}
-use Rattle.totem_ring.specs.Order.{IsPrefixOf}
-use Rattle.totem_ring.specs.Visits.{Sending}
+use Rattle.totem_weave.proofs.Common.{◌≡◌, ◌≢◌, ℕ, zero, suc, ◌+◌, ◌==◌, ◌<◌, ◌≤◌, ◌⊎◌, inl, inr, List, [], ◌∷◌, ◌++◌, map, set, length, get_or, slice_get, Bool, true, false, if◌then◌else◌, Option, Some, None, Result, Ok, Err, refl, sym, ◌∙◌, ap, subst, append-nil, eqb-true, arith, Contains, IsOk, cases_eq, eq-eqb, ne_eqb, get_or-set_same, get_or-set_other, length-set, length_push, slice_get_read, slice_get_within, get_or_from_slice_get, slice_get-get_or, slice_get-map, RingName, Packet, RingFault, RingOut, Act, RingMove, Ring, Done, act_on, World, happens, world_after, run, MayCome, IsSchedule, IsPrefixOf, Sending, acts_of, CanAct, NoneRefused, IsWeave, IsStuck, next_step, AreOne, IsIndexOf, AddsAll, IsTaken, IsHeldUp, TakesNext, procs_of, steps_of, AreApart, start_of, seat_after, IsUnderWay, IsHeldUpAt, IsThrough, IsFirstLeft}
 use Rattle.totem_ring.proofs.Prefixes.{goes_on}
 use Rattle.totem_weave.specs.declared.track.Track.{Track}
 use Rattle.totem_weave.specs.declared.seat.Seat.{Seat}
 use Rattle.totem_weave.specs.declared.weaver.Weaver.{Weaver}
-use Rattle.totem_weave.specs.Folds.{acts_of}
-use Rattle.totem_weave.specs.Weaves.{CanAct, NoneRefused, IsWeave, IsStuck, next_step}
 use Rattle.totem_weave.specs.declared.sent.Sent.{Sent}
-use Rattle.totem_weave.specs.Index.{AreOne, IsIndexOf, AddsAll}
-use Rattle.totem_weave.specs.Weaving.{IsTaken, IsHeldUp, TakesNext}
 use Rattle.totem_weave.proofs.Indexing.{sent_are_one, coming_is, may_come_is}
-use Rattle.totem_weave.specs.Tracks.{procs_of, steps_of, AreApart, start_of, seat_after, IsUnderWay, IsHeldUpAt, IsThrough, IsFirstLeft}
 use Rattle.totem_weave.proofs.OthersActs.{members-run}
 use Rattle.totem_weave.proofs.Greatest.{same_from_length, acts_of-append, acts_of-own, acts_of-other}
 

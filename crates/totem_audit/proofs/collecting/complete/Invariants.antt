@@ -1,5 +1,4 @@
-use Rattle.std.proofs.Common.{take}
-use Rattle.totem_pass_d.specs.Findings.{AreFound}
+use Rattle.totem_pass_d.proofs.Common.{take, AreFound}
 use Rattle.totem_audit.specs.Jobs.{AreKnown}
 use Rattle.totem_audit.proofs.collecting.complete.Given as goal
 

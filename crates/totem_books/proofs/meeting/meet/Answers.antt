@@ -1,6 +1,4 @@
-use Rattle.std.proofs.Common.{subst}
-use Rattle.totem_books.specs.Seats.{SeatRecord}
-use Rattle.totem_books.specs.Receipts.{FitRising}
+use Rattle.totem_books.proofs.Common.{subst, SeatRecord, FitRising}
 use Rattle.totem_books.proofs.Entering.{seen_fit}
 use Rattle.totem_books.proofs.meeting.meet.Goals as goal
 

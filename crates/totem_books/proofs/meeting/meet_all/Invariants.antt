@@ -1,5 +1,4 @@
-use Rattle.std.proofs.Common.{◌≡◌, ◌<◌, ℕ}
-use Rattle.totem_books.specs.Journals.{IsMet}
+use Rattle.totem_books.proofs.Common.{◌≡◌, ◌<◌, ℕ, IsMet}
 use Rattle.totem_books.proofs.meeting.meet_all.Given as goal
 
 abbrev pub invariant-loop-at : goal.invariant-loop-at

@@ -1,7 +1,4 @@
-use Rattle.std.proofs.Common.{ap, sym, subst, ◌∙◌}
-use Rattle.totem_books.specs.Seats.{SeatRecord}
-use Rattle.totem_books.specs.Journals.{AreEntered}
-use Rattle.totem_books.specs.Receipts.{ShareNoPlace}
+use Rattle.totem_books.proofs.Common.{ap, sym, subst, ◌∙◌, SeatRecord, AreEntered, ShareNoPlace}
 use Rattle.totem_books.proofs.Entering.{entered_whole, no_place_of_both}
 use Rattle.totem_books.proofs.meeting.tell_apart.Goals as goal
 

@@ -1,5 +1,4 @@
-use Rattle.std.proofs.Common.{◌∙◌, arith}
-use Rattle.totem_books.specs.Receipts.{ShareNoPlace}
+use Rattle.totem_books.proofs.Common.{◌∙◌, arith, ShareNoPlace}
 use Rattle.totem_books.proofs.Entering.{written_back, apart_more, all_taken}
 use Rattle.totem_books.proofs.meeting.tell_apart_from.Goals as goal
 

@@ -1,5 +1,4 @@
-use Rattle.std.proofs.Common.{◌≡◌, All, take}
-use Rattle.totem_books.specs.Receipts.{ShareNoPlace}
+use Rattle.totem_books.proofs.Common.{◌≡◌, All, take, ShareNoPlace}
 use Rattle.totem_books.proofs.meeting.tell_apart_from.Given as goal
 
 abbrev pub invariant-loop-i : goal.invariant-loop-i

@@ -1,5 +1,4 @@
-use Rattle.std.proofs.Common.{◌≡◌, ◌+◌, ◌≤◌, vec_len}
-use Rattle.totem_books.specs.Receipts.{receipts_in, shares_in}
+use Rattle.totem_books.proofs.Common.{◌≡◌, ◌+◌, ◌≤◌, vec_len, receipts_in, shares_in}
 use Rattle.totem_books.proofs.settle.merged.Given as goal
 
 abbrev pub invariant-loop-seat : goal.invariant-loop-seat

@@ -1,5 +1,4 @@
-use Rattle.std.proofs.Common.{◌∙◌, ap, rules}
-use Rattle.totem_books.specs.Receipts.{receipts_in, shares_in}
+use Rattle.totem_books.proofs.Common.{◌∙◌, ap, rules, receipts_in, shares_in}
 use Rattle.totem_books.proofs.Covering.{covers, written_back}
 use Rattle.totem_books.proofs.settle.settle.Goals as goal
 

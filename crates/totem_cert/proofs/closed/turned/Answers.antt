@@ -1,5 +1,4 @@
-use Rattle.std.proofs.Common.{◌∙◌, ap, take, ◌++◌, List}
-use Rattle.totem_names.specs.declared.place.Place.{Place}
+use Rattle.totem_cert.proofs.Common.{◌∙◌, ap, take, ◌++◌, List, Place}
 use Rattle.totem_cert.proofs.Written.{begins_least, rest_all}
 use Rattle.totem_cert.proofs.closed.turned.Goals as goal
 

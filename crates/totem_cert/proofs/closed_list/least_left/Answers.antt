@@ -1,6 +1,4 @@
-use Rattle.std.proofs.Common.{ap, ◌∙◌}
-use Rattle.totem_evs.specs.LogRecord.{LogRecord}
-use Rattle.totem_evs.specs.RunRecord.{RunRecord}
+use Rattle.totem_cert.proofs.Common.{ap, ◌∙◌, LogRecord, RunRecord}
 use Rattle.totem_cert.proofs.Least.{least_left_is}
 use Rattle.totem_cert.proofs.closed_list.least_left.Goals as goal
 

@@ -1,8 +1,5 @@
-use Rattle.std.proofs.Common.{refl, ap, ◌∙◌}
-use Rattle.std.proofs.lemmas.Option.{slice_get_read}
-use Rattle.totem_evs.specs.RunRecord.{RunRecord}
+use Rattle.totem_cert.proofs.Common.{refl, ap, ◌∙◌, slice_get_read, RunRecord, holds_more}
 use Rattle.totem_cert.proofs.ClassHeads.{head_within, head_ready}
-use Rattle.totem_table.proofs.Checking.{holds_more}
 use Rattle.totem_cert.proofs.Next.{first_is_next, none_ready_end}
 use Rattle.totem_cert.proofs.counted.first_counted.Goals as goal
 

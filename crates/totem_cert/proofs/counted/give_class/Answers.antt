@@ -1,6 +1,5 @@
-use Rattle.std.proofs.Common.{ap, ◌∙◌}
+use Rattle.totem_cert.proofs.Common.{ap, ◌∙◌, RunRecord}
 use Rattle.std.proofs.lemmas.Result.{on_ok_weaker}
-use Rattle.totem_evs.specs.RunRecord.{RunRecord}
 use Rattle.totem_cert.proofs.ClassHeads.{next_in, next_at, no_end, has_head}
 use Rattle.totem_cert.proofs.Giving.{given_alone}
 use Rattle.totem_cert.proofs.LineFacts.{read_at}

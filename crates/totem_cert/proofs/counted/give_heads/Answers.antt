@@ -1,6 +1,4 @@
-use Rattle.std.proofs.Common.{refl, ap, ◌∙◌}
-use Rattle.std.proofs.lemmas.Option.{slice_get_read}
-use Rattle.totem_evs.specs.RunRecord.{RunRecord}
+use Rattle.totem_cert.proofs.Common.{refl, ap, ◌∙◌, slice_get_read, RunRecord}
 use Rattle.totem_cert.proofs.Giving.{given_stay, given_push, given_all}
 use Rattle.totem_cert.proofs.counted.give_heads.Goals as goal
 use Rattle.totem_cert.proofs.counted.give_heads.Goals.{then-is_in_class+in_ok-number_head, else-is_in_class}

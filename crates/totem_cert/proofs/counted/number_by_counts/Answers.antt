@@ -1,6 +1,4 @@
-use Rattle.std.proofs.Common.{◌≡◌, ◌++◌, take, drop, length, ap, ◌∙◌, arith}
-use Rattle.std.proofs.lemmas.Grind.{common_steps}
-use Rattle.totem_evs.specs.RunRecord.{RunRecord}
+use Rattle.totem_cert.proofs.Common.{◌≡◌, ◌++◌, take, drop, length, ap, ◌∙◌, arith, common_steps, RunRecord}
 use Rattle.totem_cert.proofs.Sound.{so_far_more}
 use Rattle.totem_cert.proofs.Started.{started}
 use Rattle.totem_cert.proofs.counted.number_by_counts.Goals as goal

@@ -1,5 +1,4 @@
-use Rattle.totem_cert.specs.Progress.{IsNumberedSoFar, entries_left}
-use Rattle.totem_cert.specs.Counts.{Counts}
+use Rattle.totem_cert.proofs.Common.{IsNumberedSoFar, entries_left, Counts}
 use Rattle.totem_cert.proofs.counted.number_by_counts.Given as goal
 
 abbrev pub invariant-loop-k : goal.invariant-loop-k

@@ -1,6 +1,4 @@
-use Rattle.std.proofs.Common.{◌<◌, length, ◌∙◌, ap, arith}
-use Rattle.std.proofs.Math.ListN.{length-map}
-use Rattle.totem_table.specs.Tables.{kind_of}
+use Rattle.totem_cert.proofs.Common.{◌<◌, length, ◌∙◌, ap, arith, length-map, kind_of}
 use Rattle.totem_cert.proofs.Lists.{at_index}
 use Rattle.totem_cert.proofs.KindFacts.{kind_read}
 use Rattle.totem_cert.proofs.CountSteps.{behind_few, behind_more, behind_all, at_most_more}

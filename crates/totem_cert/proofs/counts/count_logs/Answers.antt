@@ -1,7 +1,4 @@
-use Rattle.std.proofs.Common.{◌<◌, length, refl, ap, ◌∙◌, arith}
-use Rattle.std.proofs.lemmas.Option.{slice_get_read}
-use Rattle.totem_evs.specs.LogRecord.{LogRecord}
-use Rattle.totem_evs.specs.RunRecord.{RunRecord}
+use Rattle.totem_cert.proofs.Common.{◌<◌, length, refl, ap, ◌∙◌, arith, slice_get_read, LogRecord, RunRecord}
 use Rattle.totem_cert.proofs.CountSteps.{counts_few, counts_more, table_row, logs_short}
 use Rattle.totem_cert.proofs.counts.count_logs.Goals as goal
 

@@ -1,6 +1,4 @@
-use Rattle.std.proofs.Common.{◌≤◌, length, map}
-use Rattle.totem_cert.specs.Counts.{CountsTo}
-use Rattle.totem_cert.specs.Progress.{empty_line}
+use Rattle.totem_cert.proofs.Common.{◌≤◌, length, map, CountsTo, empty_line}
 use Rattle.totem_cert.proofs.counts.count_logs.Given as goal
 
 abbrev pub invariant-loop-k : goal.invariant-loop-k

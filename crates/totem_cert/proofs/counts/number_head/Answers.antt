@@ -1,8 +1,4 @@
-use Rattle.std.proofs.Common.{◌≡◌, length, refl, sym, ap, ◌∙◌}
-use Rattle.std.proofs.lemmas.Option.{slice_get_within}
-use Rattle.totem_evs.specs.LogRecord.{LogRecord}
-use Rattle.totem_evs.specs.Certificates.{Numbering}
-use Rattle.totem_cert.specs.Counts.{count_of}
+use Rattle.totem_cert.proofs.Common.{◌≡◌, length, refl, sym, ap, ◌∙◌, slice_get_within, LogRecord, Numbering, count_of}
 use Rattle.totem_cert.proofs.ClassHeads.{head_feeds}
 use Rattle.totem_cert.proofs.Lists.{read_is}
 use Rattle.totem_cert.proofs.KindFacts.{table_kinds}

@@ -1,7 +1,4 @@
-use Rattle.std.proofs.Common.{List, slice_get, sym, ◌∙◌, ap, arith}
-use Rattle.totem_evs.specs.declared.entry.Entry.{Entry}
-use Rattle.totem_evs.specs.LogRecord.{LogRecord}
-use Rattle.totem_table.specs.Tables.{IsEntryAt}
+use Rattle.totem_cert.proofs.Common.{List, slice_get, sym, ◌∙◌, ap, arith, Entry, LogRecord, IsEntryAt}
 use Rattle.totem_cert.proofs.CountSteps.{table_row}
 use Rattle.totem_cert.proofs.KindFacts.{kind_read, table_kinds}
 use Rattle.totem_cert.proofs.Lists.{at_index}

@@ -1,6 +1,4 @@
-use Rattle.std.proofs.Common.{sym, ◌∙◌, ap, arith}
-use Rattle.std.proofs.lemmas.Option.{slice_get_within}
-use Rattle.totem_evs.specs.LogRecord.{LogRecord}
+use Rattle.totem_cert.proofs.Common.{sym, ◌∙◌, ap, arith, slice_get_within, LogRecord}
 use Rattle.totem_cert.proofs.ClassHeads.{given_read, head_entry, next_class}
 use Rattle.totem_cert.proofs.Lists.{at_index}
 use Rattle.totem_cert.proofs.KindFacts.{table_kinds}

@@ -1,5 +1,4 @@
-use Rattle.std.proofs.Common.{◌≡◌, take, map}
-use Rattle.totem_cert.specs.Progress.{empty_line}
+use Rattle.totem_cert.proofs.Common.{◌≡◌, take, map, empty_line}
 use Rattle.totem_cert.proofs.numbering.started.Given as goal
 
 abbrev pub invariant-loop-log : goal.invariant-loop-log

@@ -1,10 +1,7 @@
-use Rattle.std.proofs.Common.{◌≡◌, ◌∙◌, sym, ap}
+use Rattle.totem_cert.proofs.Common.{◌≡◌, ◌∙◌, sym, ap, Three, RunRecord, map-id}
 use Rattle.std.proofs.lemmas.Iterator.Adapters.{YieldsList-from_vec}
 use Rattle.std.proofs.lemmas.Iterator.Consumers.{YieldsList-turn, YieldsList-end}
-use Rattle.totem_names.specs.declared.version.Version.TheVariants.{Three}
-use Rattle.totem_evs.specs.RunRecord.{RunRecord}
 use Rattle.totem_cert.proofs.Closable.{of_text, each_line, closable}
-use Rattle.std.proofs.lemmas.List.{map-id}
 use Rattle.totem_cert.proofs.order.certificate.Goals as goal
 
 pub close-requires : goal.close-requires

@@ -1,7 +1,4 @@
-use Rattle.std.proofs.Common.{◌≡◌, suc, ◌-◌, ◌∙◌, ap, arith}
-use Rattle.totem_names.specs.declared.place.Place.{Place}
-use Rattle.totem_evs.specs.LogRecord.{LogRecord}
-use Rattle.totem_evs.specs.RunRecord.{RunRecord}
+use Rattle.totem_cert.proofs.Common.{◌≡◌, suc, ◌-◌, ◌∙◌, ap, arith, Place, LogRecord, RunRecord}
 use Rattle.totem_cert.proofs.LineFacts.{read_log, class_read}
 use Rattle.totem_cert.proofs.KindFacts.{table_kinds}
 use Rattle.totem_cert.proofs.CountSteps.{table_row}

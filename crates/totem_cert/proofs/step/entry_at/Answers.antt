@@ -1,8 +1,4 @@
-use Rattle.std.proofs.Common.{length, ◌<◌, ◌≤◌, refl, sym, ◌∙◌, ap, arith}
-use Rattle.std.proofs.lemmas.Option.{slice_get_read, slice_get_past, slice_get_within}
-use Rattle.totem_evs.specs.LogRecord.{LogRecord}
-use Rattle.totem_evs.specs.RunRecord.{RunRecord}
-use Rattle.totem_evs.proofs.LogOf.{log_of_at}
+use Rattle.totem_cert.proofs.Common.{length, ◌<◌, ◌≤◌, refl, sym, ◌∙◌, ap, arith, slice_get_read, slice_get_past, slice_get_within, LogRecord, RunRecord, log_of_at}
 use Rattle.totem_cert.proofs.LineFacts.{no_entry, read_log}
 use Rattle.totem_cert.proofs.step.entry_at.Goals as goal
 

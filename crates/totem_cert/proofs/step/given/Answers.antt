@@ -1,5 +1,4 @@
-use Rattle.std.proofs.Common.{ℕ, length, ◌∙◌, ap}
-use Rattle.totem_evs.specs.Certificates.{numbers_of}
+use Rattle.totem_cert.proofs.Common.{ℕ, length, ◌∙◌, ap, numbers_of}
 use Rattle.totem_cert.proofs.LineFacts.{given_of, no_numbers}
 use Rattle.totem_cert.proofs.step.given.Goals as goal
 

@@ -1,8 +1,4 @@
-use Rattle.std.proofs.Common.{length, ◌<◌, ◌≤◌, refl, ◌∙◌, ap, arith}
-use Rattle.std.proofs.lemmas.Option.{slice_get_read, slice_get_within}
-use Rattle.totem_evs.specs.LogRecord.{LogRecord}
-use Rattle.totem_evs.specs.RunRecord.{RunRecord}
-use Rattle.totem_table.proofs.Checking.{holds_more}
+use Rattle.totem_cert.proofs.Common.{length, ◌<◌, ◌≤◌, refl, ◌∙◌, ap, arith, slice_get_read, slice_get_within, LogRecord, RunRecord, holds_more}
 use Rattle.totem_cert.proofs.step.index_of_log.Goals as goal
 
 pub loop-k-preserved : goal.loop-k-preserved

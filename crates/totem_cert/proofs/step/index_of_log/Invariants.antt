@@ -1,5 +1,4 @@
-use Rattle.std.proofs.Common.{◌≡◌}
-use Rattle.totem_table.proofs.Checking.{HoldsTo}
+use Rattle.totem_cert.proofs.Common.{◌≡◌, HoldsTo}
 use Rattle.totem_cert.proofs.step.index_of_log.Given as goal
 
 abbrev pub invariant-loop-k : goal.invariant-loop-k

@@ -1,5 +1,4 @@
-use Rattle.std.proofs.Common.{◌≡◌, suc, ◌-◌, ap, arith, sym}
-use Rattle.totem_names.specs.declared.place.Place.{Place}
+use Rattle.totem_cert.proofs.Common.{◌≡◌, suc, ◌-◌, ap, arith, sym, Place}
 use Rattle.totem_cert.proofs.TwinSteps.{found_message}
 use Rattle.totem_cert.proofs.twins.delivered.Goals as goal
 

@@ -1,5 +1,4 @@
-use Rattle.std.proofs.Common.{ap, sym, ◌∙◌}
-use Rattle.totem_evs.specs.ClosedLists.{Step}
+use Rattle.totem_cert.proofs.Common.{ap, sym, ◌∙◌, Step}
 use Rattle.totem_cert.proofs.Walking.{round, left_next, walking_more}
 use Rattle.totem_cert.proofs.Noting.{not_visited, noted_more}
 use Rattle.totem_cert.proofs.walk.walk_round.Goals as goal

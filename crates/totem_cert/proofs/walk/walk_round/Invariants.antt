@@ -1,5 +1,4 @@
-use Rattle.std.proofs.Common.{◌-◌, ◌^◌, length}
-use Rattle.totem_cert.specs.Progress.{IsWalking}
+use Rattle.totem_cert.proofs.Common.{◌-◌, ◌^◌, length, IsWalking}
 use Rattle.totem_cert.specs.Visited.{IsNoted}
 use Rattle.totem_cert.proofs.walk.walk_round.Given as goal
 

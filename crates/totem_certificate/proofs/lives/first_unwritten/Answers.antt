@@ -1,8 +1,5 @@
-use Rattle.std.proofs.Common.{Some, sym, ap, ◌∙◌}
-use Rattle.std.proofs.lemmas.Option.{slice_get-get_or}
-use Rattle.totem_evs.specs.Certificates.{Numbering}
+use Rattle.totem_certificate.proofs.Common.{Some, sym, ap, ◌∙◌, slice_get-get_or, Numbering, HasFirstLife}
 use Rattle.totem_names.proofs.Each.{each_more, each_whole}
-use Rattle.totem_certificate.specs.CertLives.{HasFirstLife}
 use Rattle.totem_certificate.proofs.WrittenLives.{all_first}
 use Rattle.totem_certificate.proofs.lives.first_unwritten.Goals as goal
 

@@ -1,6 +1,4 @@
-use Rattle.std.proofs.Common.{get_or, arith}
-use Rattle.std.proofs.lemmas.List.{get_or_default}
-use Rattle.totem_certificate.specs.Keeping.{IsNumber}
+use Rattle.totem_certificate.proofs.Common.{get_or, arith, get_or_default, IsNumber}
 use Rattle.totem_names.proofs.Each.{each_more, each_whole}
 use Rattle.totem_certificate.proofs.numbers.first_zero.Goals as goal
 

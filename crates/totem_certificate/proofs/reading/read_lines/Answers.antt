@@ -1,10 +1,4 @@
-use Rattle.std.proofs.Common.{◌-◌, ◌+◌, ◌==◌, refl, arith}
-use Rattle.std.proofs.lemmas.List.{length_push}
-use Rattle.std.proofs.lemmas.Result.{err_from_is_err_and}
-use Rattle.totem_names.proofs.Readers.{called, failed, same_left, stops}
-use Rattle.totem_names.specs.declared.version.Version.TheVariants.{Two}
-use Rattle.totem_evs.proofs.RunLoops.{full_is}
-use Rattle.totem_certificate.specs.CertGrammar.{numbering}
+use Rattle.totem_certificate.proofs.Common.{◌-◌, ◌+◌, ◌==◌, refl, arith, length_push, err_from_is_err_and, called, failed, same_left, stops, Two, full_is, numbering}
 use Rattle.totem_certificate.proofs.CertLoops.{lines_step, lines_none, ended, begun}
 use Rattle.totem_certificate.proofs.GrownLines.{rising_more}
 use Rattle.totem_certificate.proofs.reading.read_lines.Goals as goal

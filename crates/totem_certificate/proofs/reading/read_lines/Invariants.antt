@@ -1,7 +1,4 @@
-use Rattle.std.proofs.Common.{◌≡◌, ◌-◌, length}
-use Rattle.totem_names.specs.Sources.{Comes, seen}
-use Rattle.totem_names.specs.declared.version.Version.TheVariants.{Two}
-use Rattle.totem_certificate.specs.CertGrammar.{lines_at}
+use Rattle.totem_certificate.proofs.Common.{◌≡◌, ◌-◌, length, Comes, seen, Two, lines_at}
 use Rattle.totem_certificate.proofs.CertLoops.{with_lines}
 use Rattle.totem_certificate.proofs.GrownLines.{RisingLines}
 use Rattle.totem_certificate.proofs.reading.read_lines.Given as goal

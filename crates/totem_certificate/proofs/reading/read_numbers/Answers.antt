@@ -1,7 +1,4 @@
-use Rattle.std.proofs.Common.{◌-◌, ◌+◌, refl, arith}
-use Rattle.std.proofs.lemmas.List.{length_push}
-use Rattle.std.proofs.lemmas.Result.{err_from_is_err_and}
-use Rattle.totem_names.proofs.Readers.{begins, called, failed, same_left, stops, picks, skips}
+use Rattle.totem_certificate.proofs.Common.{◌-◌, ◌+◌, refl, arith, length_push, err_from_is_err_and, begins, called, failed, same_left, stops, picks, skips}
 use Rattle.totem_certificate.proofs.CertLoops.{numbers_first, numbers_step, numbers_none}
 use Rattle.totem_certificate.proofs.GrownLines.{numbered_none, numbered_more, are_numbered}
 use Rattle.totem_certificate.proofs.reading.read_numbers.Goals as goal

@@ -1,5 +1,4 @@
-use Rattle.std.proofs.Common.{◌≡◌, ◌-◌, length}
-use Rattle.totem_names.specs.Sources.{Comes, seen}
+use Rattle.totem_certificate.proofs.Common.{◌≡◌, ◌-◌, length, Comes, seen}
 use Rattle.totem_certificate.specs.CertGrammar.{numbers_at}
 use Rattle.totem_certificate.proofs.CertLoops.{with_numbers}
 use Rattle.totem_certificate.proofs.GrownLines.{Numbered}

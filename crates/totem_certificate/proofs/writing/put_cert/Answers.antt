@@ -1,8 +1,4 @@
-use Rattle.std.proofs.Common.{subst}
-use Rattle.totem_names.specs.Writing.{Writes, held}
-use Rattle.totem_names.proofs.Writers.{wrote_then, wrote_both}
-use Rattle.totem_certificate.specs.CertRecord.{CertRecord}
-use Rattle.totem_certificate.specs.CertText.{cert_text}
+use Rattle.totem_certificate.proofs.Common.{subst, Writes, held, wrote_then, wrote_both, CertRecord, cert_text}
 use Rattle.totem_certificate.proofs.writing.put_cert.Goals as goal
 
 pub returns : goal.returns

@@ -1,6 +1,4 @@
-use Rattle.std.proofs.Common.{◌≡◌, ℕ, ◌-◌, ◌≤◌, List, take, drop, arith, ap, ◌∙◌}
-use Rattle.std.proofs.lemmas.List.{take_rest}
-use Rattle.totem_certificate.specs.CertText.{numbers_text}
+use Rattle.totem_certificate.proofs.Common.{◌≡◌, ℕ, ◌-◌, ◌≤◌, List, take, drop, arith, ap, ◌∙◌, take_rest, numbers_text}
 use Rattle.totem_certificate.proofs.writing.put_few.Invariants.{Written}
 use Rattle.totem_certificate.proofs.writing.put_few.Goals as goal
 

@@ -1,5 +1,4 @@
-use Rattle.std.proofs.Common.{◌≡◌, ℕ, List, ◌*◌, ◌≤◌, drop, length}
-use Rattle.totem_certificate.specs.CertText.{numbers_text}
+use Rattle.totem_certificate.proofs.Common.{◌≡◌, ℕ, List, ◌*◌, ◌≤◌, drop, length, numbers_text}
 use Rattle.totem_certificate.proofs.writing.put_few.Given as goal
 
 -- the bytes from `start` on are the text of the numbers that are done

@@ -1,8 +1,4 @@
-use Rattle.std.proofs.Common.{take}
-use Rattle.std.specs.List.{flat_map}
-use Rattle.totem_names.specs.Processes.{process_text}
-use Rattle.totem_names.specs.Writing.{Wrote, held}
-use Rattle.totem_certificate.specs.CertText.{line_text}
+use Rattle.totem_certificate.proofs.Common.{take, flat_map, process_text, Wrote, held, line_text}
 use Rattle.totem_certificate.proofs.writing.put_lines.Given as goal
 
 abbrev pub invariant-loop-line : goal.invariant-loop-line

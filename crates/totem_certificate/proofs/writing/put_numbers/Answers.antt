@@ -1,8 +1,6 @@
-use Rattle.std.proofs.Common.{◌≡◌, ℕ, ◌+◌, ◌-◌, ◌++◌, ◌≤◌, List, take, drop, codes, decimal, arith, ap, ◌∙◌}
+use Rattle.totem_certificate.proofs.Common.{◌≡◌, ℕ, ◌+◌, ◌-◌, ◌++◌, ◌≤◌, List, take, drop, codes, decimal, arith, ap, ◌∙◌, wrote_both, numbers_text}
 use Rattle.std.proofs.lemmas.Grind.{flat_map-append}
 use Rattle.std.proofs.Math.Seq.{take-add}
-use Rattle.totem_names.proofs.Writers.{wrote_both}
-use Rattle.totem_certificate.specs.CertText.{numbers_text}
 use Rattle.totem_certificate.proofs.writing.put_numbers.Goals as goal
 
 -- the text of more numbers

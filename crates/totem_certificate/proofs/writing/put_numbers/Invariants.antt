@@ -1,6 +1,4 @@
-use Rattle.std.proofs.Common.{◌-◌, length, take}
-use Rattle.totem_names.specs.Writing.{Wrote, held}
-use Rattle.totem_certificate.specs.CertText.{numbers_text}
+use Rattle.totem_certificate.proofs.Common.{◌-◌, length, take, Wrote, held, numbers_text}
 use Rattle.totem_certificate.proofs.writing.put_numbers.Given as goal
 
 abbrev pub invariant-loop-done : goal.invariant-loop-done

@@ -1,5 +1,4 @@
-use Rattle.std.proofs.Common.{ap}
-use Rattle.totem_evs.specs.RunRecord.{RunRecord}
+use Rattle.totem_pass_d.proofs.Common.{ap, RunRecord}
 use Rattle.totem_check.specs.Judged.{IsViewOf}
 use Rattle.totem_check.proofs.Judging.{met_agreed}
 use Rattle.totem_check.proofs.judgement.settle.Goals as goal

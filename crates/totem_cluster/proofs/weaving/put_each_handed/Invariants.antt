@@ -1,7 +1,4 @@
-use Rattle.std.proofs.Common.{take}
-use Rattle.std.specs.List.{flat_map}
-use Rattle.totem_names.specs.Writing.{Wrote, held}
-use Rattle.totem_evs.specs.RunText.{line}
+use Rattle.totem_certificate.proofs.Common.{take, flat_map, Wrote, held, line}
 use Rattle.totem_cluster.specs.WeaveIo.{handed_text}
 use Rattle.totem_cluster.proofs.weaving.put_each_handed.Given as goal
 

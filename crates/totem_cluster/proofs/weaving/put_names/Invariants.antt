@@ -1,5 +1,4 @@
-use Rattle.std.proofs.Common.{take}
-use Rattle.totem_names.specs.Writing.{Wrote, held}
+use Rattle.totem_certificate.proofs.Common.{take, Wrote, held}
 use Rattle.totem_cluster.specs.WeaveIo.{names_text}
 use Rattle.totem_cluster.proofs.weaving.put_names.Given as goal
 

@@ -1,5 +1,4 @@
-use Rattle.std.proofs.Common.{ap, ◌∙◌}
-use Rattle.std.specs.Prelude.{unwrap_or}
+use Rattle.totem_core.proofs.Common.{ap, ◌∙◌, unwrap_or}
 use Rattle.totem_core.proofs.Telling.{finishing}
 use Rattle.totem_core.proofs.leaving.finishing_entries.Goals as goal
 

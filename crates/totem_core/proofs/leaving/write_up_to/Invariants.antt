@@ -1,5 +1,4 @@
-use Rattle.std.proofs.Common.{◌≡◌, ◌++◌, take, filter, nat_le}
-use Rattle.totem_recover.specs.Finish.{deliveries}
+use Rattle.totem_core.proofs.Common.{◌≡◌, ◌++◌, take, filter, nat_le, deliveries}
 use Rattle.totem_core.proofs.leaving.write_up_to.Given as goal
 
 abbrev pub invariant-loop-message : goal.invariant-loop-message

@@ -1,5 +1,4 @@
-use Rattle.std.proofs.Common.{◌≡◌, take}
-use Rattle.totem_core.specs.Visiting.{submits}
+use Rattle.totem_core.proofs.Common.{◌≡◌, take, submits}
 use Rattle.totem_core.proofs.told.visit_steps.Given as goal
 
 abbrev pub invariant-loop-body : goal.invariant-loop-body

@@ -1,5 +1,4 @@
-use Rattle.std.proofs.Common.{◌≡◌, ◌++◌, take}
-use Rattle.totem_recover.specs.Finish.{deliveries}
+use Rattle.totem_core.proofs.Common.{◌≡◌, ◌++◌, take, deliveries}
 use Rattle.totem_core.proofs.told.write_deliveries.Given as goal
 
 abbrev pub invariant-loop-message : goal.invariant-loop-message

@@ -1,7 +1,4 @@
-use Rattle.std.proofs.Common.{◌≡◌, ◌+◌, ◌++◌, take}
-use Rattle.totem_names.specs.declared.conf.ConfId.TheVariants.{Regular}
-use Rattle.totem_ring.specs.Visits.{numbered}
-use Rattle.totem_core.specs.Visiting.{sends}
+use Rattle.totem_core.proofs.Common.{◌≡◌, ◌+◌, ◌++◌, take, Regular, numbered, sends}
 use Rattle.totem_core.proofs.told.write_sends.Given as goal
 
 abbrev pub invariant-loop-body : goal.invariant-loop-body

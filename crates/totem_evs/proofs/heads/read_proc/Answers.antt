@@ -1,7 +1,5 @@
-use Rattle.std.proofs.Common.{refl}
-use Rattle.std.proofs.lemmas.Result.{err_from_is_err_and}
+use Rattle.totem_evs.proofs.Common.{refl, err_from_is_err_and, begins, called, failed, picks, skips, stops, is_within, is_above}
 use Rattle.totem_evs.specs.Heads.{proc_at}
-use Rattle.totem_names.proofs.Readers.{begins, called, failed, picks, skips, stops, is_within, is_above}
 use Rattle.totem_evs.proofs.heads.read_proc.Goals as goal
 
 pub returns-in_err-proc-clause-read : goal.returns-in_err-proc-clause-read

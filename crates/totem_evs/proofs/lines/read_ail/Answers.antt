@@ -1,7 +1,5 @@
-use Rattle.std.proofs.Common.{refl}
-use Rattle.std.proofs.lemmas.Result.{err_from_is_err_and}
+use Rattle.totem_evs.proofs.Common.{refl, err_from_is_err_and, begins, called, failed, handed, picks, skips, stops}
 use Rattle.totem_evs.specs.RunGrammar.{ail_at}
-use Rattle.totem_names.proofs.Readers.{begins, called, failed, handed, picks, skips, stops}
 use Rattle.totem_evs.proofs.lines.read_ail.Goals as goal
 
 pub returns-in_err-letter-clause-read : goal.returns-in_err-letter-clause-read

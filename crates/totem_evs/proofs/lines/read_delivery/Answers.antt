@@ -1,7 +1,5 @@
-use Rattle.std.proofs.Common.{sym, ◌∙◌}
-use Rattle.std.proofs.lemmas.Result.{err_from_is_err_and}
+use Rattle.totem_evs.proofs.Common.{sym, ◌∙◌, err_from_is_err_and, begins, called, failed, passed}
 use Rattle.totem_evs.specs.RunGrammar.{delivery_at}
-use Rattle.totem_names.proofs.Readers.{begins, called, failed, passed}
 use Rattle.totem_evs.proofs.lines.read_delivery.Goals as goal
 
 pub returns-in_err-conf-clause-read : goal.returns-in_err-conf-clause-read

@@ -1,7 +1,5 @@
-use Rattle.std.proofs.Common.{refl}
-use Rattle.totem_evs.specs.Endings.{writes_quiet}
+use Rattle.totem_evs.proofs.Common.{refl, writes_quiet, begins, called, handed, picks, passes_byte}
 use Rattle.totem_evs.specs.RunGrammar.{line_at}
-use Rattle.totem_names.proofs.Readers.{begins, called, handed, picks, passes_byte}
 use Rattle.totem_evs.proofs.lines.read_line.Goals as goal
 
 pub returns-in-99-clause-read : goal.returns-in-99-clause-read

@@ -1,7 +1,4 @@
-use Rattle.std.proofs.Common.{◌-◌, ◌+◌, refl, arith}
-use Rattle.std.proofs.lemmas.List.{length_push}
-use Rattle.std.proofs.lemmas.Result.{err_from_is_err_and}
-use Rattle.totem_names.proofs.Readers.{begins, called, failed, same_left, stops, picks, skips, is_within, is_above}
+use Rattle.totem_evs.proofs.Common.{◌-◌, ◌+◌, refl, arith, length_push, err_from_is_err_and, begins, called, failed, same_left, stops, picks, skips, is_within, is_above}
 use Rattle.totem_evs.proofs.RunLoops.{members_first, members_step, members_none}
 use Rattle.totem_evs.proofs.Grown.{rising_none, rising_more, rising_members}
 use Rattle.totem_evs.proofs.lines.read_members.Goals as goal

@@ -1,5 +1,4 @@
-use Rattle.std.proofs.Common.{◌≡◌, ◌-◌, length}
-use Rattle.totem_names.specs.Sources.{Comes, seen}
+use Rattle.totem_evs.proofs.Common.{◌≡◌, ◌-◌, length, Comes, seen}
 use Rattle.totem_evs.specs.RunGrammar.{members_at}
 use Rattle.totem_evs.proofs.RunLoops.{with_members}
 use Rattle.totem_evs.proofs.Grown.{Rising}

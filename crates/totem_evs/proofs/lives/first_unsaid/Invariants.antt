@@ -1,5 +1,4 @@
-use Rattle.std.proofs.Common.{All, take}
-use Rattle.std.specs.Prelude.{◌≢◌}
+use Rattle.totem_evs.proofs.Common.{All, take, ◌≢◌}
 use Rattle.totem_evs.specs.declared.ending.Ending.TheVariants.{Quiet}
 use Rattle.totem_evs.proofs.lives.first_unsaid.Given as goal
 

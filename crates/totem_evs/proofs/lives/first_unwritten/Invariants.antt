@@ -1,5 +1,4 @@
-use Rattle.std.proofs.Common.{All, take}
-use Rattle.totem_evs.specs.Lives.{HasFirstLives}
+use Rattle.totem_evs.proofs.Common.{All, take, HasFirstLives}
 use Rattle.totem_evs.proofs.lives.first_unwritten.Given as goal
 
 abbrev pub invariant-loop-at : goal.invariant-loop-at

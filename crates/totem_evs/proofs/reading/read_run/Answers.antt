@@ -1,25 +1,18 @@
-use Rattle.std.proofs.Common.{◌∙◌, ap}
+use Rattle.std.proofs.Common.{arith}
+use Rattle.totem_evs.proofs.Common.{◌∙◌, ap, ReadState, err_from_is_err_and}
 use Rattle.totem_evs.specs.declared.part.Part.TheVariants as parts
 use Rattle.totem_evs.specs.declared.stage.Stage.{Stage}
-use Rattle.totem_evs.specs.ReadState.{ReadState}
 use Rattle.totem_evs.proofs.Folding.{version_kept}
-use Rattle.std.proofs.lemmas.Result.{err_from_is_err_and}
 use Rattle.totem_evs.proofs.FoldedRun.{first_fault, first_folded, part_folded, end_folded, next_fault, folded_still}
 use Rattle.totem_evs.proofs.PassedOn.{header_fault}
 use Rattle.totem_evs.proofs.Gathers.{first_gathers, may_gather, each_has, falls}
 use Rattle.totem_evs.proofs.reading.read_run.Goals as goal
 
 pub returns-in_err-version : goal.returns-in_err-version
-returns-in_err-version g c =
-    let p = err_from_is_err_and c.from_residual.result c.from_residual.ensures.1 in
-    rw (p.1, p.2) (first_fault _ _ _ (header_fault _ _ _ c.in_err-version.ensures.read))
+returns-in_err-version g c = grind (arith, err_from_is_err_and, first_fault, header_fault)
 
 pub parts-init : goal.parts-init
-parts-init g c = (
-  rw c.new-logs.ensures (first_folded _ _ _ (record { version = c.in_ok-version.version; taken = c.in_ok-version.ensures.read; first = c.new-parts.ensures.first }) (first_gathers _ _ c.new-parts.ensures.first)),
-  c.new-parts.ensures.limits,
-  ap (λ (s : Stage). s.version) c.new-parts.ensures.first.stage,
-)
+parts-init g c = grind (arith, first_folded, first_gathers)
 
 pub returns-in_err-next : goal.returns-in_err-next
 returns-in_err-next g c =
@@ -43,26 +36,13 @@ returns-in-None g c =
     rw c.into_run.ensures (rw (ap (λ (s : ReadState). s.stage.version) kept.2 ∙ c.parts.invariant.2) at (end_folded _ _ _ c.take_repeat.new.self _ folded fits.0), each_has c.take_repeat.new.self _ folded.gathers fits.0.comes fits.1)
 
 pub add-requires : goal.add-requires
-add-requires g c =
-    let kept = c.in_default.ensures.kept in
-    let folded = folded_still _ _ _ _ c.take_repeat.new.self _ c.parts.invariant.0 kept.0 kept.1 kept.2 in
-    let fits = rw c.in-Some-2.is at c.in_ok-next.ensures.read in
-    may_gather c.take_repeat.new.self _ _ folded.gathers fits.comes
+add-requires g c = grind (arith, folded_still, may_gather)
 
 pub returns-in_err-add-in-Some-2 : goal.returns-in_err-add-in-Some-2
-returns-in_err-add-in-Some-2 g c =
-    let kept = c.in_default.ensures.kept in
-    let folded = folded_still _ _ _ _ c.take_repeat.new.self _ c.parts.invariant.0 kept.0 kept.1 kept.2 in
-    let fits = rw c.in-Some-2.is at c.in_ok-next.ensures.read in
-    let p = err_from_is_err_and c.from_residual-in_err-add-in-Some-2.result c.from_residual-in_err-add-in-Some-2.ensures.1 in
-    rw (p.1, p.2) (fits.taken.failures ∙ folded.so_far.failures)
+returns-in_err-add-in-Some-2 g c = grind (arith, folded_still, err_from_is_err_and)
 
 pub parts-smaller : goal.parts-smaller
-parts-smaller g c =
-    let kept = c.in_default.ensures.kept in
-    let folded = folded_still _ _ _ _ c.take_repeat.new.self _ c.parts.invariant.0 kept.0 kept.1 kept.2 in
-    let fits = rw c.in-Some-2.is at c.in_ok-next.ensures.read in
-    rw kept.2 at (falls c.take_repeat.new.self _ _ _ folded.gathers fits.comes fits.goes)
+parts-smaller g c = grind (arith, folded_still, falls)
 
 pub parts-preserved : goal.parts-preserved
 parts-preserved g c =

@@ -1,6 +1,4 @@
-use Rattle.std.proofs.Common.{◌≡◌}
-use Rattle.totem_names.specs.Sources.{seen}
-use Rattle.totem_evs.specs.ReadState.{IsReadState}
+use Rattle.totem_evs.proofs.Common.{◌≡◌, seen, IsReadState}
 use Rattle.totem_evs.proofs.FoldedRun.{Folded}
 use Rattle.totem_evs.proofs.Gathers.{parts_left}
 use Rattle.totem_evs.proofs.reading.read_run.Given as goal

@@ -1,6 +1,5 @@
-use Rattle.std.proofs.lemmas.Result.{err_from_is_err_and}
+use Rattle.totem_evs.proofs.Common.{err_from_is_err_and, begins, called, failed}
 use Rattle.totem_evs.specs.LineStarts.{delivery_start}
-use Rattle.totem_names.proofs.Readers.{begins, called, failed}
 use Rattle.totem_evs.proofs.repeats.read_delivery.Goals as goal
 
 pub returns-in_err-conf : goal.returns-in_err-conf

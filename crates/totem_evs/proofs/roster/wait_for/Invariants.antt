@@ -1,5 +1,4 @@
-use Rattle.std.specs.Prelude.{Contains, ◌↔◌}
-use Rattle.std.proofs.Common.{ℕ, ◌⊎◌, take}
+use Rattle.totem_evs.proofs.Common.{Contains, ◌↔◌, ℕ, ◌⊎◌, take}
 use Rattle.totem_evs.proofs.roster.wait_for.Given as goal
 
 abbrev pub invariant-loop-member : goal.invariant-loop-member

@@ -1,8 +1,4 @@
-use Rattle.std.proofs.Common.{take}
-use Rattle.std.specs.List.{flat_map}
-use Rattle.totem_names.specs.Writing.{Wrote, held}
-use Rattle.totem_names.specs.Processes.{process_text}
-use Rattle.totem_evs.specs.RunText.{line, entry_text}
+use Rattle.totem_evs.proofs.Common.{take, flat_map, Wrote, held, process_text, line, entry_text}
 use Rattle.totem_evs.proofs.writing.put_entries.Given as goal
 
 abbrev pub invariant-loop-entry : goal.invariant-loop-entry

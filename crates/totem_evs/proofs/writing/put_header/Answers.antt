@@ -1,6 +1,4 @@
-use Rattle.std.proofs.Common.{[], ◌∷◌, append_assoc}
-use Rattle.totem_names.proofs.Writers.{wrote_then}
-use Rattle.totem_evs.specs.RunText.{version_digit}
+use Rattle.totem_evs.proofs.Common.{[], ◌∷◌, append_assoc, wrote_then, version_digit}
 use Rattle.totem_evs.proofs.writing.put_header.Goals as goal
 
 pub returns : goal.returns

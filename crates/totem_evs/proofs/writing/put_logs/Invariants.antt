@@ -1,8 +1,4 @@
-use Rattle.std.proofs.Common.{take}
-use Rattle.std.specs.List.{flat_map}
-use Rattle.totem_names.specs.Writing.{Wrote, held}
-use Rattle.totem_names.specs.Processes.{process_text}
-use Rattle.totem_evs.specs.RunText.{log_text}
+use Rattle.totem_evs.proofs.Common.{take, flat_map, Wrote, held, process_text, log_text}
 use Rattle.totem_evs.proofs.writing.put_logs.Given as goal
 
 abbrev pub invariant-loop-log : goal.invariant-loop-log

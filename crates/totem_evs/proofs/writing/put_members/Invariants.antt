@@ -1,7 +1,4 @@
-use Rattle.std.proofs.Common.{take}
-use Rattle.totem_names.specs.Writing.{Wrote, held}
-use Rattle.totem_names.specs.Processes.{process_text}
-use Rattle.totem_evs.specs.RunText.{members_text}
+use Rattle.totem_evs.proofs.Common.{take, Wrote, held, process_text, members_text}
 use Rattle.totem_evs.proofs.writing.put_members.Given as goal
 
 abbrev pub invariant-loop-proc : goal.invariant-loop-proc

@@ -1,8 +1,4 @@
-use Rattle.std.proofs.Common.{subst}
-use Rattle.totem_names.specs.Writing.{Writes, held}
-use Rattle.totem_names.proofs.Writers.{wrote_then, wrote_both}
-use Rattle.totem_evs.specs.RunRecord.{RunRecord}
-use Rattle.totem_evs.specs.RunText.{run_text}
+use Rattle.totem_evs.proofs.Common.{subst, Writes, held, wrote_then, wrote_both, RunRecord, run_text}
 use Rattle.totem_evs.proofs.writing.put_run.Goals as goal
 
 pub returns : goal.returns

@@ -1,6 +1,4 @@
-use Rattle.std.proofs.Common.{refl, ◌∙◌, ap, length, arith}
-use Rattle.std.proofs.lemmas.Option.{slice_get_read}
-use Rattle.totem_evs.specs.LogRecord.{LogRecord}
+use Rattle.totem_judge_run.proofs.Common.{refl, ◌∙◌, ap, length, arith, slice_get_read, LogRecord}
 use Rattle.totem_judge_run.proofs.ChangesMet.{entered, where_met}
 use Rattle.totem_judge_run.proofs.changes_2_3.enter.Goals as goal
 

@@ -1,5 +1,4 @@
-use Rattle.std.proofs.Common.{refl}
-use Rattle.std.proofs.lemmas.Option.{slice_get_read}
+use Rattle.totem_judge_run.proofs.Common.{refl, slice_get_read}
 use Rattle.totem_judge_run.proofs.EndsTogether.{share_more, all_share}
 use Rattle.totem_judge_run.proofs.ends_2_1.all_share.Goals as goal
 

@@ -1,5 +1,4 @@
-use Rattle.std.proofs.Common.{refl}
-use Rattle.std.proofs.lemmas.Option.{slice_get_read}
+use Rattle.totem_judge_run.proofs.Common.{refl, slice_get_read}
 use Rattle.totem_judge_run.proofs.LogEnds.{ends_decided, ends_nowhere, last_stands, last_within, never_last}
 use Rattle.totem_judge_run.proofs.ends_2_1.ends_in.Goals as goal
 

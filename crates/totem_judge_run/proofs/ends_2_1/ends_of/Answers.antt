@@ -1,6 +1,4 @@
-use Rattle.std.proofs.Common.{refl, ◌∙◌, ap}
-use Rattle.std.proofs.lemmas.Option.{slice_get_read}
-use Rattle.totem_evs.specs.LogRecord.{LogRecord}
+use Rattle.totem_judge_run.proofs.Common.{refl, ◌∙◌, ap, slice_get_read, LogRecord}
 use Rattle.totem_judge_run.proofs.EndsTogether.{ends_more}
 use Rattle.totem_judge_run.proofs.ends_2_1.ends_of.Goals as goal
 

@@ -1,7 +1,5 @@
-use Rattle.std.proofs.Common.{refl, ◌∙◌, ap}
-use Rattle.std.proofs.lemmas.Option.{slice_get_read}
-use Rattle.totem_evs.specs.LogRecord.{LogRecord}
-use Rattle.totem_evs.specs.RunRecord.{RunRecord}
+use Rattle.std.proofs.Common.{arith}
+use Rattle.totem_judge_run.proofs.Common.{refl, ◌∙◌, ap, slice_get_read, LogRecord, RunRecord}
 use Rattle.totem_judge_run.proofs.EndsTogether.{together_more, all_together, least_end}
 use Rattle.totem_judge_run.proofs.ends_2_1.first_of.Goals as goal
 
@@ -16,10 +14,7 @@ returns-in-Some-clause-least c =
     (least_end run _ _ _ _ (rw runs at c.as_slice-log-items.ensures.run.rising) (rw logs at at) c.in-Some.ensures.quiet c.in-Some.ensures.found (rw logs at c.loop-k.invariant) refl)
 
 pub loop-k-preserved : goal.loop-k-preserved
-loop-k-preserved c =
-    let logs = c.as_slice-log-items.ensures.value ∙ ap (λ (r : RunRecord). r.logs) c.run.view_is in
-    let at = slice_get_read c.as_slice-log-items.result.now _ c.loop-k.k c.log-item.result refl c.loop-k-test.true c.log-item.is in
-    together_more _ _ _ at (rw logs c.in_default.ensures.none) c.loop-k.invariant
+loop-k-preserved c = grind (arith, slice_get_read, together_more)
 
 pub returns-clause-none : goal.returns-clause-none
 returns-clause-none c =

@@ -1,5 +1,4 @@
-use Rattle.std.proofs.Common.{ap, ◌∙◌}
-use Rattle.totem_evs.specs.RunRecord.{RunRecord}
+use Rattle.totem_judge_run.proofs.Common.{ap, ◌∙◌, RunRecord}
 use Rattle.totem_judge_run.proofs.EndsTogether.{none_alone}
 use Rattle.totem_judge_run.proofs.ends_2_1.has_quiet.Goals as goal
 

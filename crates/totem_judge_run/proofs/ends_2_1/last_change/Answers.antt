@@ -1,5 +1,4 @@
-use Rattle.std.proofs.Common.{refl, arith}
-use Rattle.std.proofs.lemmas.Option.{slice_get_read}
+use Rattle.totem_judge_run.proofs.Common.{refl, arith, slice_get_read}
 use Rattle.totem_judge_run.proofs.LogEnds.{none_more, stands_here, no_change}
 use Rattle.totem_judge_run.proofs.ends_2_1.last_change.Goals as goal
 

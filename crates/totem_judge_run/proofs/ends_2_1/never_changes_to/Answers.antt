@@ -1,12 +1,10 @@
-use Rattle.std.proofs.Common.{refl}
-use Rattle.std.proofs.lemmas.Option.{slice_get_read}
+use Rattle.std.proofs.Common.{arith}
+use Rattle.totem_judge_run.proofs.Common.{refl, slice_get_read}
 use Rattle.totem_judge_run.proofs.LogEnds.{no_change_more, changes_here, never_changes}
 use Rattle.totem_judge_run.proofs.ends_2_1.never_changes_to.Goals as goal
 
 pub returns-then-is_change_to : goal.returns-then-is_change_to
-returns-then-is_change_to c =
-    let at = slice_get_read c.args.log.now _ _ c.entry-item.result refl c.loop-entry-test.true c.entry-item.is in
-    (λ t. absurd cc, λ never. absurd (changes_here _ _ _ _ at (c.if-is_change_to.ensures.0 refl) never))
+returns-then-is_change_to c = grind (arith, slice_get_read, changes_here)
 
 pub loop-entry-preserved : goal.loop-entry-preserved
 loop-entry-preserved c =

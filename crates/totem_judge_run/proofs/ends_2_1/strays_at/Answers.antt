@@ -1,5 +1,4 @@
-use Rattle.std.proofs.Common.{refl}
-use Rattle.std.proofs.lemmas.Option.{slice_get_read}
+use Rattle.totem_judge_run.proofs.Common.{refl, slice_get_read}
 use Rattle.totem_judge_run.proofs.LogEnds.{last_stands, last_within, last_is_change, never_last}
 use Rattle.totem_judge_run.proofs.EndsTogether.{strays_here, with_all, with_none}
 use Rattle.totem_judge_run.proofs.ends_2_1.strays_at.Goals as goal

@@ -1,5 +1,4 @@
-use Rattle.std.proofs.Common.{refl}
-use Rattle.std.proofs.lemmas.Option.{slice_get_read}
+use Rattle.totem_judge_run.proofs.Common.{refl, slice_get_read}
 use Rattle.totem_judge_run.proofs.Walk.{goes_on, placed, after_failure, unfit, all_placed}
 use Rattle.totem_judge_run.proofs.misplaced_2_2.first_misplaced.Goals as goal
 use Rattle.totem_judge_run.proofs.misplaced_2_2.first_misplaced.Goals.{then-failed-via-then-failed, then-failed-via-else-failed+then-not-good}

@@ -1,7 +1,5 @@
-use Rattle.std.proofs.Common.{◌≡◌, ◌++◌, take}
-use Rattle.std.specs.List.{AllWithin}
+use Rattle.totem_judge_run.proofs.Common.{◌≡◌, ◌++◌, take, AllWithin, IsNoSendBetween, messages_in}
 use Rattle.totem_judge_run.specs.declared.once_1_4.Once.TheVariants as once
-use Rattle.totem_judge_run.specs.Once.{IsNoSendBetween, messages_in}
 use Rattle.totem_judge_run.proofs.once_1_4.add_sends.Given as goal
 
 abbrev pub invariant-loop-entry : goal.invariant-loop-entry

@@ -1,6 +1,4 @@
-use Rattle.std.proofs.Common.{arith}
-use Rattle.std.proofs.lemmas.Grind.{common_steps}
-use Rattle.std.proofs.lemmas.List.Elements.{filter_map-append}
+use Rattle.totem_judge_run.proofs.Common.{arith, common_steps, filter_map-append}
 use Rattle.totem_judge_run.proofs.once_1_4.deliveries_in.Goals as goal
 
 pub loop-entry-preserved : goal.loop-entry-preserved

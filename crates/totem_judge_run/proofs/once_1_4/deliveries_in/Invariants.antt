@@ -1,6 +1,5 @@
-use Rattle.std.proofs.Common.{◌≡◌, take}
+use Rattle.totem_judge_run.proofs.Common.{◌≡◌, take, messages_in}
 use Rattle.totem_judge_run.specs.declared.once_1_4.Once.TheVariants as once
-use Rattle.totem_judge_run.specs.Once.{messages_in}
 use Rattle.totem_judge_run.proofs.once_1_4.deliveries_in.Given as goal
 
 abbrev pub invariant-loop-entry : goal.invariant-loop-entry

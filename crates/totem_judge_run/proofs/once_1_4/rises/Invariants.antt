@@ -1,7 +1,5 @@
-use Rattle.std.proofs.Common.{◌≡◌, ◌<◌, ◌+◌, ℕ, get_or}
+use Rattle.totem_judge_run.proofs.Common.{◌≡◌, ◌<◌, ◌+◌, ℕ, get_or, MsgId, message_order}
 use Rattle.std.specs.declared.cmp.Ordering.TheVariants.{Less}
-use Rattle.totem_names.specs.declared.message.MsgId.{MsgId}
-use Rattle.totem_judge_run.specs.Once.{message_order}
 use Rattle.totem_judge_run.proofs.once_1_4.rises.Given as goal
 
 abbrev pub invariant-loop-at : goal.invariant-loop-at

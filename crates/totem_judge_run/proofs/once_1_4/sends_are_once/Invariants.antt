@@ -1,6 +1,5 @@
-use Rattle.std.proofs.Common.{◌≡◌, take}
+use Rattle.totem_judge_run.proofs.Common.{◌≡◌, take, IsNoSendBetween, sent_in}
 use Rattle.std.specs.List.{All}
-use Rattle.totem_judge_run.specs.Once.{IsNoSendBetween, sent_in}
 use Rattle.totem_judge_run.proofs.Placed.{EachBefore}
 use Rattle.totem_judge_run.proofs.once_1_4.sends_are_once.Given as goal
 

@@ -1,6 +1,4 @@
-use Rattle.std.proofs.Common.{refl, ◌∙◌, ap}
-use Rattle.std.proofs.lemmas.Option.{slice_get_read}
-use Rattle.totem_evs.specs.RunRecord.{RunRecord}
+use Rattle.totem_judge_run.proofs.Common.{refl, ◌∙◌, ap, slice_get_read, RunRecord}
 use Rattle.totem_judge_run.proofs.ChangesMet.{more_logs, all_agree}
 use Rattle.totem_judge_run.proofs.Distinct.{sent_more, sent_all, none_between, sends_once_if}
 use Rattle.totem_judge_run.proofs.Placed.{one_more, each_process, all_logs}

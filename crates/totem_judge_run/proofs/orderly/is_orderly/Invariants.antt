@@ -1,7 +1,5 @@
-use Rattle.std.proofs.Common.{◌≡◌, take}
+use Rattle.totem_judge_run.proofs.Common.{◌≡◌, take, StaysInPlace, IsNoSendBetween, sent_in}
 use Rattle.std.specs.List.{All}
-use Rattle.totem_evs.specs.Changes.{StaysInPlace}
-use Rattle.totem_judge_run.specs.Once.{IsNoSendBetween, sent_in}
 use Rattle.totem_judge_run.proofs.ChangesMet.{LogsAreRight}
 use Rattle.totem_judge_run.proofs.Placed.{EachBefore}
 use Rattle.totem_judge_run.proofs.orderly.is_orderly.Given as goal

@@ -1,7 +1,5 @@
-use Rattle.std.proofs.Common.{refl}
-use Rattle.std.proofs.lemmas.Option.{slice_get_read}
+use Rattle.totem_judge_run.proofs.Common.{refl, slice_get_read, none_between_more}
 use Rattle.totem_judge_run.proofs.Staying.{next_is_end}
-use Rattle.totem_evs.proofs.NextChanges.{none_between_more}
 use Rattle.totem_judge_run.proofs.standing.walk_to_change.Goals as goal
 
 pub loop-next-preserved : goal.loop-next-preserved

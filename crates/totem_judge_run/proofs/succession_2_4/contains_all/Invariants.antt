@@ -1,5 +1,4 @@
-use Rattle.std.proofs.Common.{take}
-use Rattle.std.specs.Prelude.{All, Contains}
+use Rattle.totem_judge_run.proofs.Common.{take, All, Contains}
 use Rattle.totem_judge_run.proofs.succession_2_4.contains_all.Given as goal
 
 abbrev pub invariant-loop-proc : goal.invariant-loop-proc

@@ -1,9 +1,5 @@
-use Rattle.std.proofs.Common.{◌<◌, length, None, sym, ◌∙◌, ap}
-use Rattle.std.proofs.lemmas.Option.{slice_get_within, slice_get-get_or}
-use Rattle.totem_evs.specs.LogRecord.{LogRecord}
-use Rattle.totem_evs.specs.RunRecord.{RunRecord}
-use Rattle.totem_evs.specs.Events.{log_of}
-use Rattle.totem_evs.proofs.LogOf.{log_of_at}
+use Rattle.std.proofs.Common.{arith}
+use Rattle.totem_judge_run.proofs.Common.{sym, ◌∙◌, ap, slice_get_within, slice_get-get_or, LogRecord, RunRecord, log_of, log_of_at}
 use Rattle.totem_judge_run.proofs.EndsTogether.{read_there}
 use Rattle.totem_judge_run.proofs.WhoWaits.{no_log}
 use Rattle.totem_judge_run.proofs.waitings.is_there.Goals as goal
@@ -12,12 +8,7 @@ pub returns-in_default : goal.returns-in_default
 returns-in_default c = no_log _ _ _ c.in_default.ensures.none
 
 pub ends_in-requires : goal.ends_in-requires
-ends_in-requires c =
-    let runs = ap (λ (r : RunRecord). r.logs) c.run.view_is in
-    let there = read_there _ _ _ _ _ (c.as_slice.ensures.value ∙ runs) c.in-Some.ensures.found c.index-as_slice-k.is in
-    let entries = ap (λ (l : LogRecord). l.entries) c.log.view_is in
-    let within : c.in-Some.k < length c.args.ends.now = rw c.requires.many (slice_get_within _ _ _ there.0) in
-    rw (c.as_slice-2.ensures.value ∙ entries) (c.requires.each _ _ _ there.0 (slice_get-get_or c.args.ends.now c.in-Some.k None within))
+ends_in-requires c = grind (arith, read_there, slice_get_within, slice_get-get_or)
 
 pub returns : goal.returns
 returns c =

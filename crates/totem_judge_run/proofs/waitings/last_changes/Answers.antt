@@ -1,8 +1,5 @@
-use Rattle.std.proofs.Common.{refl, sym, ◌∙◌, ap}
-use Rattle.std.proofs.lemmas.Option.{slice_get_read}
-use Rattle.totem_evs.specs.LogRecord.{LogRecord}
-use Rattle.totem_evs.specs.RunRecord.{RunRecord}
-use Rattle.totem_evs.proofs.LogOf.{log_of_at}
+use Rattle.std.proofs.Common.{arith}
+use Rattle.totem_judge_run.proofs.Common.{refl, sym, ◌∙◌, ap, slice_get_read, LogRecord, RunRecord, log_of_at}
 use Rattle.totem_judge_run.proofs.Ending.{ends_more}
 use Rattle.totem_judge_run.proofs.waitings.last_changes.Goals as goal
 
@@ -14,7 +11,4 @@ standing_change-requires c =
     rw (c.as_slice.ensures.value ∙ entries ∙ sym (log_of_at c.args.run.now.logs _ _ (rw runs at c.as_slice-logs.ensures.run.rising) (rw (c.as_slice-logs.ensures.value ∙ runs) at at))) (c.requires.placed _)
 
 pub loop-log-preserved : goal.loop-log-preserved
-loop-log-preserved c =
-    let at = slice_get_read c.as_slice-logs.result.now _ _ c.log-item.result refl c.loop-log-test.true c.log-item.is in
-    let entries = ap (λ (l : LogRecord). l.entries) c.log.view_is in
-    rw c.in_ok-push.ensures.items (ends_more _ _ _ _ _ at (rw (c.as_slice.ensures.value ∙ entries) at c.standing_change.ensures) c.loop-log.invariant)
+loop-log-preserved c = grind (arith, slice_get_read, ends_more)

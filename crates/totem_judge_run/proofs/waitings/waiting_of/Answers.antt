@@ -1,7 +1,4 @@
-use Rattle.std.proofs.Common.{◌<◌, refl, sym, ap, ◌∙◌}
-use Rattle.std.specs.Prelude.{AllPairs}
-use Rattle.totem_evs.specs.declared.entry.Entry.TheVariants.{Conf}
-use Rattle.std.proofs.lemmas.Option.{slice_get_read}
+use Rattle.totem_judge_run.proofs.Common.{◌<◌, refl, sym, ap, ◌∙◌, AllPairs, Conf, slice_get_read}
 use Rattle.totem_judge_run.proofs.WhoWaits.{members_rise, waits_not, waits_more, waits_all_in, waits_nowhere_in, change_at_end, end_within}
 use Rattle.totem_judge_run.proofs.Ending.{end_stands, end_nowhere_but}
 use Rattle.totem_judge_run.proofs.waitings.waiting_of.Goals.{then-not-is_there+in_ok-push, else-not-is_there}

@@ -1,5 +1,4 @@
-use Rattle.std.proofs.Common.{◌≤◌, length}
-use Rattle.totem_judge_traffic.specs.Clean.{LacksTo, AreCausalTo}
+use Rattle.totem_judge_traffic.proofs.Common.{◌≤◌, length, LacksTo, AreCausalTo}
 use Rattle.totem_judge_traffic.proofs.causality_5.are_causal.Given as goal
 
 abbrev pub invariant-loop-message : goal.invariant-loop-message

@@ -1,5 +1,4 @@
-use Rattle.std.proofs.Common.{◌≡◌, ◌⊎◌, ◌<◌, inl, inr, slice_get, Some}
-use Rattle.std.specs.Prelude.{slice_index}
+use Rattle.totem_judge_traffic.proofs.Common.{◌≡◌, ◌⊎◌, ◌<◌, inl, inr, slice_get, Some, slice_index}
 use Rattle.totem_judge_traffic.specs.LogSets.{Has}
 use Rattle.totem_judge_traffic.proofs.Rowing.{read_at}
 use Rattle.totem_judge_traffic.proofs.InSequence.{order_more}

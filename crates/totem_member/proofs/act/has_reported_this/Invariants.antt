@@ -1,5 +1,4 @@
-use Rattle.std.proofs.Common.{◌≡◌, drop}
-use Rattle.totem_member.specs.Commits.{report_of}
+use Rattle.totem_member.proofs.Common.{◌≡◌, drop, report_of}
 use Rattle.totem_member.proofs.act.has_reported_this.Given as goal
 
 abbrev pub invariant-loop-member : goal.invariant-loop-member

@@ -1,5 +1,4 @@
-use Rattle.std.proofs.Common.{◌≡◌, take, map}
-use Rattle.totem_member.specs.Commits.{filled_by}
+use Rattle.totem_member.proofs.Common.{◌≡◌, take, map, filled_by}
 use Rattle.totem_member.proofs.commit.filled.Given as goal
 
 abbrev pub invariant-loop-member : goal.invariant-loop-member

@@ -1,6 +1,4 @@
-use Rattle.std.proofs.Common.{ap, ◌∙◌}
-use Rattle.std.specs.Prelude.{Err}
-use Rattle.std.proofs.lemmas.Result.{err_from_is_err_and}
+use Rattle.totem_member.proofs.Common.{ap, ◌∙◌, Err, err_from_is_err_and}
 use Rattle.totem_member.proofs.Ways.{grown}
 use Rattle.totem_member.proofs.commit.on_commit.Goals as goal
 

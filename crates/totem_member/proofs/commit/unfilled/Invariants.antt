@@ -1,5 +1,4 @@
-use Rattle.std.proofs.Common.{◌≡◌, take, map}
-use Rattle.totem_member.specs.Commits.{unfilled}
+use Rattle.totem_member.proofs.Common.{◌≡◌, take, map, unfilled}
 use Rattle.totem_member.proofs.commit.unfilled.Given as goal
 
 abbrev pub invariant-loop-proc : goal.invariant-loop-proc

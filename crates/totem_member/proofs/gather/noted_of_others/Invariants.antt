@@ -1,5 +1,4 @@
-use Rattle.std.proofs.Common.{◌≡◌, take, not, filter}
-use Rattle.std.specs.Prelude.{◌==◌}
+use Rattle.totem_member.proofs.Common.{◌≡◌, take, not, filter, ◌==◌}
 use Rattle.totem_member.proofs.gather.noted_of_others.Given as goal
 
 abbrev pub invariant-loop-note : goal.invariant-loop-note

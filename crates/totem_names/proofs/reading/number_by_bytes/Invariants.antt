@@ -1,5 +1,4 @@
-use Rattle.std.proofs.Common.{◌-◌, ◌<◌, ◌≤◌}
-use Rattle.totem_names.specs.Sources.{Comes, seen}
+use Rattle.totem_names.proofs.Common.{◌-◌, ◌<◌, ◌≤◌, Comes, seen}
 use Rattle.totem_names.specs.Numbers.{digits_at, number_at}
 use Rattle.totem_names.proofs.reading.number_by_bytes.Given as goal
 

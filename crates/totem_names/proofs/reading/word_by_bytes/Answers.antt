@@ -1,5 +1,4 @@
-use Rattle.std.proofs.Common.{refl}
-use Rattle.std.proofs.lemmas.Result.{err_from_is_err_and}
+use Rattle.totem_names.proofs.Common.{refl, err_from_is_err_and}
 use Rattle.totem_names.proofs.Readers.{called, failed, picks, skips, stops, same_left, word_step, word_none}
 use Rattle.totem_names.proofs.reading.word_by_bytes.Goals as goal
 

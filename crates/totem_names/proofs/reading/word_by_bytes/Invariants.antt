@@ -1,5 +1,4 @@
-use Rattle.std.proofs.Common.{drop}
-use Rattle.totem_names.specs.Sources.{Comes, seen}
+use Rattle.totem_names.proofs.Common.{drop, Comes, seen}
 use Rattle.totem_names.specs.Numbers.{word_at}
 use Rattle.totem_names.proofs.reading.word_by_bytes.Given as goal
 

@@ -1,6 +1,5 @@
 -- The buffer keeps its length, and a read that failed took nothing.
-use Rattle.std.proofs.Common.{◌≡◌, length}
-use Rattle.std.specs.Io.KnownBytes.{Keeps}
+use Rattle.totem_names.proofs.Common.{◌≡◌, length, Keeps}
 use Rattle.totem_names.proofs.retry.read_retrying.Given as goal
 
 abbrev pub invariant-tries : goal.invariant-tries

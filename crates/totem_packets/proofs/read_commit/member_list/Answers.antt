@@ -1,6 +1,4 @@
-use Rattle.std.proofs.lemmas.List.Elements.{All-push}
-use Rattle.std.proofs.lemmas.Result.{err_from_is_err_and}
-use Rattle.totem_packets.specs.CommitMembers.{IsCommitMember}
+use Rattle.totem_packets.proofs.Common.{All-push, err_from_is_err_and, IsCommitMember}
 use Rattle.totem_packets.specs.Grammar.{member_at}
 use Rattle.totem_packets.proofs.Repeats.{ends, goes_on, is_done}
 use Rattle.totem_packets.proofs.read_commit.member_list.Goals as goal

@@ -1,5 +1,4 @@
-use Rattle.std.specs.Prelude.{All}
-use Rattle.totem_packets.specs.CommitMembers.{IsCommitMember}
+use Rattle.totem_packets.proofs.Common.{All, IsCommitMember}
 use Rattle.totem_packets.specs.Fields.{rising_at}
 use Rattle.totem_packets.specs.Grammar.{member_at}
 use Rattle.totem_packets.proofs.Repeats.{IsReadTo}

@@ -1,8 +1,4 @@
-use Rattle.std.proofs.Common.{arith}
-use Rattle.std.proofs.lemmas.List.Elements.{All-push}
-use Rattle.std.proofs.lemmas.Result.{err_from_is_err_and}
-use Rattle.std.specs.Int.{w32}
-use Rattle.totem_packets.specs.Rising.{IsNumber}
+use Rattle.totem_packets.proofs.Common.{arith, All-push, err_from_is_err_and, w32, IsNumber}
 use Rattle.totem_packets.specs.Fields.{above_at}
 use Rattle.totem_packets.proofs.Repeats.{ends, goes_on, is_done}
 use Rattle.totem_packets.proofs.read_lists.numbers.Goals as goal

@@ -1,7 +1,5 @@
-use Rattle.std.specs.Prelude.{All}
-use Rattle.std.specs.Int.{w32}
+use Rattle.totem_packets.proofs.Common.{All, w32, IsNumber}
 use Rattle.totem_packets.specs.Fields.{above_at, rising_at}
-use Rattle.totem_packets.specs.Rising.{IsNumber}
 use Rattle.totem_packets.proofs.Repeats.{IsReadTo}
 use Rattle.totem_packets.proofs.read_lists.numbers.Given as goal
 

@@ -1,9 +1,4 @@
-use Rattle.std.proofs.Common.{arith}
-use Rattle.std.proofs.lemmas.List.{length_push}
-use Rattle.std.proofs.lemmas.List.Elements.{All-push}
-use Rattle.std.proofs.lemmas.Result.{err_from_is_err_and}
-use Rattle.std.specs.Int.{w16}
-use Rattle.totem_names.specs.Texts.{IsProcess}
+use Rattle.totem_packets.proofs.Common.{arith, length_push, All-push, err_from_is_err_and, w16, IsProcess}
 use Rattle.totem_packets.specs.Fields.{above_at}
 use Rattle.totem_packets.proofs.Repeats.{ends, goes_on, is_done}
 use Rattle.totem_packets.proofs.read_lists.processes.Goals as goal

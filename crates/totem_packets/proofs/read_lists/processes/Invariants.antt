@@ -1,6 +1,4 @@
-use Rattle.std.specs.Prelude.{◌≤◌, length, All}
-use Rattle.std.specs.Int.{w16}
-use Rattle.totem_names.specs.Texts.{IsProcess}
+use Rattle.totem_packets.proofs.Common.{◌≤◌, length, All, w16, IsProcess}
 use Rattle.totem_packets.specs.Fields.{above_at, rising_at}
 use Rattle.totem_packets.proofs.Repeats.{IsReadTo}
 use Rattle.totem_packets.proofs.read_lists.processes.Given as goal

@@ -1,6 +1,4 @@
-use Rattle.std.proofs.Common.{◌≡◌, ◌++◌, take, length}
-use Rattle.std.specs.Int.{w8}
-use Rattle.std.specs.List.{flat_map}
+use Rattle.totem_packets.proofs.Common.{◌≡◌, ◌++◌, take, length, w8, flat_map}
 use Rattle.totem_packets.specs.Spelling.{number_bytes, ring_bytes, round_number, member_bytes}
 use Rattle.totem_packets.proofs.write_commit.put_commit.Given as goal
 

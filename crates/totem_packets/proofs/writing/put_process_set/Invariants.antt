@@ -1,6 +1,4 @@
-use Rattle.std.proofs.Common.{◌≡◌, ◌++◌, take, length}
-use Rattle.std.specs.Int.{w8, w16}
-use Rattle.std.specs.List.{flat_map}
+use Rattle.totem_packets.proofs.Common.{◌≡◌, ◌++◌, take, length, w8, w16, flat_map}
 use Rattle.totem_packets.specs.Spelling.{number_bytes}
 use Rattle.totem_packets.proofs.writing.put_process_set.Given as goal
 

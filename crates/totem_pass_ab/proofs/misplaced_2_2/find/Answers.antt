@@ -1,8 +1,4 @@
-use Rattle.std.proofs.Common.{refl, ◌∙◌, ap}
-use Rattle.std.proofs.lemmas.Option.{slice_get_read}
-use Rattle.totem_evs.specs.LogRecord.{LogRecord}
-use Rattle.totem_evs.specs.RunRecord.{RunRecord}
-use Rattle.totem_judge_run.proofs.Placed.{one_more, all_logs}
+use Rattle.totem_pass_ab.proofs.Common.{refl, ◌∙◌, ap, slice_get_read, LogRecord, RunRecord, one_more, all_logs}
 use Rattle.totem_pass_ab.proofs.Placed.{least_at}
 use Rattle.totem_pass_ab.proofs.misplaced_2_2.find.Goals as goal
 

@@ -1,5 +1,4 @@
-use Rattle.totem_evs.specs.Changes.{StaysInPlace}
-use Rattle.totem_judge_run.proofs.Placed.{EachBefore}
+use Rattle.totem_pass_ab.proofs.Common.{StaysInPlace, EachBefore}
 use Rattle.totem_pass_ab.proofs.misplaced_2_2.find.Given as goal
 
 abbrev pub invariant-loop-log : goal.invariant-loop-log

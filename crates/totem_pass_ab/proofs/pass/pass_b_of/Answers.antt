@@ -1,6 +1,5 @@
-use Rattle.std.proofs.Common.{[]}
+use Rattle.totem_pass_ab.proofs.Common.{[], IfOk-weaker}
 use Rattle.totem_evs.specs.declared.spec.SpecNo.TheVariants as spec
-use Rattle.std.proofs.lemmas.Result.{IfOk-weaker}
 use Rattle.totem_search.proofs.Listing.{lists_then}
 use Rattle.totem_pass_ab.proofs.pass.pass_b_of.Goals as goal
 

@@ -1,7 +1,4 @@
-use Rattle.std.proofs.Common.{refl, ◌∙◌, ap}
-use Rattle.std.proofs.lemmas.Option.{slice_get_read}
-use Rattle.totem_evs.specs.LogRecord.{LogRecord}
-use Rattle.totem_evs.specs.RunRecord.{RunRecord}
+use Rattle.totem_pass_ab.proofs.Common.{refl, ◌∙◌, ap, slice_get_read, LogRecord, RunRecord}
 use Rattle.totem_pass_ab.proofs.Repeating.{sure_log, doubtful_log, once_but}
 use Rattle.totem_pass_ab.proofs.twice_1_4.doubtful.Goals as goal
 use Rattle.totem_pass_ab.proofs.twice_1_4.doubtful.Goals.{then-not-branch+in_ok-push, else-not-branch}

@@ -1,5 +1,4 @@
-use Rattle.std.proofs.Common.{◌∙◌, ap, rules}
-use Rattle.totem_evs.specs.RunRecord.{RunRecord}
+use Rattle.totem_pass_ab.proofs.Common.{◌∙◌, ap, rules, RunRecord}
 use Rattle.totem_pass_ab.proofs.Repeating.{once_each}
 use Rattle.totem_pass_ab.proofs.twice_1_4.find.Goals as goal
 

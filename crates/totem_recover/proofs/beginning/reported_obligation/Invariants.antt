@@ -1,5 +1,4 @@
-use Rattle.std.proofs.Common.{◌≡◌, drop}
-use Rattle.totem_recover.specs.Exchange.{reported_obligation}
+use Rattle.totem_recover.proofs.Common.{◌≡◌, drop, reported_obligation}
 use Rattle.totem_recover.proofs.beginning.reported_obligation.Given as goal
 
 abbrev pub invariant-loop-member : goal.invariant-loop-member

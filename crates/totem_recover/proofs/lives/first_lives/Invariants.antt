@@ -1,5 +1,4 @@
-use Rattle.std.proofs.Common.{◌≡◌, take}
-use Rattle.totem_recover.specs.Lives.{first_ranks}
+use Rattle.totem_recover.proofs.Common.{◌≡◌, take, first_ranks}
 use Rattle.totem_recover.proofs.lives.first_lives.Given as goal
 
 abbrev pub invariant-loop-id : goal.invariant-loop-id

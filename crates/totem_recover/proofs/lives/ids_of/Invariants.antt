@@ -1,5 +1,4 @@
-use Rattle.std.proofs.Common.{◌≡◌, take}
-use Rattle.totem_recover.specs.Lives.{ids_of}
+use Rattle.totem_recover.proofs.Common.{◌≡◌, take, ids_of}
 use Rattle.totem_recover.proofs.lives.ids_of.Given as goal
 
 abbrev pub invariant-loop-proc : goal.invariant-loop-proc

@@ -1,6 +1,4 @@
-use Rattle.std.proofs.Common.{◌≡◌, map, drop}
-use Rattle.totem_names.specs.Ranks.{id_of}
-use Rattle.totem_recover.specs.Exchange.{mark_of, greatest_of_all, at_least}
+use Rattle.totem_recover.proofs.Common.{◌≡◌, map, drop, id_of, mark_of, greatest_of_all, at_least}
 use Rattle.totem_recover.proofs.marks.last_mark.Given as goal
 
 abbrev pub invariant-loop-proc : goal.invariant-loop-proc

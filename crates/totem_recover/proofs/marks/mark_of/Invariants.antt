@@ -1,5 +1,4 @@
-use Rattle.std.proofs.Common.{◌≡◌}
-use Rattle.totem_recover.specs.Exchange.{mark_of}
+use Rattle.totem_recover.proofs.Common.{◌≡◌, mark_of}
 use Rattle.totem_recover.proofs.marks.mark_of.Given as goal
 
 abbrev pub invariant-loop-number : goal.invariant-loop-number

@@ -1,6 +1,4 @@
-use Rattle.std.proofs.Common.{◌≡◌, ◌+◌, ◌≤◌, length, drop, fold, max}
-use Rattle.std.specs.List.{filter_map}
-use Rattle.totem_recover.specs.Exchange.{sent_anew}
+use Rattle.totem_recover.proofs.Common.{◌≡◌, ◌+◌, ◌≤◌, length, drop, fold, max, filter_map, sent_anew}
 use Rattle.totem_recover.proofs.sending.count_anew.Given as goal
 
 abbrev pub invariant-loop-to : goal.invariant-loop-to

@@ -1,6 +1,4 @@
-use Rattle.std.proofs.Common.{◌≡◌, ◌++◌}
-use Rattle.std.specs.List.{filter_map}
-use Rattle.totem_recover.specs.Exchange.{held_above, sent_again}
+use Rattle.totem_recover.proofs.Common.{◌≡◌, ◌++◌, filter_map, held_above, sent_again}
 use Rattle.totem_recover.proofs.sending.list_to_send.Given as goal
 
 abbrev pub invariant-loop-number : goal.invariant-loop-number

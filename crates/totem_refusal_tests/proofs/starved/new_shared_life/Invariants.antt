@@ -1,5 +1,4 @@
-use Rattle.std.proofs.Common.{[], ◌∷◌}
-use Rattle.totem_recover.specs.Lives.{first_rank}
+use Rattle.totem_script.proofs.Common.{first_rank}
 use Rattle.totem_refusal_tests.proofs.starved.new_shared_life.Given as goal
 
 abbrev pub ghosts-shared_life-L-Ledger : goal.ghosts-shared_life-L-Ledger

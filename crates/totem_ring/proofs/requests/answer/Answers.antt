@@ -1,6 +1,4 @@
-use Rattle.std.proofs.Common.{◌∙◌, ap, filter, not}
-use Rattle.std.specs.List.{filter_map}
-use Rattle.totem_ring.specs.Rings.{message_at, holds}
+use Rattle.totem_ring.proofs.Common.{◌∙◌, ap, filter, not, filter_map, message_at, holds}
 use Rattle.totem_ring.proofs.Asking.{left_are}
 use Rattle.totem_ring.proofs.requests.answer.Goals as goal
 

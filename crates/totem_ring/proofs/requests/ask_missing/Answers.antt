@@ -1,5 +1,4 @@
-use Rattle.std.proofs.Common.{◌≡◌, ℕ, ◌<◌, List, length, Vec, Global, sym, ◌∙◌, ap, arith}
-use Rattle.std.specs.Prelude.{insert}
+use Rattle.totem_ring.proofs.Common.{◌≡◌, ℕ, ◌<◌, List, length, Vec, Global, sym, ◌∙◌, ap, arith, insert}
 use Rattle.totem_ring.proofs.Missing.{asking_starts, asking_full, asking_past, asking_more, asking_there}
 use Rattle.totem_ring.proofs.requests.ask_missing.Goals.{in-Some+in_ok-insert, in_default}
 use Rattle.totem_ring.proofs.requests.ask_missing.Goals as goal

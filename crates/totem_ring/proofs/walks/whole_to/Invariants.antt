@@ -1,5 +1,4 @@
-use Rattle.std.proofs.Common.{◌≡◌, ℕ, ◌<◌, ◌≤◌, true}
-use Rattle.totem_ring.specs.Rings.{holds}
+use Rattle.totem_ring.proofs.Common.{◌≡◌, ℕ, ◌<◌, ◌≤◌, true, holds}
 use Rattle.totem_ring.proofs.walks.whole_to.Given as goal
 
 abbrev pub invariant-loop-number : goal.invariant-loop-number

@@ -1,6 +1,4 @@
-use Rattle.std.proofs.Common.{rules, ◌≡◌, Ok, Err, sym}
-use Rattle.totem_script.specs.Numbers.{process_in}
-use Rattle.totem_script.specs.Commands.{some_processes}
+use Rattle.totem_script.proofs.Common.{rules, ◌≡◌, Ok, Err, sym, process_in, some_processes}
 use Rattle.totem_script.proofs.Steps.{no_word, no_process, one_more}
 use Rattle.totem_script.proofs.cutting.processes.Goals as goal
 

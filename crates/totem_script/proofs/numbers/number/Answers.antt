@@ -1,5 +1,4 @@
-use Rattle.std.proofs.Common.{rules, ◌≡◌, ap, sym, ◌∙◌, arith}
-use Rattle.std.proofs.Common.{true}
+use Rattle.std.proofs.Common.{rules, ◌≡◌, ap, sym, ◌∙◌, arith, true}
 use Rattle.totem_script.specs.Numbers.{number_in, begins_number}
 use Rattle.totem_script.proofs.Digits.{no_digit, wrong_first, right_first, first_digit, other, large, small, at_end}
 use Rattle.totem_script.proofs.numbers.number.Goals as goal

@@ -1,7 +1,5 @@
-use Rattle.std.proofs.Common.{refl, arith}
-use Rattle.std.proofs.lemmas.Option.{slice_get_read}
+use Rattle.totem_stitch.proofs.Common.{refl, arith, slice_get_read, none_between_more}
 use Rattle.totem_stitch.proofs.NextChanges.{none_next_at_end, regular_next, moves_here}
-use Rattle.totem_evs.proofs.NextChanges.{none_between_more}
 use Rattle.totem_stitch.proofs.changes.moves_next.Goals as goal
 
 pub returns-in-Regular-clause-none : goal.returns-in-Regular-clause-none

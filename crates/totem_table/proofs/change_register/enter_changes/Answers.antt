@@ -1,9 +1,4 @@
-use Rattle.std.proofs.Common.{refl, sym, ◌∙◌, ap}
-use Rattle.std.proofs.lemmas.Option.{slice_get_read}
-use Rattle.totem_evs.specs.LogRecord.{LogRecord}
-use Rattle.totem_evs.specs.RunRecord.{RunRecord}
-use Rattle.totem_evs.specs.Events.{log_of}
-use Rattle.totem_evs.proofs.LogOf.{log_of_at}
+use Rattle.totem_table.proofs.Common.{refl, sym, ◌∙◌, ap, slice_get_read, LogRecord, RunRecord, log_of, log_of_at}
 use Rattle.totem_table.proofs.Entering.{before_more, before_end}
 use Rattle.totem_table.proofs.change_register.enter_changes.Goals as goal
 

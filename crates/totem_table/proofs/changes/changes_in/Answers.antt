@@ -1,5 +1,4 @@
-use Rattle.std.proofs.Common.{refl}
-use Rattle.std.proofs.lemmas.Option.{slice_get_read}
+use Rattle.totem_table.proofs.Common.{refl, slice_get_read}
 use Rattle.totem_table.proofs.Changing.{one_more, no_more}
 use Rattle.totem_table.proofs.changes.changes_in.Goals.{in-Conf+in_ok-push, in_default}
 use Rattle.totem_table.proofs.changes.changes_in.Goals as goal

@@ -1,5 +1,4 @@
-use Rattle.std.proofs.Common.{◌+◌, arith}
-use Rattle.std.proofs.lemmas.Option.{slice_get-get_or}
+use Rattle.totem_table.proofs.Common.{◌+◌, arith, slice_get-get_or}
 use Rattle.totem_table.proofs.Changing.{next_listed, none_follows}
 use Rattle.totem_table.proofs.changes.next_change.Goals as goal
 

@@ -1,7 +1,5 @@
-use Rattle.std.proofs.Common.{refl, arith}
+use Rattle.totem_table.proofs.Common.{refl, arith, slice_get_read, slice_get_within, kind_of}
 use Rattle.std.proofs.lemmas.List.{map_more}
-use Rattle.std.proofs.lemmas.Option.{slice_get_read, slice_get_within}
-use Rattle.totem_table.specs.Tables.{kind_of}
 use Rattle.totem_table.proofs.Checking.{holds_more}
 use Rattle.totem_table.proofs.checks.kinds_in.Goals as goal
 

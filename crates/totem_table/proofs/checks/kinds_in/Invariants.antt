@@ -1,5 +1,4 @@
-use Rattle.std.proofs.Common.{◌≡◌, get_or, map, take}
-use Rattle.totem_table.specs.Tables.{NamedBy, kind_of}
+use Rattle.totem_table.proofs.Common.{◌≡◌, get_or, map, take, NamedBy, kind_of}
 use Rattle.totem_table.proofs.Checking.{HoldsTo}
 use Rattle.totem_table.proofs.checks.kinds_in.Given as goal
 

@@ -1,6 +1,4 @@
-use Rattle.std.proofs.Common.{refl, arith, ap, ◌∙◌}
-use Rattle.std.proofs.lemmas.Option.{slice_get_read, slice_get_within}
-use Rattle.totem_evs.specs.LogRecord.{LogRecord}
+use Rattle.totem_table.proofs.Common.{refl, arith, ap, ◌∙◌, slice_get_read, slice_get_within, LogRecord}
 use Rattle.totem_table.proofs.Checking.{holds_more, kinds_more, row_named}
 use Rattle.totem_table.proofs.checks.kinds_of.Goals as goal
 

@@ -1,5 +1,4 @@
-use Rattle.std.proofs.Common.{◌≡◌, [], get_or, map, take}
-use Rattle.totem_table.specs.Tables.{RowNames, kinds_in}
+use Rattle.totem_table.proofs.Common.{◌≡◌, [], get_or, map, take, RowNames, kinds_in}
 use Rattle.totem_table.proofs.Checking.{HoldsTo}
 use Rattle.totem_table.proofs.checks.kinds_of.Given as goal
 

@@ -1,5 +1,4 @@
-use Rattle.std.proofs.Common.{◌≡◌, ◌≤◌, ◌+◌, ◌++◌, drop, length}
-use Rattle.totem_table.specs.Names.{names_in}
+use Rattle.totem_table.proofs.Common.{◌≡◌, ◌≤◌, ◌+◌, ◌++◌, drop, length, names_in}
 use Rattle.totem_table.proofs.names.add_names.Given as goal
 
 abbrev pub invariant-loop-entry : goal.invariant-loop-entry

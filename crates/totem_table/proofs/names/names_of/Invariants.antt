@@ -1,5 +1,4 @@
-use Rattle.std.proofs.Common.{◌≡◌, ◌≤◌, ◌*◌, ◌++◌, drop, length}
-use Rattle.totem_table.specs.Names.{all_names}
+use Rattle.totem_table.proofs.Common.{◌≡◌, ◌≤◌, ◌*◌, ◌++◌, drop, length, all_names}
 use Rattle.totem_table.proofs.names.names_of.Given as goal
 
 abbrev pub invariant-loop-log : goal.invariant-loop-log

@@ -1,5 +1,4 @@
-use Rattle.std.proofs.Common.{◌≡◌, take, map}
-use Rattle.totem_table.specs.Tables.{kinds_in}
+use Rattle.totem_table.proofs.Common.{◌≡◌, take, map, kinds_in}
 use Rattle.totem_table.proofs.sorting.kinds_of_all.Given as goal
 
 abbrev pub invariant-loop-log : goal.invariant-loop-log

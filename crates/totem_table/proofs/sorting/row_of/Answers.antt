@@ -1,6 +1,4 @@
-use Rattle.std.proofs.Common.{refl, arith}
-use Rattle.std.proofs.lemmas.Option.{slice_get_read}
-use Rattle.totem_evs.proofs.Pushing.{along_more}
+use Rattle.totem_table.proofs.Common.{refl, arith, slice_get_read, along_more}
 use Rattle.totem_table.proofs.NameLists.{lists_at, along_whole}
 use Rattle.totem_table.proofs.sorting.row_of.Goals as goal
 

@@ -1,5 +1,4 @@
-use Rattle.totem_evs.proofs.Pushing.{Along}
-use Rattle.totem_table.specs.Tables.{NamedBy}
+use Rattle.totem_table.proofs.Common.{Along, NamedBy}
 use Rattle.totem_table.proofs.sorting.row_of.Given as goal
 
 abbrev pub invariant-loop-entry : goal.invariant-loop-entry

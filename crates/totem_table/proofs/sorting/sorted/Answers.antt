@@ -1,9 +1,4 @@
-use Rattle.std.proofs.Common.{[], refl, ap, ◌∙◌, arith}
-use Rattle.std.proofs.lemmas.Option.{slice_get_read}
-use Rattle.totem_evs.specs.LogRecord.{LogRecord}
-use Rattle.totem_evs.specs.RunRecord.{RunRecord}
-use Rattle.totem_evs.proofs.Pushing.{along_more}
-use Rattle.totem_table.specs.Tables.{RowsName}
+use Rattle.totem_table.proofs.Common.{[], refl, ap, ◌∙◌, arith, slice_get_read, LogRecord, RunRecord, along_more, RowsName}
 use Rattle.totem_table.proofs.NameLists.{lists_at, along_whole, rising}
 use Rattle.totem_table.proofs.sorting.sorted.Goals as goal
 

@@ -1,5 +1,4 @@
-use Rattle.totem_evs.proofs.Pushing.{Along}
-use Rattle.totem_table.specs.Tables.{RowNames}
+use Rattle.totem_table.proofs.Common.{Along, RowNames}
 use Rattle.totem_table.proofs.sorting.sorted.Given as goal
 
 abbrev pub invariant-loop-log : goal.invariant-loop-log

@@ -1,4 +1,3 @@
-use Rattle.std.proofs.Common.{[], ◌∷◌}
 use Rattle.totem_thread_tests.proofs.recorded.book_of.Given as goal
 
 abbrev pub ghosts-live-L-Ledger : goal.ghosts-live-L-Ledger

@@ -1,5 +1,4 @@
-use Rattle.std.proofs.Common.{[], ◌∷◌}
-use Rattle.totem_recover.specs.Lives.{first_rank}
+use Rattle.totem_threads.proofs.Common.{first_rank}
 use Rattle.totem_thread_tests.proofs.shared_books.life_of.Given as goal
 
 abbrev pub ghosts-live-L-Ledger : goal.ghosts-live-L-Ledger

@@ -1,5 +1,4 @@
-use Rattle.std.proofs.Common.{◌≡◌}
-use Rattle.totem_net.specs.Nodes.{node_numbers}
+use Rattle.totem_threads.proofs.Common.{◌≡◌, node_numbers}
 use Rattle.totem_threads.proofs.firsts.first_members.Given as goal
 
 abbrev pub invariant-nodes : goal.invariant-nodes

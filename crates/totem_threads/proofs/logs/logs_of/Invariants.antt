@@ -1,5 +1,4 @@
-use Rattle.std.proofs.Common.{take}
-use Rattle.totem_threads.specs.Books.{AreLogsOf}
+use Rattle.totem_threads.proofs.Common.{take, AreLogsOf}
 use Rattle.totem_threads.proofs.logs.logs_of.Given as goal
 
 abbrev pub invariant-loop-book : goal.invariant-loop-book

@@ -1,5 +1,4 @@
-use Rattle.totem_recover.specs.Lives.{first_rank}
-use Rattle.totem_threads.specs.Starts.{first_ring}
+use Rattle.totem_threads.proofs.Common.{first_rank, first_ring}
 use Rattle.totem_threads.proofs.node.run_to_end.Given as goal
 
 abbrev pub ghosts-keep_book-L-Ledger : goal.ghosts-keep_book-L-Ledger

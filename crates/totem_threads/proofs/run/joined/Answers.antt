@@ -1,7 +1,5 @@
-use Rattle.std.proofs.Common.{arith}
+use Rattle.totem_threads.proofs.Common.{arith, All-push, IsFirstBook}
 use Rattle.std.proofs.lemmas.Grind.{common_steps}
-use Rattle.std.proofs.lemmas.List.Elements.{All-push}
-use Rattle.totem_threads.specs.FirstLives.{IsFirstBook}
 use Rattle.totem_threads.proofs.run.joined.Goals as goal
 
 pub loop-handle-preserved : goal.loop-handle-preserved

@@ -1,6 +1,4 @@
-use Rattle.std.proofs.Common.{◌≡◌, All, map}
-use Rattle.totem_threads.specs.FirstLives.{IsFirstBook}
-use Rattle.totem_threads.specs.Starts.{start_of}
+use Rattle.totem_threads.proofs.Common.{◌≡◌, All, map, IsFirstBook, start_of}
 use Rattle.totem_threads.proofs.run.joined.Given as goal
 
 abbrev pub invariant-loop-handle : goal.invariant-loop-handle

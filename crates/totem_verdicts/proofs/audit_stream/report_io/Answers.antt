@@ -1,6 +1,4 @@
-use Rattle.std.proofs.Common.{rules, ap}
-use Rattle.std.proofs.lemmas.Result.{err_from_is_err_and}
-use Rattle.totem_evs.specs.RunRecord.{RunRecord}
+use Rattle.totem_evs.proofs.Common.{rules, ap, err_from_is_err_and, RunRecord}
 use Rattle.totem_audit.specs.Verdicts.{answer_of}
 use Rattle.totem_verdicts.proofs.Reported.{audit_failed}
 use Rattle.totem_verdicts.proofs.audit_stream.report_io.Goals as goal

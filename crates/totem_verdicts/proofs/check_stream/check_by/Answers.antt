@@ -1,7 +1,4 @@
-use Rattle.std.proofs.Common.{refl, rules, ap, subst, []}
-use Rattle.std.proofs.lemmas.Result.{err_from_is_err_and}
-use Rattle.totem_names.specs.Writing.{Wrote, held}
-use Rattle.totem_evs.specs.RunRecord.{RunRecord}
+use Rattle.totem_evs.proofs.Common.{refl, rules, ap, subst, [], err_from_is_err_and, Wrote, held, RunRecord}
 use Rattle.totem_verdicts.specs.Report.{accepted_text}
 use Rattle.totem_verdicts.proofs.Reported.{whole_pair, certificate_failed, report_failed}
 use Rattle.totem_verdicts.proofs.check_stream.check_by.Goals as goal

@@ -1,5 +1,4 @@
-use Rattle.std.proofs.Common.{rules}
-use Rattle.std.proofs.lemmas.Result.{err_from_is_err_and}
+use Rattle.totem_evs.proofs.Common.{rules, err_from_is_err_and}
 use Rattle.totem_audit.specs.Verdicts.{answer_of}
 use Rattle.totem_verdicts.specs.declared.report.Form.TheVariants as forms
 use Rattle.totem_verdicts.proofs.Reported.{audit_failed}

@@ -1,5 +1,4 @@
-use Rattle.std.proofs.Common.{ap}
-use Rattle.totem_evs.specs.RunRecord.{RunRecord}
+use Rattle.totem_evs.proofs.Common.{ap, RunRecord}
 use Rattle.totem_verdicts.proofs.Reported.{no_explained}
 use Rattle.totem_verdicts.proofs.explain_stream.write_words.Goals as goal
 

@@ -1,5 +1,5 @@
 use Rattle.std.proofs.Common.{refl}
-use Rattle.totem_verdicts.specs.Endings.{judged, failed, misnamed, checked, unchecked}
+use Rattle.totem_verdicts.specs.Endings.{judged, failed, checked, unchecked}
 use Rattle.totem_verdicts.proofs.judging.judge_io.Goals as goal
 
 pub returns-in-Ok : goal.returns-in-Ok

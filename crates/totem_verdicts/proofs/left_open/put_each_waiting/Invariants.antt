@@ -1,6 +1,4 @@
-use Rattle.std.proofs.Common.{take}
-use Rattle.std.specs.List.{flat_map}
-use Rattle.totem_names.specs.Writing.{Wrote, held}
+use Rattle.totem_certificate.proofs.Common.{take, flat_map, Wrote, held}
 use Rattle.totem_verdicts.specs.Report.{waiting_line}
 use Rattle.totem_verdicts.proofs.left_open.put_each_waiting.Given as goal
 

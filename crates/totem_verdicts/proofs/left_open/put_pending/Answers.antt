@@ -1,9 +1,7 @@
-use Rattle.std.proofs.Common.{◌≡◌, ℕ, ◌+◌, ◌-◌, ◌≤◌, length, List, [], ◌∷◌, ◌++◌, take, drop, codes, ap, ◌∙◌, append_assoc, arith}
+use Rattle.totem_evs.proofs.Common.{◌≡◌, ℕ, ◌+◌, ◌-◌, ◌≤◌, length, List, [], ◌∷◌, ◌++◌, take, drop, codes, ap, ◌∙◌, append_assoc, arith, message_text, process_text}
 use Rattle.std.proofs.lemmas.List.{take_all, take-append-drop, length-drop, length-take-le, length-append}
 use Rattle.std.proofs.lemmas.Slice.{take-put_mid, drop-put_mid}
 use Rattle.std.proofs.lemmas.Grind.{common_steps}
-use Rattle.totem_names.specs.Texts.{message_text}
-use Rattle.totem_names.specs.Processes.{process_text}
 use Rattle.totem_verdicts.specs.Report.{pending_line}
 use Rattle.totem_verdicts.proofs.left_open.put_pending.Goals as goal
 

@@ -1,8 +1,4 @@
-use Rattle.std.proofs.Common.{take}
-use Rattle.std.specs.List.{flat_map}
-use Rattle.totem_names.specs.Processes.{process_text}
-use Rattle.totem_names.specs.Writing.{Wrote, held}
-use Rattle.totem_evs.specs.RunText.{line}
+use Rattle.totem_certificate.proofs.Common.{take, flat_map, process_text, Wrote, held, line}
 use Rattle.totem_evs.specs.ReportText.{fault_text}
 use Rattle.totem_verdicts.proofs.report.put_faults.Given as goal
 

@@ -1,6 +1,4 @@
-use Rattle.std.proofs.Common.{take}
-use Rattle.totem_names.specs.Processes.{process_text}
-use Rattle.totem_names.specs.Writing.{Wrote, held}
+use Rattle.totem_certificate.proofs.Common.{take, process_text, Wrote, held}
 use Rattle.totem_evs.specs.ReportText.{places_text}
 use Rattle.totem_verdicts.proofs.report.put_places.Given as goal
 

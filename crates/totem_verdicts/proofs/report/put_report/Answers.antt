@@ -1,8 +1,4 @@
-use Rattle.std.proofs.Common.{◌++◌, subst}
-use Rattle.totem_names.specs.declared.version.Version.{Version}
-use Rattle.totem_names.specs.Writing.{Writes, held}
-use Rattle.totem_names.proofs.Writers.{wrote_then}
-use Rattle.totem_certificate.specs.CertText.{cert_text}
+use Rattle.totem_certificate.proofs.Common.{◌++◌, subst, Version, Writes, held, wrote_then, cert_text}
 use Rattle.totem_verdicts.specs.Report.{yes_text}
 use Rattle.totem_verdicts.proofs.report.put_report.Goals as goal
 

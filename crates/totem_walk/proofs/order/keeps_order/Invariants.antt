@@ -1,6 +1,5 @@
-use Rattle.std.proofs.Common.{◌≡◌, ◌+◌}
+use Rattle.totem_walk.proofs.Common.{◌≡◌, ◌+◌, KeepsOrderBefore}
 use Rattle.totem_walk.specs.Pace.{IsPace}
-use Rattle.totem_walk.specs.Order.{KeepsOrderBefore}
 use Rattle.totem_walk.proofs.order.keeps_order.Given as goal
 
 abbrev pub invariant-loop-at : goal.invariant-loop-at

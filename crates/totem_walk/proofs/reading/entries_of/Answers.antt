@@ -1,9 +1,5 @@
-use Rattle.std.proofs.Common.{refl, sym, ◌∙◌, ap}
-use Rattle.std.proofs.lemmas.Option.{slice_get_read}
+use Rattle.totem_walk.proofs.Common.{refl, sym, ◌∙◌, ap, slice_get_read, RunRecord, log_of, log_of_at}
 use Rattle.totem_evs.specs.LogRecord.{LogRecord}
-use Rattle.totem_evs.specs.RunRecord.{RunRecord}
-use Rattle.totem_evs.specs.Events.{log_of}
-use Rattle.totem_evs.proofs.LogOf.{log_of_at}
 use Rattle.totem_walk.proofs.Finding.{none_of_more, none_of, is_other, is_same}
 use Rattle.totem_walk.proofs.reading.entries_of.Goals as goal
 

@@ -1,9 +1,4 @@
-use Rattle.std.proofs.Common.{List, Option, sym, subst}
-use Rattle.totem_packets.specs.declared.message.Message.{Message}
-use Rattle.totem_ring.specs.declared.outcome.RingOut.{RingOut}
-use Rattle.totem_ring.specs.Steps.{act_on}
-use Rattle.totem_weave.specs.Folds.{IsAt, with_act}
-use Rattle.totem_weave.specs.Weaving.{Tries}
+use Rattle.totem_weave.proofs.Common.{List, Option, sym, subst, Message, RingOut, act_on, IsAt, with_act, Tries}
 use Rattle.totem_weave.proofs.HandingUp.{done_more}
 use Rattle.totem_weave.proofs.handing.hand_up.Goals as goal
 

@@ -1,5 +1,4 @@
-use Rattle.std.proofs.Common.{take, arith}
-use Rattle.totem_weave.specs.Folds.{own_start, with_acts}
+use Rattle.totem_weave.proofs.Common.{take, arith, own_start, with_acts}
 use Rattle.totem_weave.proofs.HandingUp.{acts_more}
 use Rattle.totem_weave.proofs.handing.handed_by.Goals as goal
 

@@ -1,5 +1,4 @@
-use Rattle.std.proofs.Common.{take}
-use Rattle.totem_weave.specs.Folds.{IsAt, own_start, with_acts}
+use Rattle.totem_weave.proofs.Common.{take, IsAt, own_start, with_acts}
 use Rattle.totem_weave.proofs.handing.handed_by.Given as goal
 
 abbrev pub invariant-loop-act : goal.invariant-loop-act

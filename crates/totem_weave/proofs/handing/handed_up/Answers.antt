@@ -1,6 +1,4 @@
-use Rattle.std.proofs.Common.{◌∙◌, arith}
-use Rattle.std.proofs.lemmas.List.{map-append}
-use Rattle.totem_recover.specs.Lives.{ids_of}
+use Rattle.totem_weave.proofs.Common.{◌∙◌, arith, map-append, ids_of}
 use Rattle.totem_weave.proofs.HandingUp.{ups_more, ups_all}
 use Rattle.totem_weave.proofs.handing.handed_up.Goals as goal
 

@@ -1,6 +1,4 @@
-use Rattle.std.proofs.Common.{◌≡◌, map, take, zip}
-use Rattle.totem_recover.specs.Lives.{ids_of}
-use Rattle.totem_weave.specs.Tracks.{up_by}
+use Rattle.totem_weave.proofs.Common.{◌≡◌, map, take, zip, ids_of, up_by}
 use Rattle.totem_weave.proofs.handing.handed_up.Given as goal
 
 abbrev pub invariant-loop-place : goal.invariant-loop-place

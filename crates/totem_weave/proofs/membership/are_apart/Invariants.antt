@@ -1,6 +1,5 @@
-use Rattle.std.proofs.Common.{ℕ, ◌<◌}
+use Rattle.totem_weave.proofs.Common.{ℕ, ◌<◌, process_of}
 use Rattle.totem_weave.specs.Distinct.{IsFirstBy}
-use Rattle.totem_weave.specs.Woven.{process_of}
 use Rattle.totem_weave.proofs.membership.are_apart.Given as goal
 
 abbrev pub invariant-loop-place : goal.invariant-loop-place

@@ -1,6 +1,4 @@
-use Rattle.std.proofs.Common.{take}
-use Rattle.std.specs.Prelude.{All}
-use Rattle.totem_weave.specs.Woven.{IsOfMember}
+use Rattle.totem_weave.proofs.Common.{take, All, IsOfMember}
 use Rattle.totem_weave.proofs.membership.are_of_members.Given as goal
 
 abbrev pub invariant-loop-book : goal.invariant-loop-book

@@ -1,6 +1,4 @@
-use Rattle.std.proofs.Common.{◌≡◌, ℕ, ◌<◌, slice_get, Some}
-use Rattle.totem_books.specs.Seats.{Closed}
-use Rattle.totem_weave.specs.Woven.{process_of}
+use Rattle.totem_weave.proofs.Common.{◌≡◌, ℕ, ◌<◌, slice_get, Some, Closed, process_of}
 use Rattle.totem_weave.proofs.membership.is_second.Given as goal
 
 -- none of the books so far is of the same process

@@ -1,5 +1,4 @@
-use Rattle.std.proofs.Common.{◌-◌, ◌≤◌, arith}
-use Rattle.totem_names.specs.Ranks.{id_of}
+use Rattle.totem_weave.proofs.Common.{◌-◌, ◌≤◌, arith, id_of}
 use Rattle.totem_weave.proofs.RisingIds.{do_not_rise}
 use Rattle.totem_weave.proofs.membership.rise.Goals as goal
 

@@ -1,6 +1,4 @@
-use Rattle.std.proofs.Common.{ℕ, ◌+◌, ◌<◌}
-use Rattle.std.specs.Prelude.{slice_index}
-use Rattle.totem_recover.specs.Lives.{ids_of}
+use Rattle.totem_weave.proofs.Common.{ℕ, ◌+◌, ◌<◌, slice_index, ids_of}
 use Rattle.totem_weave.proofs.membership.rise.Given as goal
 
 -- each of these so far is below the next

@@ -1,5 +1,4 @@
-use Rattle.std.proofs.Common.{◌≡◌, ◌++◌, drop}
-use Rattle.totem_weave.specs.Recorded.{calls_acts}
+use Rattle.totem_weave.proofs.Common.{◌≡◌, ◌++◌, drop, calls_acts}
 use Rattle.totem_weave.proofs.recorded.acts_in.Given as goal
 
 abbrev pub invariant-loop-call : goal.invariant-loop-call

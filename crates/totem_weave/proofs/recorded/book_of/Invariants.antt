@@ -1,5 +1,4 @@
-use Rattle.std.proofs.Common.{◌≡◌, drop}
-use Rattle.totem_weave.specs.Recorded.{recorded}
+use Rattle.totem_weave.proofs.Common.{◌≡◌, drop, recorded}
 use Rattle.totem_weave.proofs.recorded.book_of.Given as goal
 
 abbrev pub invariant-loop-book : goal.invariant-loop-book

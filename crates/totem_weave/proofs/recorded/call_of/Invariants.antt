@@ -1,5 +1,4 @@
-use Rattle.std.proofs.Common.{◌≡◌, ◌+◌, length, take}
-use Rattle.totem_weave.specs.Recorded.{calls_acts}
+use Rattle.totem_weave.proofs.Common.{◌≡◌, ◌+◌, length, take, calls_acts}
 use Rattle.totem_weave.proofs.recorded.call_of.Given as goal
 
 abbrev pub invariant-loop-at : goal.invariant-loop-at

@@ -1,5 +1,4 @@
-use Rattle.std.proofs.Common.{◌≡◌, ◌+◌, ◌≤◌, length, drop}
-use Rattle.totem_weave.specs.Recorded.{acts_on}
+use Rattle.totem_weave.proofs.Common.{◌≡◌, ◌+◌, ◌≤◌, length, drop, acts_on}
 use Rattle.totem_weave.proofs.recorded.count_on.Given as goal
 
 abbrev pub invariant-loop-step : goal.invariant-loop-step

@@ -1,5 +1,4 @@
-use Rattle.std.proofs.Common.{◌≡◌, ◌++◌, drop}
-use Rattle.totem_weave.specs.Recorded.{acts_on}
+use Rattle.totem_weave.proofs.Common.{◌≡◌, ◌++◌, drop, acts_on}
 use Rattle.totem_weave.proofs.recorded.put_steps.Given as goal
 
 abbrev pub invariant-loop-step : goal.invariant-loop-step

@@ -1,5 +1,4 @@
-use Rattle.std.proofs.Common.{take}
-use Rattle.totem_weave.specs.Recorded.{AreTracksOf}
+use Rattle.totem_weave.proofs.Common.{take, AreTracksOf}
 use Rattle.totem_weave.proofs.track.tracks_of.Given as goal
 
 abbrev pub invariant-loop-proc : goal.invariant-loop-proc

@@ -1,7 +1,5 @@
-use Rattle.std.proofs.Common.{ℕ, ◌<◌, List, length, ◌∙◌, ap, arith}
+use Rattle.totem_weave.proofs.Common.{ℕ, ◌<◌, List, length, ◌∙◌, ap, arith, IsUnderWay, IsThrough, IsFirstLeft, HasTaken, steps_of, start_of, up_of_tracks, IsStuck}
 use Rattle.totem_weave.specs.declared.track.Track.{Track}
-use Rattle.totem_weave.specs.Tracks.{IsUnderWay, IsThrough, IsFirstLeft, HasTaken, steps_of, start_of, up_of_tracks}
-use Rattle.totem_weave.specs.Weaves.{IsStuck}
 use Rattle.totem_weave.proofs.RecordedOf.{as_many}
 use Rattle.totem_weave.proofs.FromBooks.{is_ready, is_left, next_is_recorded, orphan_is, woven_is, one_order_is}
 use Rattle.totem_weave.proofs.weaving.weave.Goals as goal

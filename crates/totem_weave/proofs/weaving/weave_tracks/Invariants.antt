@@ -1,5 +1,4 @@
-use Rattle.std.proofs.Common.{◌≡◌, ◌-◌, ◌^◌, length}
-use Rattle.totem_weave.specs.Tracks.{IsUnderWay}
+use Rattle.totem_weave.proofs.Common.{◌≡◌, ◌-◌, ◌^◌, length, IsUnderWay}
 use Rattle.totem_weave.proofs.weaving.weave_tracks.Given as goal
 
 abbrev pub invariant-rounds : goal.invariant-rounds

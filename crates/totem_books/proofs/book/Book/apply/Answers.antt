@@ -1,6 +1,5 @@
-use Rattle.std.proofs.Common.{◌+◌, subst, vec_len}
+use Rattle.totem_books.proofs.Common.{◌+◌, subst, vec_len, start_with}
 use Rattle.totem_books.specs.Replies.{answer_of}
-use Rattle.totem_books.specs.History.{start_with}
 use Rattle.totem_books.specs.Taking.{IsTaken}
 use Rattle.totem_books.proofs.Steps.{goes_on}
 use Rattle.totem_books.proofs.book.Book.apply.Goals as goal

@@ -1,5 +1,4 @@
-use Rattle.std.proofs.Common.{rules, ap, ◌++◌, ◌∷◌, [], ◌∙◌, List}
-use Rattle.totem_books.specs.Calls.{Receipt}
+use Rattle.totem_books.proofs.Common.{rules, ap, ◌++◌, ◌∷◌, [], ◌∙◌, List, Receipt}
 use Rattle.totem_books.proofs.Entering.{kept_entered, more_entered}
 use Rattle.totem_books.proofs.shared.SharedBook.call.Goals as goal
 

@@ -1,6 +1,4 @@
-use Rattle.std.proofs.Common.{ap, rules}
-use Rattle.totem_packets.specs.declared.commit_member.Report.{Report}
-use Rattle.totem_member.specs.declared.views.CommitView.{CommitView}
+use Rattle.totem_core.proofs.Common.{ap, rules, Report, CommitView}
 use Rattle.totem_core.proofs.Entering.{enters_ready}
 use Rattle.totem_core.proofs.node_core.NodeCore.commit_taken.Goals as goal
 

@@ -1,6 +1,5 @@
-use Rattle.std.proofs.Common.{take}
+use Rattle.totem_evs.proofs.Common.{take, members_text, known_text}
 use Rattle.std.specs.Fmt.{HasWritten, IsPlainFormatter}
-use Rattle.totem_evs.specs.RunText.{members_text, known_text}
 use Rattle.totem_evs.proofs.display.LineMembersDisplay.fmt.Given as goal
 
 abbrev pub invariant-loop-proc : goal.invariant-loop-proc

@@ -1,7 +1,6 @@
-use Rattle.std.proofs.Common.{take}
+use Rattle.totem_evs.proofs.Common.{take, known_text}
 use Rattle.std.specs.Fmt.{HasWritten, IsPlainFormatter}
 use Rattle.totem_evs.specs.ReportText.{places_text}
-use Rattle.totem_evs.specs.RunText.{known_text}
 use Rattle.totem_evs.proofs.display.LinePlacesDisplay.fmt.Given as goal
 
 abbrev pub invariant-loop-place : goal.invariant-loop-place

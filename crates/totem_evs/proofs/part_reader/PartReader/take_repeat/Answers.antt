@@ -1,5 +1,4 @@
-use Rattle.std.specs.Prelude.{nat_lt}
-use Rattle.std.proofs.Common.{sym, ◌∙◌}
+use Rattle.totem_evs.proofs.Common.{nat_lt, sym, ◌∙◌}
 use Rattle.totem_evs.proofs.Repeating.{repeated}
 use Rattle.totem_evs.proofs.part_reader.PartReader.take_repeat.Goals as goal
 

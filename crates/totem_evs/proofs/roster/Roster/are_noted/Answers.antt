@@ -1,5 +1,4 @@
-use Rattle.std.proofs.lemmas.Bool.{OnTrue_from}
-use Rattle.totem_evs.specs.ReadState.{AreNoted}
+use Rattle.totem_evs.proofs.Common.{OnTrue_from, AreNoted}
 use Rattle.totem_evs.proofs.roster.Roster.are_noted.Goals as goal
 
 pub returns-in-Some : goal.returns-in-Some

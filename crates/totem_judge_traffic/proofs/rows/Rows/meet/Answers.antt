@@ -1,6 +1,5 @@
-use Rattle.std.proofs.Common.{◌≡◌, ◌⊎◌, inl, inr, refl, arith}
+use Rattle.totem_judge_traffic.proofs.Common.{◌≡◌, ◌⊎◌, inl, inr, refl, arith, RowIsApart}
 use Rattle.totem_judge_traffic.specs.LogSets.{Has}
-use Rattle.totem_judge_traffic.specs.Lacking.{RowIsApart}
 use Rattle.totem_judge_traffic.proofs.Rowing.{apart_all, apart_row, apart_to_all}
 use Rattle.totem_judge_traffic.proofs.rows.Rows.meet.Goals.{else-contains-via-then-contains+else-row_meets, else-contains-via-else-contains}
 use Rattle.totem_judge_traffic.proofs.rows.Rows.meet.Goals as goal

@@ -1,7 +1,4 @@
-use Rattle.std.proofs.Common.{not}
-use Rattle.std.proofs.lemmas.List.{take_all}
-use Rattle.totem_packets.proofs.SetFacts.{part_is}
-use Rattle.totem_member.specs.Gathers.{agrees}
+use Rattle.totem_member.proofs.Common.{not, take_all, part_is, agrees}
 use Rattle.totem_member.proofs.gather.Gather.late.Goals as goal
 
 pub of-requires : goal.of-requires

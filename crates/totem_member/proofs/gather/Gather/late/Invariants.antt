@@ -1,5 +1,4 @@
-use Rattle.std.proofs.Common.{◌≡◌, ◌≤◌, take, not, filter, length}
-use Rattle.totem_member.specs.Gathers.{agrees}
+use Rattle.totem_member.proofs.Common.{◌≡◌, ◌≤◌, take, not, filter, length, agrees}
 use Rattle.totem_member.proofs.gather.Gather.late.Given as goal
 
 abbrev pub invariant-loop-proc : goal.invariant-loop-proc

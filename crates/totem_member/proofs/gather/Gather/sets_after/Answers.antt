@@ -1,6 +1,4 @@
-use Rattle.std.proofs.Common.{◌≡◌, ap, ◌∙◌, sym, false}
-use Rattle.totem_packets.specs.Sets.{has, with_process, union}
-use Rattle.totem_member.specs.Gathers.{Gather, turning_away, joined}
+use Rattle.totem_member.proofs.Common.{◌≡◌, ap, ◌∙◌, sym, false, has, with_process, union, Gather, turning_away, joined}
 use Rattle.totem_member.proofs.GatherFacts.{turned, heard, room, made_is, standing_so}
 use Rattle.totem_member.proofs.gather.Gather.sets_after.Goals as goal
 
@@ -29,7 +27,7 @@ made-requires-3 c =
     let same : c.self.inside.sets ≡ c.args.self.now.sets = ap (λ (g : Gather). g.sets) c.self.view_is in
     let still : has c.args.join.now.failed c.args.self.now.me ≡ false = ap (λ p. has c.args.join.now.failed p) (sym (ap (λ (g : Gather). g.me) c.self.view_is)) ∙ sym c.contains.ensures ∙ c.if-contains.false in
     room c.union-2.result (union c.args.self.now.sets.failed c.args.join.now.failed) (rw same at c.union-2.ensures)
-    (heard c.args.self.now c.args.join.now c.keeps_its_rule.ensures c.as_slice.ensures.processes c.as_slice-2.ensures.processes c.requires still).failed
+    (heard c.args.self.now c.args.join.now c.keeps_its_rule.ensures c.as_slice.ensures.processes c.requires c.as_slice-2.ensures.processes still).failed
 
 pub returns-clause-standing : goal.returns-clause-standing
 returns-clause-standing c =
@@ -38,4 +36,4 @@ returns-clause-standing c =
     standing_so c.args.self.now.me (joined c.args.self.now.sets c.args.join.now) c.made-2.result c.made-3.result
     (made_is c.union.result c.made-2.result _ c.made-2.ensures (rw same at c.union.ensures))
     (made_is c.union-2.result c.made-3.result _ c.made-3.ensures (rw same at c.union-2.ensures))
-    (heard c.args.self.now c.args.join.now c.keeps_its_rule.ensures c.as_slice.ensures.processes c.as_slice-2.ensures.processes c.requires still).standing
+    (heard c.args.self.now c.args.join.now c.keeps_its_rule.ensures c.as_slice.ensures.processes c.requires c.as_slice-2.ensures.processes still).standing

@@ -1,5 +1,4 @@
-use Rattle.std.proofs.Common.{◌≡◌, not, filter, ap, ◌∙◌}
-use Rattle.totem_member.specs.Gathers.{Gather, gathered, agrees, after_timeout}
+use Rattle.totem_member.proofs.Common.{◌≡◌, not, filter, ap, ◌∙◌, Gather, gathered, agrees, after_timeout}
 use Rattle.totem_member.proofs.GatherFacts.{given_up, room, made_is, standing_so}
 use Rattle.totem_member.proofs.gather.Gather.sets_without_late.Goals as goal
 

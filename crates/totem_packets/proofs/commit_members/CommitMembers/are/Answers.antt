@@ -1,6 +1,4 @@
-use Rattle.std.proofs.Common.{ap, sym, ◌∙◌, length}
-use Rattle.std.proofs.lemmas.List.{length-map}
-use Rattle.totem_packets.specs.OldRings.{processes_of}
+use Rattle.totem_packets.proofs.Common.{ap, sym, ◌∙◌, length, length-map, processes_of}
 use Rattle.totem_packets.proofs.SetFacts.{unlike}
 use Rattle.totem_packets.proofs.commit_members.CommitMembers.are.Goals as goal
 

@@ -1,6 +1,4 @@
-use Rattle.std.proofs.Common.{◌≡◌, drop}
-use Rattle.totem_packets.specs.Sets.{same_processes}
-use Rattle.totem_packets.specs.OldRings.{processes_of}
+use Rattle.totem_packets.proofs.Common.{◌≡◌, drop, same_processes, processes_of}
 use Rattle.totem_packets.proofs.commit_members.CommitMembers.are.Given as goal
 
 abbrev pub invariant-loop-at : goal.invariant-loop-at

@@ -1,6 +1,4 @@
-use Rattle.std.proofs.Common.{◌≡◌, drop, max}
-use Rattle.std.specs.Prelude.{fold}
-use Rattle.totem_packets.specs.OldRings.{greatest_delivered, reports_from}
+use Rattle.totem_packets.proofs.Common.{◌≡◌, drop, max, fold, greatest_delivered, reports_from}
 use Rattle.totem_packets.proofs.commit_members.CommitMembers.greatest_delivered.Given as goal
 
 abbrev pub invariant-loop-member : goal.invariant-loop-member

@@ -1,6 +1,4 @@
-use Rattle.std.proofs.Common.{◌≡◌, drop}
-use Rattle.totem_packets.specs.Sets.{has}
-use Rattle.totem_packets.specs.OldRings.{transitional_set}
+use Rattle.totem_packets.proofs.Common.{◌≡◌, drop, has, transitional_set}
 use Rattle.totem_packets.proofs.commit_members.CommitMembers.is_from.Given as goal
 
 abbrev pub invariant-loop-member : goal.invariant-loop-member

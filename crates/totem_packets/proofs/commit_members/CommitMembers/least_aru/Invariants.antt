@@ -1,5 +1,4 @@
-use Rattle.std.proofs.Common.{◌≡◌, drop}
-use Rattle.totem_packets.specs.OldRings.{least_aru, reports_from}
+use Rattle.totem_packets.proofs.Common.{◌≡◌, drop, least_aru, reports_from}
 use Rattle.totem_packets.proofs.OldRingFacts.{least_since}
 use Rattle.totem_packets.proofs.commit_members.CommitMembers.least_aru.Given as goal
 

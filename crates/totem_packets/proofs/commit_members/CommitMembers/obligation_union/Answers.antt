@@ -1,6 +1,4 @@
-use Rattle.std.proofs.Common.{◌≡◌, ◌+◌, ◌∙◌, ap, sym, drop, length, arith}
-use Rattle.std.proofs.lemmas.List.{drop_all}
-use Rattle.totem_packets.specs.OldRings.{obligation_union, reports_from, reports_ring}
+use Rattle.totem_packets.proofs.Common.{◌≡◌, ◌+◌, ◌∙◌, ap, sym, drop, length, arith, drop_all, obligation_union, reports_from, reports_ring}
 use Rattle.totem_packets.proofs.Longer.{rises_union, one_more_obliges, one_more_passes, fails_obliged}
 use Rattle.totem_packets.proofs.OldRingFacts.{obliged}
 use Rattle.totem_packets.proofs.commit_members.CommitMembers.obligation_union.Goals as goal

@@ -1,5 +1,4 @@
-use Rattle.std.proofs.Common.{◌≡◌, ◌≤◌, drop, length}
-use Rattle.totem_packets.specs.OldRings.{obligation_union, reports_from}
+use Rattle.totem_packets.proofs.Common.{◌≡◌, ◌≤◌, drop, length, obligation_union, reports_from}
 use Rattle.totem_packets.proofs.Longer.{Rises}
 use Rattle.totem_packets.proofs.OldRingFacts.{obliged}
 use Rattle.totem_packets.proofs.commit_members.CommitMembers.obligation_union.Given as goal

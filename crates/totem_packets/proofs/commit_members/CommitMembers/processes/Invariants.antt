@@ -1,5 +1,4 @@
-use Rattle.std.proofs.Common.{◌≡◌, ◌≤◌, length, take}
-use Rattle.totem_packets.specs.OldRings.{processes_of}
+use Rattle.totem_packets.proofs.Common.{◌≡◌, ◌≤◌, length, take, processes_of}
 use Rattle.totem_packets.proofs.commit_members.CommitMembers.processes.Given as goal
 
 abbrev pub invariant-loop-member : goal.invariant-loop-member

@@ -1,5 +1,4 @@
-use Rattle.std.proofs.Common.{◌≡◌, take}
-use Rattle.totem_packets.specs.Lives.{transitional_ranks}
+use Rattle.totem_packets.proofs.Common.{◌≡◌, take, transitional_ranks}
 use Rattle.totem_packets.proofs.commit_members.CommitMembers.transitional_lives.Given as goal
 
 abbrev pub invariant-loop-member : goal.invariant-loop-member

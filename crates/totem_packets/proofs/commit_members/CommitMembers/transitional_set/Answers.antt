@@ -1,5 +1,4 @@
-use Rattle.std.proofs.lemmas.List.{take_all}
-use Rattle.totem_packets.specs.OldRings.{reports_ring}
+use Rattle.totem_packets.proofs.Common.{take_all, reports_ring}
 use Rattle.totem_packets.proofs.OldRingFacts.{members_are}
 use Rattle.totem_packets.proofs.commit_members.CommitMembers.transitional_set.Goals as goal
 

@@ -1,5 +1,4 @@
-use Rattle.std.proofs.Common.{◌≡◌, ◌≤◌, length, take}
-use Rattle.totem_packets.specs.OldRings.{transitional_set}
+use Rattle.totem_packets.proofs.Common.{◌≡◌, ◌≤◌, length, take, transitional_set}
 use Rattle.totem_packets.proofs.commit_members.CommitMembers.transitional_set.Given as goal
 
 abbrev pub invariant-loop-member : goal.invariant-loop-member

@@ -1,5 +1,4 @@
-use Rattle.std.proofs.Common.{arith, refl}
-use Rattle.std.proofs.lemmas.Grind.{common_steps}
+use Rattle.totem_pass_ab.proofs.Common.{arith, refl, common_steps}
 use Rattle.totem_pass_ab.proofs.Quick.{none_known}
 use Rattle.totem_pass_ab.proofs.Origins.{nothing_noted, none_above}
 use Rattle.totem_pass_ab.proofs.succession_2_4.NotedOriginsQuickTests.may_differ.Goals as goal

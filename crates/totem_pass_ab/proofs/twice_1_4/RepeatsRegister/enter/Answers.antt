@@ -1,8 +1,6 @@
-use Rattle.std.proofs.Common.{refl}
-use Rattle.std.proofs.lemmas.Option.{slice_get_read}
+use Rattle.totem_pass_ab.proofs.Common.{refl, slice_get_read, on_ok_weaker}
 use Rattle.totem_names.specs.contracts.message.MsgIdOrd.TheImpl.Laws as message
 use Rattle.totem_pass_ab.specs.contracts.twice_1_4.DeliveryOrd.TheImpl.Laws as delivery
-use Rattle.std.proofs.lemmas.Result.{on_ok_weaker}
 use Rattle.totem_pass_ab.proofs.Repeating.{keeps_sends, keeps_deliveries, enters_delivery, enters_nothing, leaves_out, leaves_out_send}
 use Rattle.totem_pass_ab.proofs.twice_1_4.RepeatsRegister.enter.Goals as goal
 

@@ -1,6 +1,4 @@
-use Rattle.std.proofs.Common.{◌≡◌, Bool, true, false, not, refl}
-use Rattle.std.proofs.lemmas.Option.{slice_get_read}
-use Rattle.totem_table.proofs.Exact.{exact_change}
+use Rattle.totem_pass_ab.proofs.Common.{◌≡◌, Bool, true, false, not, refl, slice_get_read, exact_change}
 use Rattle.totem_pass_ab.proofs.Sent.{enters_regular_change, follows_first, one_more_followed}
 use Rattle.totem_pass_ab.proofs.unsent_1_3.FollowedChangeRegister.enter_change.Goals as goal
 

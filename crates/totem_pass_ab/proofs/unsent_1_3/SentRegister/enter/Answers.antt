@@ -1,5 +1,4 @@
-use Rattle.std.proofs.Common.{refl}
-use Rattle.std.proofs.lemmas.Option.{slice_get_read}
+use Rattle.totem_pass_ab.proofs.Common.{refl, slice_get_read}
 use Rattle.totem_pass_ab.proofs.Sent.{one_more_send}
 use Rattle.totem_pass_ab.proofs.unsent_1_3.SentRegister.enter.Goals as goal
 

@@ -1,6 +1,4 @@
-use Rattle.std.proofs.Common.{◌≡◌, take}
-use Rattle.std.specs.List.{filter_map}
-use Rattle.totem_ring.specs.Rings.{message_at}
+use Rattle.totem_ring.proofs.Common.{◌≡◌, take, filter_map, message_at}
 use Rattle.totem_ring.proofs.held.Held.asked.Given as goal
 
 abbrev pub invariant-loop-number : goal.invariant-loop-number

@@ -1,6 +1,5 @@
-use Rattle.std.proofs.Common.{sym, ◌∙◌, ap, ◌≡◌, ◌+◌, length, arith, length-append}
+use Rattle.totem_ring.proofs.Common.{sym, ◌∙◌, ap, ◌≡◌, ◌+◌, length, arith, length-append, going_up}
 use Rattle.std.specs.Option.{option_copied}
-use Rattle.totem_ring.specs.Rings.{going_up}
 use Rattle.totem_ring.proofs.UpSteps.{ends_none, ends_waits, ends_full, one_more}
 use Rattle.totem_ring.proofs.held.Held.going_up.Goals as goal
 

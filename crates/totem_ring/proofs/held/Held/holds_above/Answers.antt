@@ -1,6 +1,4 @@
-use Rattle.std.proofs.Common.{◌<◌, ◌-◌, length, refl, sym, ◌∙◌, ap, arith}
-use Rattle.totem_ring.specs.Rings.{Held}
-use Rattle.totem_ring.specs.Refusals.{holds_above}
+use Rattle.totem_ring.proofs.Common.{◌<◌, ◌-◌, length, refl, sym, ◌∙◌, ap, arith, Held, holds_above}
 use Rattle.totem_ring.proofs.Last.{last_above}
 use Rattle.totem_ring.proofs.held.Held.holds_above.Goals as goal
 

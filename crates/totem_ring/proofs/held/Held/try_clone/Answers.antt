@@ -1,5 +1,4 @@
-use Rattle.std.proofs.Common.{◌≡◌, ◌++◌, sym, ◌∙◌, ap, append-nil}
-use Rattle.totem_ring.specs.Rings.{Held}
+use Rattle.totem_ring.proofs.Common.{◌≡◌, ◌++◌, sym, ◌∙◌, ap, append-nil, Held}
 use Rattle.totem_ring.proofs.HoldingMore.{copies_on}
 use Rattle.totem_ring.proofs.held.Held.try_clone.Goals as goal
 

@@ -1,5 +1,4 @@
-use Rattle.std.proofs.Common.{◌∙◌, ap, arith}
-use Rattle.totem_ring.specs.Rings.{Ring}
+use Rattle.totem_ring.proofs.Common.{◌∙◌, ap, arith, Ring}
 use Rattle.totem_ring.proofs.Missing.{numbered_of}
 use Rattle.totem_ring.proofs.state.RingState.numbered.Goals as goal
 

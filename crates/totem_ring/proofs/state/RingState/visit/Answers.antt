@@ -1,15 +1,7 @@
-use Rattle.std.proofs.Common.{Vec, Global, [], ◌≡◌, ◌+◌, ◌<◌, List, Some, None, sym, ◌∙◌, ap, subst}
-use Rattle.std.specs.Prelude.{All}
-use Rattle.totem_packets.specs.declared.message.Message.{Message}
+use Rattle.totem_ring.proofs.Common.{Vec, Global, [], ◌≡◌, ◌+◌, ◌<◌, List, Some, None, sym, ◌∙◌, ap, subst, All, Message, Ring, token_refusal, numbered, after_token, IsDoneUndoably, Body}
 use Rattle.totem_ring.specs.declared.outcome.RingOut.{RingOut}
-use Rattle.totem_ring.specs.Rings.{Ring}
-use Rattle.totem_ring.specs.Refusals.{token_refusal}
-use Rattle.totem_ring.specs.Visits.{numbered}
-use Rattle.totem_ring.specs.Steps.{after_token}
 use Rattle.totem_ring.specs.declared.undo.RingUndo.{RingUndo}
 use Rattle.totem_ring.specs.declared.undo.RingUndo.TheVariants.{Visit as OfVisit}
-use Rattle.totem_ring.specs.Undoing.{IsDoneUndoably}
-use Rattle.totem_packets.specs.declared.message.Body.{Body}
 use Rattle.totem_ring.proofs.VisitAnswers.{own_above, own_fits, back_again, departs}
 use Rattle.totem_ring.proofs.state.RingState.visit.Goals as goal
 

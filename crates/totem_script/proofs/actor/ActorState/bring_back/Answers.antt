@@ -1,8 +1,4 @@
-use Rattle.std.proofs.Common.{rules, ◌≡◌, ◌+◌, [], ◌∷◌, length, ap, true, arith}
-use Rattle.totem_names.specs.Names.{RingName}
-use Rattle.totem_evs.specs.LogRecord.{LogRecord}
-use Rattle.totem_core.specs.Replay.{first_change}
-use Rattle.totem_script.specs.Actors.{Actor, may_return, next_life}
+use Rattle.totem_script.proofs.Common.{rules, ◌≡◌, ◌+◌, [], ◌∷◌, length, ap, true, arith, RingName, LogRecord, first_change, Actor, may_return, next_life}
 use Rattle.totem_script.proofs.Acting.{recorded_loud}
 use Rattle.totem_script.proofs.NextLife.{can_return, next_history, is_back}
 use Rattle.totem_script.proofs.actor.ActorState.bring_back.Goals as goal

@@ -1,5 +1,4 @@
-use Rattle.std.proofs.Common.{◌∙◌, sym, arith, rules}
-use Rattle.std.proofs.lemmas.List.{take_rest}
+use Rattle.totem_script.proofs.Common.{◌∙◌, sym, arith, rules, take_rest}
 use Rattle.totem_script.proofs.LineEnds.{line_ends, too_long, is_cut, no_line}
 use Rattle.totem_script.proofs.lines.Lines.next.Goals as goal
 use Rattle.totem_script.proofs.lines.Lines.next.Goals.{then-self, else-self}

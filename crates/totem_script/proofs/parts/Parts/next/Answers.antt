@@ -1,5 +1,4 @@
-use Rattle.std.proofs.Common.{rules}
-use Rattle.std.proofs.lemmas.List.{take_rest}
+use Rattle.totem_script.proofs.Common.{rules, take_rest}
 use Rattle.totem_script.proofs.Cuts.{cut_found, cut_nowhere, goes_on}
 use Rattle.totem_script.proofs.parts.Parts.next.Goals as goal
 

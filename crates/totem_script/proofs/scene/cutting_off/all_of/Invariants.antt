@@ -1,5 +1,4 @@
-use Rattle.std.proofs.Common.{◌≡◌, take}
-use Rattle.std.specs.List.{concat}
+use Rattle.totem_script.proofs.Common.{◌≡◌, take, concat}
 use Rattle.totem_script.proofs.scene.cutting_off.all_of.Given as goal
 
 abbrev pub invariant-loop-group : goal.invariant-loop-group

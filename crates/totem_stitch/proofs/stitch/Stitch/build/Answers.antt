@@ -1,7 +1,5 @@
-use Rattle.std.proofs.Common.{refl, ◌∙◌, ap}
-use Rattle.std.proofs.lemmas.Option.{slice_get_read}
+use Rattle.totem_stitch.proofs.Common.{refl, ◌∙◌, ap, slice_get_read, RunRecord}
 use Rattle.totem_evs.specs.LogRecord.{LogRecord}
-use Rattle.totem_evs.specs.RunRecord.{RunRecord}
 use Rattle.totem_stitch.proofs.Tabled.{no_logs_yet, one_more_log, is_stitch}
 use Rattle.totem_stitch.proofs.stitch.Stitch.build.Goals as goal
 

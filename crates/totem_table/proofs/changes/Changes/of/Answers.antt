@@ -1,7 +1,4 @@
-use Rattle.std.proofs.Common.{refl, ap, ◌∙◌}
-use Rattle.std.proofs.lemmas.Option.{slice_get_read}
-use Rattle.totem_evs.specs.LogRecord.{LogRecord}
-use Rattle.totem_evs.proofs.Pushing.{along_more}
+use Rattle.totem_table.proofs.Common.{refl, ap, ◌∙◌, slice_get_read, LogRecord, along_more}
 use Rattle.totem_table.proofs.changes.Changes.of.Goals as goal
 
 pub loop-log-preserved : goal.loop-log-preserved

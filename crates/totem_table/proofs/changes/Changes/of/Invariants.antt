@@ -1,6 +1,4 @@
-use Rattle.std.proofs.Common.{length}
-use Rattle.totem_evs.proofs.Pushing.{Along}
-use Rattle.totem_table.specs.Changes.{ListsChanges}
+use Rattle.totem_table.proofs.Common.{length, Along, ListsChanges}
 use Rattle.totem_table.proofs.changes.Changes.of.Given as goal
 
 abbrev pub invariant-loop-log : goal.invariant-loop-log

@@ -1,5 +1,4 @@
-use Rattle.std.proofs.Common.{◌≡◌, ◌+◌}
-use Rattle.totem_walk.specs.Deliveries.{AreDeliveriesBefore}
+use Rattle.totem_walk.proofs.Common.{◌≡◌, ◌+◌, AreDeliveriesBefore}
 use Rattle.totem_walk.proofs.deliveries.Deliveries.build.Given as goal
 
 abbrev pub invariant-loop-at : goal.invariant-loop-at

@@ -1,5 +1,4 @@
-use Rattle.std.proofs.Common.{◌≡◌, ◌-◌, ◌^◌, length}
-use Rattle.totem_weave.specs.Tracks.{IsUnderWay}
+use Rattle.totem_weave.proofs.Common.{◌≡◌, ◌-◌, ◌^◌, length, IsUnderWay}
 use Rattle.totem_weave.proofs.Rounds.{AdvancedSoFar}
 use Rattle.totem_weave.proofs.weaver.Weaver.advance.Given as goal
 

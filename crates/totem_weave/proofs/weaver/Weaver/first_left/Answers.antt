@@ -1,6 +1,4 @@
-use Rattle.std.proofs.Common.{ℕ, inl, inr, sym, subst, arith}
-use Rattle.std.proofs.lemmas.Bool.{cases_eq}
-use Rattle.totem_weave.specs.Tracks.{IsThrough}
+use Rattle.totem_weave.proofs.Common.{ℕ, inl, inr, sym, subst, arith, cases_eq, IsThrough}
 use Rattle.totem_weave.proofs.Underway.{through_there, left_there}
 use Rattle.totem_weave.proofs.weaver.Weaver.first_left.Goals as goal
 

@@ -1,5 +1,4 @@
-use Rattle.std.proofs.Common.{ℕ, ◌<◌}
-use Rattle.totem_weave.specs.Tracks.{IsThrough}
+use Rattle.totem_weave.proofs.Common.{ℕ, ◌<◌, IsThrough}
 use Rattle.totem_weave.proofs.weaver.Weaver.first_left.Given as goal
 
 abbrev pub invariant-loop-place : goal.invariant-loop-place

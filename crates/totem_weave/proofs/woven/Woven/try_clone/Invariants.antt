@@ -1,5 +1,4 @@
-use Rattle.std.proofs.Common.{◌≡◌, ℕ, List, map, take}
-use Rattle.totem_packets.specs.declared.message.Message.{Message}
+use Rattle.totem_weave.proofs.Common.{◌≡◌, ℕ, List, map, take, Message}
 use Rattle.totem_weave.proofs.woven.Woven.try_clone.Given as goal
 
 abbrev pub invariant-loop-proc : goal.invariant-loop-proc

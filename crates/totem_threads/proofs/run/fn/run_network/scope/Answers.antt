@@ -1,8 +1,7 @@
-use Rattle.std.proofs.Common.{◌≡◌, map, ap, sym, ◌∙◌}
+use Rattle.totem_threads.proofs.Common.{◌≡◌, map, ap, sym, ◌∙◌, start_of}
 use Rattle.std.proofs.lemmas.Iterator.Adapters.{YieldsList-from_vec}
 use Rattle.std.proofs.lemmas.Iterator.Consumers.{YieldsList-end}
 use Rattle.std.proofs.lemmas.List.{map-id}
-use Rattle.totem_threads.specs.Starts.{start_of}
 use Rattle.totem_threads.proofs.Starting.{starts_of}
 use Rattle.totem_threads.proofs.run.fn.run_network.scope.Goals as goal
 

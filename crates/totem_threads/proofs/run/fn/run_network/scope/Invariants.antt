@@ -1,5 +1,4 @@
-use Rattle.std.proofs.Common.{◌≡◌, map}
-use Rattle.totem_threads.specs.Starts.{start_of}
+use Rattle.totem_threads.proofs.Common.{◌≡◌, map, start_of}
 use Rattle.totem_threads.proofs.run.fn.run_network.scope.Given as goal
 
 abbrev pub invariant-loop-ends : goal.invariant-loop-ends
