@@ -1,35 +1,10 @@
 -- What the lists of a configuration say about the logs, if they were verified.
-use Rattle.std.proofs.Common.{◌≡◌, inl, inr, ℕ, ◌<◌, ◌≤◌, List, length, slice_get, Some, refl, sym, ◌∙◌, ap, subst, arith}
-use Rattle.std.proofs.lemmas.Option.{slice_get_within}
-use Rattle.totem_names.specs.declared.conf.ConfId.{ConfId}
-use Rattle.totem_names.specs.declared.conf.ConfId.TheVariants.{Regular}
-use Rattle.totem_names.specs.declared.message.MsgId.{MsgId}
+use Rattle.totem_judge.proofs.Common.{◌≡◌, inl, inr, ℕ, ◌<◌, ◌≤◌, List, length, slice_get, Some, refl, sym, ◌∙◌, ap, subst, arith, slice_get_within, ConfId, Regular, MsgId, Entry, Send, Deliver, Conf, Log, IsRun, ChangesTo, Sends, Delivers, log_of, IsChange, Names, Follows, Com, DeliversIn, Numbering, Certified, less_or_not, Sent, Got, Traffic, IsBy, IsLogAt, one_log, names_no_change, is_stay, IsEventAt, HasSuch, IsAny, ComesBefore, IsLinked, IsThere, IsGotAt, IsSentAt, IsSentIn, AreAsListed, IsReplayed, IsSeen, IsOrderly}
 use Rattle.totem_names.specs.declared.message.Service.{Service}
-use Rattle.totem_evs.specs.declared.entry.Entry.{Entry}
-use Rattle.totem_evs.specs.declared.entry.Entry.TheVariants.{Send, Deliver, Conf}
-use Rattle.totem_evs.specs.declared.log.Log.{Log}
-use Rattle.totem_evs.specs.Runs.{IsRun}
-use Rattle.totem_evs.specs.Events.{ChangesTo, Sends, Delivers, log_of, IsChange}
-use Rattle.totem_evs.specs.Changes.{Names}
-use Rattle.totem_evs.specs.Following.{Follows, Com, DeliversIn}
-use Rattle.totem_evs.specs.Certificates.{Numbering, Certified}
-use Rattle.totem_evs.proofs.LogOf.{less_or_not}
-use Rattle.totem_judge_traffic.specs.declared.traffic.Sent.{Sent}
-use Rattle.totem_judge_traffic.specs.declared.traffic.Got.{Got}
-use Rattle.totem_judge_traffic.specs.declared.traffic.Traffic.{Traffic}
-use Rattle.totem_judge_traffic.specs.Clean.{IsBy}
-use Rattle.totem_judge_traffic.specs.Traffics.{IsLogAt}
 use Rattle.totem_judge_run.specs.Stays.{IsStay, Bounds}
-use Rattle.totem_judge_traffic.proofs.Facts.{one_log}
-use Rattle.totem_judge_run.proofs.Staying.{names_no_change, is_stay}
 use Rattle.totem_judge.specs.declared.gathered.Origin.{Origin}
 use Rattle.totem_judge.specs.declared.gathered.Gathered.{Gathered}
 use Rattle.totem_judge.specs.declared.gathered.Stay.{Stay}
-use Rattle.totem_judge.specs.Events.{IsEventAt}
-use Rattle.totem_judge.specs.Ends.{HasSuch, IsAny}
-use Rattle.totem_judge.specs.Lists.{ComesBefore, IsLinked, IsThere, IsGotAt, IsSentAt, IsSentIn, AreAsListed}
-use Rattle.totem_judge.specs.Seen.{IsReplayed, IsSeen}
-use Rattle.totem_judge_run.specs.Orderly.{IsOrderly}
 use Rattle.totem_judge.proofs.Numbers.{below_or_not, one_at, entry_of, one_event, one_number, same_index, entries_of}
 use Rattle.totem_judge.specs.StaysIn.{IsBounded}
 

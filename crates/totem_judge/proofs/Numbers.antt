@@ -1,21 +1,7 @@
 -- Events by the index of their log, and the order of their numbers.
-use Rattle.std.proofs.Common.{◌≡◌, inl, inr, ℕ, ◌<◌, List, length, slice_get, Some, refl, sym, ◌∙◌, ap, subst, arith, ◌⊎◌, ◌≤◌}
-use Rattle.std.specs.Prelude.{◌↔◌}
-use Rattle.std.proofs.lemmas.Option.{slice_get_within}
-use Rattle.totem_names.specs.declared.conf.ConfId.{ConfId}
-use Rattle.totem_names.specs.declared.message.MsgId.{MsgId}
-use Rattle.totem_evs.specs.declared.entry.Entry.{Entry}
-use Rattle.totem_evs.specs.declared.entry.Entry.TheVariants.{Conf, Deliver}
-use Rattle.totem_evs.specs.declared.log.Log.{Log}
-use Rattle.totem_evs.specs.Events.{log_of}
-use Rattle.totem_evs.specs.Certificates.{Numbering, Matches, Certified}
-use Rattle.totem_evs.proofs.LogOf.{Rising, log_of_at, less_or_not}
-use Rattle.totem_outcome.specs.Numbered.{Stands, place}
-use Rattle.totem_outcome.specs.Rising.{RisesBefore}
+use Rattle.totem_judge.proofs.Common.{◌≡◌, inl, inr, ℕ, ◌<◌, List, length, slice_get, Some, refl, sym, ◌∙◌, ap, subst, arith, ◌⊎◌, ◌≤◌, ◌↔◌, slice_get_within, ConfId, MsgId, Entry, Conf, Deliver, Log, log_of, Numbering, Matches, Certified, Rising, log_of_at, less_or_not, Stands, place, RisesBefore, IsLogAt, IsEventAt}
 use Rattle.totem_outcome.proofs.Matching.{line_at, matches_at}
 use Rattle.totem_outcome.proofs.Standing.{at_index, stands_at}
-use Rattle.totem_judge_traffic.specs.Traffics.{IsLogAt}
-use Rattle.totem_judge.specs.Events.{IsEventAt}
 
 pub below_or_not : (a b : ℕ) → (a < b) ⊎ (b ≤ a)
 below_or_not a b = grind arith
@@ -43,10 +29,7 @@ event_of run lines l p i x rising matches at entry =
     (number.0, record { log = at.log; line = line.0; log_is = at.stands; line_is = line.1; entry_is = here; number_is = number.1 })
 
 pub one_event : (run : List Log) (lines : List Numbering) (l i : ℕ) (x y : Entry) (n m : ℕ) → IsEventAt run lines l i x n → IsEventAt run lines l i y m → (x ≡ y) × (n ≡ m)
-one_event run lines l i x y n m a b =
-    let logs : a.log ≡ b.log = one_at run l a.log b.log a.log_is b.log_is in
-    let all : a.line ≡ b.line = one_at lines l a.line b.line a.line_is b.line_is in
-    (one_at b.log.entries i x y (ap (λ (log : Log). slice_get log.entries i) (sym logs) ∙ a.entry_is) b.entry_is, one_at b.line.numbers i n m (ap (λ (line : Numbering). slice_get line.numbers i) (sym all) ∙ a.number_is) b.number_is)
+one_event run lines l i x y n m a b = grind (arith, one_at)
 
 -- ---- their places
 
@@ -99,18 +82,7 @@ module _ (run : List Log) (lines : List Numbering) (rising : Rising run) (certif
 -- ---- lists of ascending numbers
 
 pub same_index : (numbers : List ℕ) (j k n m : ℕ) → RisesBefore numbers (length numbers) → slice_get numbers j ≡ Some n → slice_get numbers k ≡ Some m → n ≡ m → j ≡ k
-same_index numbers j k n m rise at_j at_k same = elim (less_or_not j k) [
-  | inl under ↦ absurd (omega (arith, same, rise.rising j k n m under (slice_get_within numbers k m at_k) at_j at_k))
-  | inr (inl over) ↦ absurd (omega (arith, same, rise.rising k j m n over (slice_get_within numbers j n at_j) at_k at_j))
-  | inr (inr is) ↦ is
-]
+same_index numbers j k n m rise at_j at_k same = grind (arith, less_or_not, slice_get_within)
 
 pub by_number : (numbers : List ℕ) (j k n m : ℕ) → RisesBefore numbers (length numbers) → slice_get numbers j ≡ Some n → slice_get numbers k ≡ Some m → (n < m) ↔ (j < k)
-by_number numbers j k n m rise at_j at_k = (from, λ lt. rise.rising j k n m lt (slice_get_within numbers k m at_k) at_j at_k)
-  where
-    from : n < m → j < k
-    from lt = elim (less_or_not j k) [
-      | inl under ↦ under
-      | inr (inl over) ↦ absurd (omega (arith, lt, rise.rising k j m n over (slice_get_within numbers j n at_j) at_k at_j))
-      | inr (inr same) ↦ absurd (let e : n ≡ m = one_at numbers k n m (rw (← same) at_j) at_k in omega (arith, lt, e))
-    ]
+by_number numbers j k n m rise at_j at_k = grind (arith, slice_get_within, less_or_not, one_at)

@@ -1,21 +1,7 @@
 -- Judging one configuration after the other.
-use Rattle.std.proofs.Common.{◌≡◌, inl, inr, ℕ, List, [], ◌∷◌, ◌++◌, length, slice_get, Some, refl, sym, subst, arith}
-use Rattle.std.specs.Prelude.{Contains}
+use Rattle.totem_judge.proofs.Common.{◌≡◌, inl, inr, ℕ, List, [], ◌∷◌, ◌++◌, length, slice_get, Some, refl, sym, subst, arith, Contains, slice_get_within, RingId, Log, Pending, Numbering, Observed, has_log, IsPendingFrom, IsPendingTo, IsObserved, IsVerified, AllAreTraffic, AreObserved, IsPendingIn}
 use Rattle.std.proofs.lemmas.List.{length-append}
-use Rattle.std.proofs.lemmas.Option.{slice_get_within}
-use Rattle.totem_names.specs.declared.ring.RingId.{RingId}
-use Rattle.totem_evs.specs.declared.entry.Entry.TheVariants.{Conf}
-use Rattle.totem_evs.specs.declared.log.Log.{Log}
-use Rattle.totem_evs.specs.Events.{log_of}
-use Rattle.totem_evs.specs.Following.{StaysIn}
-use Rattle.totem_evs.specs.declared.pending.Pending.{Pending}
-use Rattle.totem_evs.specs.Certificates.{Numbering}
-use Rattle.totem_judge_traffic.specs.declared.observed.Observed.{Observed}
-use Rattle.totem_judge_traffic.proofs.Facts.{has_log}
 use Rattle.totem_judge.specs.declared.gathered.Gathered.{Gathered}
-use Rattle.totem_judge.specs.Pending.{IsPendingFrom, IsPendingTo}
-use Rattle.totem_judge.specs.Judged.{IsObserved, IsVerified, AllAreTraffic, AreObserved}
-use Rattle.totem_judge_traffic.specs.Pending.{IsPendingIn}
 use Rattle.totem_judge.proofs.Steps.{append_get, push_cases, at_end}
 
 pub nothing_left : {X : Type 0} (l : List X) → length l ≡ 0 → l ≡ []
@@ -23,20 +9,11 @@ nothing_left [] h = refl
 nothing_left (x ∷ xs) h = absurd (omega arith)
 
 pub observed_none : (run : List Log) (lines : List Numbering) (observed : List Observed) (pending : List Pending) → observed ≡ [] → pending ≡ [] → AreObserved run lines [] observed pending
-observed_none run lines observed pending nothing none = record {
-  long = rw nothing refl;
-  each = λ k g one at here. absurd (let lt = slice_get_within {A = Gathered} [] k g at in omega (arith, lt));
-  exact = λ are x. (λ has. absurd (let h : Contains {X = Pending} [] x = rw none at has in let lt = h.1 in omega arith), λ h. absurd (let lt = h.before in omega arith));
-}
+observed_none run lines observed pending nothing none = grind (arith, slice_get_within)
 
 -- a process that is open has a log
 pending_to : (run : List Log) (c : RingId) (x : Pending) → IsPendingIn run c x.proc x.msg → IsPendingTo run c (length run) x
-pending_to run c x pending = of pending.still_open.1
-  where
-    of : StaysIn (log_of run x.proc) c → IsPendingTo run c (length run) x
-    of (d, never, last, belongs) =
-        let log = has_log run x.proc last.index (Conf d last.change.0) last.change.1 in
-        record { index = log.0; before = slice_get_within run log.0 log.1.log log.1.stands; log = log.1; is = pending }
+pending_to run c x pending = grind (arith, has_log, slice_get_within)
 
 module _ (run : List Log) (lines : List Numbering) (list : List Gathered) (g : Gathered) (observed : List Observed) (one : Observed) (old new : List Pending) (added : IsObserved run lines g one old new)
     (so_far : AreObserved run lines list observed old) where

@@ -1,33 +1,12 @@
 -- The logs of a configuration as parts of its traffic: its members, how they end, and what follows it.
-use Rattle.std.proofs.Common.{◌≡◌, ◌⊎◌, inl, inr, ℕ, ◌+◌, ◌<◌, List, length, slice_get, Some, refl, sym, ◌∙◌, ap, subst, arith}
-use Rattle.std.specs.Prelude.{Contains}
-use Rattle.std.proofs.lemmas.Option.{slice_get_within, slice_get-get_or}
-use Rattle.totem_names.specs.declared.conf.ConfId.{ConfId}
-use Rattle.totem_names.specs.declared.conf.ConfId.TheVariants.{Regular}
-use Rattle.totem_evs.specs.declared.entry.Entry.{Entry}
-use Rattle.totem_evs.specs.declared.entry.Entry.TheVariants.{Conf, Send, Deliver, Fail}
+use Rattle.totem_judge.proofs.Common.{◌≡◌, ◌⊎◌, inl, inr, ℕ, ◌+◌, ◌<◌, List, length, slice_get, Some, refl, sym, ◌∙◌, ap, subst, arith, Contains, slice_get_within, slice_get-get_or, ConfId, Regular, Entry, Conf, Send, Deliver, Fail, Log, IsLog, IsFailure, EndsInFail, ChangesTo, ChangesWith, IsMember, IsQuiet, log_of, ending_of, IsNextChange, Follows, NeverFails, FailedIn, StaysIn, OpenIn, MeetsPasses, Numbering, Rising, Traffic, IsLogAt, AreLogsOf, AreMembers, IsFollowingAs, HasFollowing, all_at, has_log, same_change, change_within, one_next, HasSuch, IsAny, IsExcusedIn, IsOpenAt, AreMemberLogs, TurnsToConf, LeavesFrom, HasFollowingOf}
 use Rattle.totem_evs.specs.declared.ending.Ending.TheVariants.{Failed, Quiet}
-use Rattle.totem_evs.specs.declared.log.Log.{Log}
-use Rattle.totem_evs.specs.Runs.{IsLog, IsFailure, EndsInFail}
-use Rattle.totem_evs.specs.Events.{ChangesTo, ChangesWith, IsMember, IsQuiet, log_of, ending_of}
-use Rattle.totem_evs.specs.Following.{IsNextChange, Follows, NeverFails, FailedIn, StaysIn, OpenIn}
 use Rattle.totem_evs.specs.Agreement.{Goes}
-use Rattle.totem_evs.specs.Answers.{MeetsPasses}
-use Rattle.totem_evs.specs.Certificates.{Numbering}
-use Rattle.totem_evs.proofs.LogOf.{Rising}
 use Rattle.totem_judge_traffic.specs.declared.traffic.MemberLogs.{MemberLogs}
-use Rattle.totem_judge_traffic.specs.declared.traffic.Traffic.{Traffic}
 use Rattle.totem_judge_traffic.specs.LogSets.{Has}
-use Rattle.totem_judge_traffic.specs.Traffics.{IsLogAt, AreLogsOf, AreMembers, IsFollowingAs, HasFollowing}
-use Rattle.totem_judge_traffic.proofs.Facts.{all_at, has_log}
-use Rattle.totem_judge_run.proofs.Staying.{same_change, change_within}
-use Rattle.totem_evs.proofs.NextChanges.{one_next}
 use Rattle.totem_judge_traffic.proofs.Together.{one_following, follows_too}
 use Rattle.totem_judge.specs.declared.gathered.Gathered.{Gathered}
 use Rattle.totem_judge.specs.declared.gathered.Stay.{Stay}
-use Rattle.totem_judge.specs.Ends.{HasSuch, IsAny, IsExcusedIn, IsOpenAt}
-use Rattle.totem_judge.specs.Members.{AreMemberLogs}
-use Rattle.totem_judge.specs.Turns.{TurnsToConf, LeavesFrom, HasFollowingOf}
 use Rattle.totem_judge.proofs.Numbers.{below_or_not, one_at, entries_of}
 use Rattle.totem_judge.proofs.Listed.{Verified, StayOf, such_stay_of, come, stay_around}
 use Rattle.totem_judge_run.proofs.LogEnds.{ending_of_at}

@@ -1,38 +1,14 @@
 -- From verified configurations to the run: it meets the specifications of passes A and B, and what is pending is known; and where all
 -- configurations agree, it meets all specifications.
-use Rattle.std.proofs.Common.{◌≡◌, ℕ, List, length, slice_get, Some, sym, subst, ◌∙◌, arith}
-use Rattle.std.proofs.lemmas.Option.{slice_get_within}
-use Rattle.totem_names.specs.declared.ring.RingId.{RingId}
-use Rattle.totem_names.specs.declared.conf.ConfId.TheVariants.{Regular}
-use Rattle.totem_evs.specs.declared.entry.Entry.TheVariants.{Conf}
-use Rattle.totem_evs.specs.declared.log.Log.{Log}
-use Rattle.totem_evs.specs.declared.pending.Pending.{Pending}
-use Rattle.totem_evs.specs.Runs.{IsRun}
-use Rattle.totem_evs.specs.Changes.{EndsTogether}
-use Rattle.totem_evs.specs.Answers.{IsRing, MeetsPasses}
+use Rattle.totem_judge.proofs.Common.{◌≡◌, ℕ, List, length, slice_get, Some, sym, subst, ◌∙◌, arith, slice_get_within, RingId, Regular, Conf, Log, Pending, IsRun, EndsTogether, IsRing, MeetsPasses, Numbering, Certified, at_index, Observed, AgreesIn, IsPendingIn, IsTrafficOf, AreTraffic, IsGotIn, HasSent, has_log, AreCovered, AreRisingTo, IsPendingFrom, IsInOrder, HoldsPending, IsOrderly, IsVerified, AllAreTraffic, AreObserved, Covers, IsView, Agree, Sent, Got, Traffic}
 use Rattle.totem_evs.specs.Unsettled.{IsPending}
-use Rattle.totem_evs.specs.Certificates.{Numbering, Certified}
 use Rattle.totem_evs.specs.Synchrony.{IsVirtuallySynchronous}
 use Rattle.totem_evs.proofs.Synchronous.{MeetsConfigurations, synchronous}
 use Rattle.totem_evs.proofs.Originating.{ring_of_send}
-use Rattle.totem_outcome.proofs.Standing.{at_index}
-use Rattle.totem_judge_traffic.specs.declared.observed.Observed.{Observed}
-use Rattle.totem_judge_traffic.specs.Clean.{AgreesIn}
-use Rattle.totem_judge_traffic.specs.Pending.{IsPendingIn}
-use Rattle.totem_judge_traffic.specs.Traffics.{IsTrafficOf, AreTraffic, IsGotIn, HasSent}
-use Rattle.totem_judge_traffic.proofs.Facts.{has_log}
 use Rattle.totem_judge.specs.declared.gathered.Gathered.{Gathered}
-use Rattle.totem_judge.specs.Covered.{AreCovered, AreRisingTo}
-use Rattle.totem_judge.specs.Pending.{IsPendingFrom}
-use Rattle.totem_judge_run.specs.Endings.{IsInOrder, HoldsPending}
-use Rattle.totem_judge_run.specs.Orderly.{IsOrderly}
-use Rattle.totem_judge.specs.Judged.{IsVerified, AllAreTraffic, AreObserved, Covers, IsView, Agree}
 use Rattle.totem_judge.proofs.Whole.{AllSeen, Gathers, gathers, verified}
 use Rattle.totem_judge.proofs.Unsent.{unsent_met}
 use Rattle.totem_judge_run.proofs.PendingOrder.{are_pending}
-use Rattle.totem_judge_traffic.specs.declared.traffic.Sent.{Sent}
-use Rattle.totem_judge_traffic.specs.declared.traffic.Got.{Got}
-use Rattle.totem_judge_traffic.specs.declared.traffic.Traffic.{Traffic}
 use Rattle.totem_judge.proofs.Listed.{Verified}
 use Rattle.totem_judge.proofs.Told.{sent_in, got_in, all_sent, all_got, sent_order, got_order, heard, behind}
 use Rattle.totem_judge.proofs.Placed.{logs_are, members_are, ended_are, open_are, following_are}

@@ -1,35 +1,13 @@
 -- Steps of the loops over stays, logs and members.
-use Rattle.std.proofs.Common.{◌≡◌, ◌≢◌, ◌⊎◌, inl, inr, ℕ, zero, suc, ◌+◌, ◌<◌, ◌≤◌, List, [], ◌∷◌, ◌++◌, length, length-set, replicate, slice_get, slice_set, Some, refl, sym, ◌∙◌, ap, subst, arith, append-nil}
-use Rattle.std.specs.Prelude.{◌↔◌, slice_index, Contains}
+use Rattle.totem_judge.proofs.Common.{◌≡◌, ◌≢◌, ◌⊎◌, inl, inr, ℕ, zero, suc, ◌+◌, ◌<◌, ◌≤◌, List, [], ◌∷◌, ◌++◌, length, length-set, replicate, slice_get, slice_set, Some, refl, sym, ◌∙◌, ap, subst, arith, append-nil, ◌↔◌, slice_index, Contains, slice_get_within, RingId, ConfId, Log, Pending, Traffic, IsLogAt, IsTrafficOf, AddsPending, before_or_at, one_at, HasSuch, Selects, IsLogOfMember, AreLogsOfMembers, TurnsTo, IsFollowing, HasFollowingOf, HasFollowings, IsCoveredTo, AreCoveredTo, AreCovered, IsPendingTo, AddsAll, MsgId, Entry, Deliver, Got, Sent, IsBy, EachBelow, AreSkipped, AreUnsent, IsOriginAt, AreSentIn, IsDeliveryOf, IsListed, AreAsListed}
 use Rattle.std.proofs.lemmas.Grind.{get_or-set_at}
 use Rattle.std.proofs.lemmas.List.{get_or-replicate, get_or-set_other, length-replicate}
-use Rattle.std.proofs.lemmas.Option.{slice_get_within}
-use Rattle.totem_names.specs.declared.ring.RingId.{RingId}
-use Rattle.totem_names.specs.declared.conf.ConfId.{ConfId}
-use Rattle.totem_evs.specs.declared.log.Log.{Log}
-use Rattle.totem_evs.specs.declared.pending.Pending.{Pending}
 use Rattle.totem_judge_traffic.specs.declared.log_set.LogSet.{LogSet}
 use Rattle.totem_judge_traffic.specs.declared.traffic.Following.{Following}
-use Rattle.totem_judge_traffic.specs.declared.traffic.Traffic.{Traffic}
 use Rattle.totem_judge_traffic.specs.LogSets.{Has, IsEmpty}
-use Rattle.totem_judge_traffic.specs.Traffics.{IsLogAt, IsTrafficOf}
-use Rattle.totem_judge_traffic.specs.Pending.{AddsPending}
-use Rattle.totem_judge_traffic.proofs.Rowing.{before_or_at, one_at}
 use Rattle.totem_judge.specs.declared.gathered.Gathered.{Gathered}
 use Rattle.totem_judge.proofs.Numbers.{below_or_not}
 use Rattle.totem_judge.specs.declared.gathered.Stay.{Stay}
-use Rattle.totem_judge.specs.Ends.{HasSuch, Selects}
-use Rattle.totem_judge.specs.Members.{IsLogOfMember, AreLogsOfMembers}
-use Rattle.totem_judge.specs.Turns.{TurnsTo, IsFollowing, HasFollowingOf, HasFollowings}
-use Rattle.totem_judge.specs.Covered.{IsCoveredTo, AreCoveredTo, AreCovered}
-use Rattle.totem_judge.specs.Pending.{IsPendingTo, AddsAll}
-use Rattle.totem_names.specs.declared.message.MsgId.{MsgId}
-use Rattle.totem_evs.specs.declared.entry.Entry.{Entry}
-use Rattle.totem_evs.specs.declared.entry.Entry.TheVariants.{Deliver}
-use Rattle.totem_judge_traffic.specs.declared.traffic.Got.{Got}
-use Rattle.totem_judge_traffic.specs.declared.traffic.Sent.{Sent}
-use Rattle.totem_judge_traffic.specs.Clean.{IsBy}
-use Rattle.totem_judge.specs.Lists.{EachBelow, AreSkipped, AreUnsent, IsOriginAt, AreSentIn, IsDeliveryOf, IsListed, AreAsListed}
 
 same_or_not : (a b : ℕ) → (a ≡ b) ⊎ (a ≢ b)
 same_or_not a b = grind arith
@@ -37,9 +15,7 @@ same_or_not a b = grind arith
 -- ---- what holds at each index
 
 pub each_more : (Holds : ℕ → Type 0) (n : ℕ) → Holds n → EachBelow Holds n → EachBelow Holds (n + 1)
-each_more Holds n here so_far = record {
-  each = λ k lt. elim (before_or_at k n lt) [ inl under ↦ so_far.each k under | inr same ↦ rw same here ];
-}
+each_more Holds n here so_far = grind (arith, before_or_at)
 
 -- ---- sets of stays' logs
 
@@ -253,9 +229,7 @@ adds_more traffic run n q old mid new log adds so_far = record { exact = λ c is
     ]
 
 pub adds_none : (traffic : Traffic) (run : List Log) (list : List Pending) → AddsAll traffic run 0 list list
-adds_none traffic run list = record {
-  exact = λ c is x. (λ has. inl has, λ h. elim h [ inl has ↦ has | inr pending ↦ absurd (let lt = pending.before in omega arith) ]);
-}
+adds_none traffic run list = grind arith
 
 -- ---- what a log does not deliver
 
@@ -268,12 +242,7 @@ skipped_more gots log from n got at never so_far = record {
 }
 
 pub unsent_more : (sents : List Sent) (log from n : ℕ) (sent : Sent) → slice_get sents n ≡ Some sent → (sent.sender ≡ log → ⊥) → AreUnsent sents log from n → AreUnsent sents log from (n + 1)
-unsent_more sents log from n sent at never so_far = record {
-  none = λ k other le lt stands by. elim (before_or_at k n lt) [
-    | inl under ↦ so_far.none k other le under stands by
-    | inr level ↦ (let same : other ≡ sent = one_at sents n other sent (rw level at stands) at in never (rw same at by))
-  ];
-}
+unsent_more sents log from n sent at never so_far = grind (arith, before_or_at, one_at)
 
 -- ---- what is listed
 

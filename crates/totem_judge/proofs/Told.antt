@@ -1,26 +1,11 @@
 -- The lists of a configuration as parts of its traffic: what was sent, what is delivered, by which logs, and the order.
-use Rattle.std.proofs.Common.{◌≡◌, inl, inr, ℕ, ◌<◌, ◌≤◌, List, slice_get, Some, true, refl, sym, ◌∙◌, ap, subst, arith}
-use Rattle.std.specs.Prelude.{◌↔◌, IsTrue}
-use Rattle.std.proofs.lemmas.Option.{slice_get_within}
-use Rattle.totem_names.specs.declared.conf.ConfId.TheVariants.{Regular}
-use Rattle.totem_names.specs.declared.message.MsgId.{MsgId}
+use Rattle.totem_judge.proofs.Common.{◌≡◌, inl, inr, ℕ, ◌<◌, ◌≤◌, List, slice_get, Some, true, refl, sym, ◌∙◌, ap, subst, arith, ◌↔◌, IsTrue, slice_get_within, Regular, MsgId, Send, Deliver, Log, Sends, Delivers, IsSafe, log_of, DeliversIn, HasDelivered, Numbering, Sent, Got, Traffic, IsBy, has_log, is_safe, ComesBefore, IsThere, IsOriginAt, IsGotAt}
 use Rattle.totem_names.specs.declared.message.Service.{Service}
 use Rattle.totem_names.specs.declared.message.Service.TheVariants as services
-use Rattle.totem_evs.specs.declared.entry.Entry.TheVariants.{Send, Deliver}
-use Rattle.totem_evs.specs.declared.log.Log.{Log}
-use Rattle.totem_evs.specs.Events.{Sends, Delivers, IsSafe, log_of}
-use Rattle.totem_evs.specs.Following.{DeliversIn, HasDelivered}
-use Rattle.totem_evs.specs.Certificates.{Numbering}
-use Rattle.totem_judge_traffic.specs.declared.traffic.Sent.{Sent}
-use Rattle.totem_judge_traffic.specs.declared.traffic.Got.{Got}
-use Rattle.totem_judge_traffic.specs.declared.traffic.Traffic.{Traffic}
 use Rattle.totem_judge_traffic.specs.LogSets.{Has}
-use Rattle.totem_judge_traffic.specs.Clean.{IsBy}
 use Rattle.totem_judge_traffic.specs.Traffics.{IsLogAt, AreLogsOf, DeliversBehind, IsSentIn, IsOf, IsGotIn, HasSent, HasGot, SentInOrder, GotInOrder, HeardBefore, GotBehind}
-use Rattle.totem_judge_traffic.proofs.Facts.{has_log}
 use Rattle.totem_judge.specs.declared.gathered.Origin.{Origin}
 use Rattle.totem_judge.specs.declared.gathered.Gathered.{Gathered}
-use Rattle.totem_judge.specs.Lists.{is_safe, ComesBefore, IsThere, IsOriginAt, IsGotAt}
 use Rattle.totem_judge.proofs.Numbers.{below_or_not, one_at, event_of, in_order, by_number}
 use Rattle.totem_judge.proofs.Listed.{Verified, Listed, SentAt, before_turn, behind_turn, follows_here, own_entry, stay_around, got_at, listed, found, sent_at, number_of_send, one_got, one_sent}
 

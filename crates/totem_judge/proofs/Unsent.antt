@@ -1,17 +1,7 @@
 -- 1.3: if all configurations were verified, what is delivered was sent there.
-use Rattle.std.proofs.Common.{◌≡◌, inl, inr, ℕ, List, refl, sym, subst, arith}
-use Rattle.totem_names.specs.declared.ring.RingId.{RingId}
-use Rattle.totem_names.specs.declared.conf.ConfId.{ConfId}
-use Rattle.totem_names.specs.declared.conf.ConfId.TheVariants.{Regular, Transitional}
-use Rattle.totem_names.specs.declared.message.MsgId.{MsgId}
-use Rattle.totem_evs.specs.declared.entry.Entry.TheVariants.{Deliver}
-use Rattle.totem_evs.specs.declared.log.Log.{Log}
-use Rattle.totem_evs.specs.Events.{ChangesTo, IsChange, IsRegular, IsTransitional, Sends, Delivers, log_of}
-use Rattle.totem_evs.specs.Following.{IsNextChange, Follows, Com}
+use Rattle.totem_judge.proofs.Common.{◌≡◌, inl, inr, ℕ, List, refl, sym, subst, arith, RingId, ConfId, Regular, Transitional, MsgId, Deliver, Log, ChangesTo, IsChange, IsRegular, IsTransitional, Sends, Delivers, log_of, IsNextChange, Follows, Com, Numbering, has_log}
 use Rattle.totem_evs.specs.Delivery.{WasSentFor, DeliversWhatWasSent}
-use Rattle.totem_evs.specs.Certificates.{Numbering}
 use Rattle.totem_evs.proofs.Originating.{LastBefore, last_before}
-use Rattle.totem_judge_traffic.proofs.Facts.{has_log}
 use Rattle.totem_judge.specs.declared.gathered.Gathered.{Gathered}
 use Rattle.totem_judge.proofs.Listed.{listed, sent_at}
 use Rattle.totem_judge.proofs.Whole.{AllSeen, gathers, verified}

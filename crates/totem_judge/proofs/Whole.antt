@@ -1,30 +1,10 @@
 -- All changes to regular configurations are gathered, each in one place.
-use Rattle.std.proofs.Common.{◌≡◌, inl, inr, ℕ, ◌<◌, ◌≤◌, List, length, slice_get, Some, refl, sym, subst, arith}
-use Rattle.std.proofs.lemmas.Option.{slice_get_within}
-use Rattle.totem_names.specs.declared.ring.RingId.{RingId}
-use Rattle.totem_names.specs.declared.conf.ConfId.TheVariants.{Regular}
-use Rattle.totem_evs.specs.declared.entry.Entry.{Entry}
-use Rattle.totem_evs.specs.declared.entry.Entry.TheVariants.{Conf}
-use Rattle.totem_evs.specs.declared.log.Log.{Log}
-use Rattle.totem_evs.specs.Runs.{IsRun}
-use Rattle.totem_evs.specs.Events.{ChangesTo, log_of}
-use Rattle.totem_evs.specs.Following.{Follows}
-use Rattle.totem_evs.specs.Certificates.{Numbering, Certified}
-use Rattle.totem_evs.proofs.LogOf.{less_or_not}
-use Rattle.totem_judge_traffic.specs.declared.traffic.Traffic.{Traffic}
-use Rattle.totem_judge_traffic.specs.Traffics.{IsLogAt}
+use Rattle.totem_judge.proofs.Common.{◌≡◌, inl, inr, ℕ, ◌<◌, ◌≤◌, List, length, slice_get, Some, refl, sym, subst, arith, slice_get_within, RingId, Regular, Entry, Conf, Log, IsRun, ChangesTo, log_of, Follows, Numbering, Certified, less_or_not, Traffic, IsLogAt, IsOrderly, same_change, change_within, IsEventAt, HasSuch, IsAny, AreCovered, AreRisingTo, IsReplayed, IsSeen}
 use Rattle.totem_judge_run.specs.Stays.{IsStay}
-use Rattle.totem_judge_run.specs.Orderly.{IsOrderly}
-use Rattle.totem_judge_run.proofs.Staying.{same_change, change_within}
 use Rattle.totem_judge.specs.declared.gathered.Gathered.{Gathered}
 use Rattle.totem_judge.specs.declared.gathered.Stay.{Stay}
-use Rattle.totem_judge.specs.Events.{IsEventAt}
-use Rattle.totem_judge.specs.Ends.{HasSuch, IsAny}
-use Rattle.totem_judge.specs.Covered.{AreCovered, AreRisingTo}
-use Rattle.totem_judge.specs.Seen.{IsReplayed, IsSeen}
 use Rattle.totem_judge.proofs.Numbers.{one_at, entries_of, one_change_number}
-use Rattle.totem_judge.proofs.Listed.{stay_in}
-use Rattle.totem_judge.proofs.Listed.{Verified}
+use Rattle.totem_judge.proofs.Listed.{stay_in, Verified}
 
 -- a change to a regular configuration in a stay is that with which the stay begins
 begins : (log : List Entry) (c d : RingId) (from turn end i : ℕ) → IsStay log d from turn end → from ≤ i → i < end → ChangesTo log i (Regular c) → d ≡ c

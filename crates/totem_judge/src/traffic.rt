@@ -12,8 +12,8 @@ use crate::sends::{all_are_got, all_are_sent};
 use std::alloc::{AllocError, Global};
 use totem_certificate::Line;
 use totem_evs::{Entry, Log};
-use totem_judge_certificate::rises;
 use totem_judge_traffic::{LogSet, MemberLogs, Traffic};
+use totem_outcome::rises;
 
 /// Returns whether the lists and the entries of each stay agree.
 fn are_replayed(logs: &[Log], lines: &[Line], gathered: &Gathered) -> bool

@@ -1,9 +1,7 @@
 -- Messages in ascending order, and the search for one.
+use Rattle.totem_judge_certificate.proofs.Common.{◌≡◌, ℕ, ◌+◌, ◌-◌, inl, inr, List, length, get_or, slice_get, Some, Bool, true, false, Ok, Err, Result, IsTrue, refl, ◌↔◌, arith, Contains, get_or_from_slice_get, MsgId, less_or_not}
 use Rattle.std.proofs.lemmas.Grind.{common_steps}
-use Rattle.std.proofs.lemmas.Option.{get_or_from_slice_get}
 use Rattle.std.proofs.lemmas.List.Sorted.{searchable_from_sorted}
-use Rattle.std.proofs.Common.{◌≡◌, ℕ, ◌+◌, ◌-◌, inl, inr, List, length, get_or, slice_get, Some, Bool, true, false, Ok, Err, Result, IsTrue, refl, ◌↔◌, arith}
-use Rattle.std.specs.Prelude.{Contains}
 use Rattle.std.specs.Bool.{OnTrue}
 use Rattle.std.specs.Cmp.{tied_itself}
 use Rattle.std.specs.declared.cmp.Ordering.{Ordering}
@@ -11,11 +9,9 @@ use Rattle.std.specs.declared.cmp.Ordering.TheVariants.{Less, Equal, Greater}
 use Rattle.std.specs.Ordering.{is_lt, ordering_reverse}
 use Rattle.std.specs.Result.{is_ok}
 use Rattle.std.specs.List.Sorted.{IsSortedBy, IsBinarySearchResult, IsSearchInRange}
-use Rattle.totem_names.specs.declared.message.MsgId.{MsgId}
 use Rattle.totem_names.specs.contracts.message.MsgIdOrd.TheImpl as message
 use Rattle.totem_names.specs.contracts.message.MsgIdOrd.TheImpl.Laws.{total-law}
 use Rattle.totem_names.proofs.Exact.{exact_message}
-use Rattle.totem_evs.proofs.LogOf.{less_or_not}
 use Rattle.totem_judge_certificate.specs.Ascending.{Ascends, IsAbove}
 
 -- what is above the last one is above all
@@ -34,10 +30,6 @@ above_all ms last m false up at is = tt
 
 not_itself : (m n : MsgId) (o : Ordering) → n ≡ m → message.cmp-value.it n m ≡ o → (o ≡ Equal → ⊥) → ⊥
 not_itself m n o same is other = other (let tie = tied_itself total-law m in let here : message.cmp-value.it m m ≡ o = rw same at is in cc)
-
--- what is above all is none of them
-pub above_not_among : (ms : List MsgId) (m : MsgId) → IsAbove ms m → Contains ms m → ⊥
-above_not_among ms m above (k, lt, is) = not_itself m (get_or ms k m) Less is (above.less k m lt) (λ e. absurd cc)
 
 sorted : (ms : List MsgId) → Ascends ms → IsSortedBy (λ x y. is_lt (message.cmp-value.it x y)) ms
 sorted ms up k d low high = not_less (message.cmp-value.it (get_or ms k d) (get_or ms (k + 1) d)) (message.cmp-value.it (get_or ms (k + 1) d) (get_or ms k d)) (total-law.antisymm (get_or ms (k + 1) d) (get_or ms k d)) (up.less k (k + 1) d (omega arith) high)

@@ -1,15 +1,5 @@
 -- What holds for events, one after the other along the logs of a run.
-use Rattle.std.proofs.Common.{◌≡◌, ℕ, ◌+◌, ◌<◌, ◌≤◌, inl, inr, List, length, get_or, slice_get, Some, refl, sym, ◌∙◌, ap, arith}
-use Rattle.std.proofs.lemmas.Option.{slice_get_within, slice_get_read, slice_get-get_or}
-use Rattle.totem_names.specs.declared.place.Place.{Place}
-use Rattle.totem_evs.specs.declared.entry.Entry.{Entry}
-use Rattle.totem_evs.specs.declared.log.Log.{Log}
-use Rattle.totem_evs.specs.Certificates.{Numbering, Matches}
-use Rattle.totem_evs.proofs.LogOf.{Rising, less_or_not}
-use Rattle.totem_outcome.specs.Numbered.{place}
-use Rattle.totem_outcome.specs.Each.{EachEvent, IsIn, EachPast}
-use Rattle.totem_outcome.proofs.Matching.{matches_at}
-use Rattle.totem_outcome.proofs.Standing.{one_in, locate}
+use Rattle.totem_judge_certificate.proofs.Common.{◌≡◌, ℕ, ◌+◌, ◌<◌, ◌≤◌, inl, inr, List, length, get_or, slice_get, Some, refl, sym, ◌∙◌, ap, arith, slice_get_within, slice_get_read, slice_get-get_or, Place, Entry, Log, Numbering, Matches, Rising, less_or_not, place, EachEvent, IsIn, EachPast, matches_at, one_in, locate}
 
 pub weaker_past : (P Q : Place → Entry → ℕ → Type 0) (run : List Log) (lines : List Numbering) (k j : ℕ) → ((e : Place) (x : Entry) (n : ℕ) → P e x n → Q e x n) → EachPast P run lines k j → EachPast Q run lines k j
 weaker_past P Q run lines k j so h = record { each = λ i at e x n past inside. so e x n (h.each i at e x n past inside) }

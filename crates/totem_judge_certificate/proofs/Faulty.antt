@@ -1,19 +1,8 @@
 -- The first fault of numbers that do not order a run.
-use Rattle.std.proofs.Common.{◌≡◌, inl, inr, List, Result, Ok, Err, true, false}
-use Rattle.std.specs.Prelude.{OnErr}
-use Rattle.totem_evs.specs.declared.log.Log.{Log}
-use Rattle.totem_evs.specs.Certificates.{Numbering, Matches, Certified}
-use Rattle.totem_evs.proofs.LogOf.{Rising}
-use Rattle.totem_certificate.specs.Keeping.{IsCertificate}
+use Rattle.totem_judge_certificate.proofs.Common.{◌≡◌, inl, inr, List, Result, Ok, Err, true, false, OnErr, Log, Numbering, Matches, Certified, Rising, IsCertificate, EachPair, SendIsBelow, Answers, Rise, SendsAreBelow, ClassesAreOne, TwinsAreApart, OthersShare, Knows, IsClean, IsUnclean, NamesFault, sends_below, is_certified}
 use Rattle.totem_outcome.specs.declared.certificate_fault.CertificateFault.{CertificateFault}
 use Rattle.totem_outcome.specs.declared.certificate_fault.CertificateFault.TheVariants as faults
 use Rattle.totem_judge_certificate.specs.declared.spread.Spread.{Spread}
-use Rattle.totem_outcome.specs.Each.{EachPair}
-use Rattle.totem_outcome.specs.Kinds.{SendIsBelow}
-use Rattle.totem_outcome.specs.Certifying.{Answers, Rise, SendsAreBelow, ClassesAreOne, TwinsAreApart, OthersShare}
-use Rattle.totem_judge_certificate.specs.Spreads.{Knows}
-use Rattle.totem_judge_certificate.specs.Walks.{IsClean, IsUnclean, NamesFault}
-use Rattle.totem_outcome.proofs.Certain.{sends_below, is_certified}
 use Rattle.totem_judge_certificate.proofs.Spreading.{classes_known}
 
 pub names_twins : (run : List Log) (lines : List Numbering) (spread : Spread) → Rising run → Matches run lines → Knows run lines spread → EachPair SendIsBelow run lines → spread.is_apart ≡ true → SendsAreBelow run lines × TwinsAreApart run lines

@@ -1,3 +1,4 @@
+pub mod Common
 pub mod Ascent
 pub mod Entering
 pub mod Naming

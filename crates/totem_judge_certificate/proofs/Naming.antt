@@ -1,12 +1,8 @@
 -- Classes by name: which entries are in one, and whether an entry is new.
-use Rattle.std.proofs.Common.{◌≡◌, ◌↔◌, Bool, true, false, not, IsTrue, MatchBool, Some, refl, sym, ap, ◌∙◌}
-use Rattle.totem_evs.specs.declared.entry.Entry.{Entry}
-use Rattle.totem_evs.specs.declared.entry.Entry.TheVariants.{Conf, Deliver}
-use Rattle.totem_evs.specs.Classes.{AreOfOneClass}
+use Rattle.totem_judge_certificate.proofs.Common.{◌≡◌, ◌↔◌, Bool, true, false, not, IsTrue, MatchBool, Some, refl, sym, ap, ◌∙◌, Entry, Conf, Deliver, AreOfOneClass, class_of, class_barred_by}
 use Rattle.totem_judge_certificate.specs.declared.class.Class.{Class}
 use Rattle.totem_judge_certificate.specs.declared.class.Class.TheVariants.{Change, Delivery}
 use Rattle.totem_judge_certificate.specs.declared.passed.Passed.{Passed}
-use Rattle.totem_judge_certificate.specs.ClassOf.{class_of, class_barred_by}
 use Rattle.totem_judge_certificate.specs.PassedClasses.{Has, IsNew, IsOld}
 
 -- entries of one class have one name for it

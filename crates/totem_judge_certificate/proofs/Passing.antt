@@ -1,25 +1,10 @@
 -- From one class to the next: what a walk shows about the events that it has passed.
-use Rattle.std.proofs.Common.{◌≡◌, ℕ, ◌<◌, ◌≤◌, ◌⊎◌, inl, inr, List, length, Some, refl, sym, ◌∙◌, subst, arith}
-use Rattle.totem_certificate.specs.Keeping.{IsCertificate}
-use Rattle.totem_names.specs.declared.place.Place.{Place}
-use Rattle.totem_names.specs.declared.message.MsgId.{MsgId}
-use Rattle.totem_evs.specs.declared.entry.Entry.{Entry}
-use Rattle.totem_evs.specs.declared.entry.Entry.TheVariants.{Conf, Send, Deliver, Fail}
-use Rattle.totem_evs.specs.declared.log.Log.{Log}
-use Rattle.totem_evs.specs.Classes.{AreOfOneClass, AreSendAndDelivery}
-use Rattle.totem_evs.specs.Certificates.{Numbering, Matches}
-use Rattle.totem_evs.proofs.LogOf.{Rising}
+use Rattle.totem_judge_certificate.proofs.Common.{◌≡◌, ℕ, ◌<◌, ◌≤◌, ◌⊎◌, inl, inr, List, length, Some, refl, sym, ◌∙◌, subst, arith, IsCertificate, Place, MsgId, Entry, Conf, Send, Deliver, Fail, Log, AreOfOneClass, AreSendAndDelivery, Numbering, Matches, Rising, class_of, class_barred_by, Stands, SomeEvent, LinesRise, IsAhead, AreOne, IsLeastHead, IsPassed, AreClasses, IsCleanTo, IsClean, IsUnclean, sends_below, send_late, classes_one, class_split, others_apart}
 use Rattle.totem_judge_certificate.specs.declared.class.Class.{Class}
 use Rattle.totem_judge_certificate.specs.declared.class.Class.TheVariants.{Delivery}
 use Rattle.totem_judge_certificate.specs.declared.walk.Head.{Head}
-use Rattle.totem_judge_certificate.specs.ClassOf.{class_of, class_barred_by}
 use Rattle.totem_judge_certificate.specs.declared.passed.Passed.{Passed}
 use Rattle.totem_judge_certificate.specs.PassedClasses.{HasNone, Adds, IsNew, IsOld}
-use Rattle.totem_outcome.specs.Numbered.{Stands}
-use Rattle.totem_outcome.specs.Each.{SomeEvent}
-use Rattle.totem_outcome.specs.Rising.{LinesRise}
-use Rattle.totem_judge_certificate.specs.Walks.{IsAhead, AreOne, IsLeastHead, IsPassed, AreClasses, IsCleanTo, IsClean, IsUnclean}
-use Rattle.totem_outcome.proofs.Certain.{sends_below, send_late, classes_one, class_split, others_apart}
 use Rattle.totem_judge_certificate.proofs.Naming.{through, back, class_shared, shares_class, own_class_bars}
 use Rattle.totem_judge_certificate.proofs.Walking.{ahead_stands, positive_number, head_is_above, passed_or_next, one_ahead}
 

@@ -1,22 +1,8 @@
 -- Entering the numbers of classes, event by event.
-use Rattle.std.proofs.Common.{◌≡◌, ◌≢◌, ℕ, ◌+◌, ◌<◌, ◌≤◌, inl, inr, List, length, slice_get, Option, Some, None, IfSome, Bool, true, false, refl, sym, ◌∙◌, subst, arith}
-use Rattle.totem_names.specs.declared.place.Place.{Place}
-use Rattle.totem_evs.specs.declared.entry.Entry.{Entry}
-use Rattle.totem_evs.specs.declared.entry.Entry.TheVariants.{Conf, Send, Deliver, Fail}
-use Rattle.totem_evs.specs.declared.log.Log.{Log}
-use Rattle.totem_evs.specs.Classes.{AreSendAndDelivery}
-use Rattle.totem_evs.specs.Certificates.{Numbering, Matches}
-use Rattle.totem_evs.proofs.LogOf.{Rising, less_or_not}
+use Rattle.totem_judge_certificate.proofs.Common.{◌≡◌, ◌≢◌, ℕ, ◌+◌, ◌<◌, ◌≤◌, inl, inr, List, length, slice_get, Option, Some, None, IfSome, Bool, true, false, refl, sym, ◌∙◌, subst, arith, Place, Entry, Conf, Send, Deliver, Fail, Log, AreSendAndDelivery, Numbering, Matches, Rising, less_or_not, class_of, Stands, EachEvent, SomeEvent, EachPair, SomePair, IsIn, SendIsBelow, SendIsNotBelow, ClassesAreOne, TwinsAreApart, least_of, Differs, IsLeastOf, IsEntered, IsKnown, IsNoted, IsTrueOf, KnowsTo, Knows, IsEarly, AreEarlyTo, class_split, classes_one}
 use Rattle.totem_judge_certificate.specs.declared.class.Class.{Class}
 use Rattle.totem_judge_certificate.specs.declared.class.Class.TheVariants.{Delivery}
 use Rattle.totem_judge_certificate.specs.declared.spread.Spread.{Spread}
-use Rattle.totem_judge_certificate.specs.ClassOf.{class_of}
-use Rattle.totem_outcome.specs.Numbered.{Stands}
-use Rattle.totem_outcome.specs.Each.{EachEvent, SomeEvent, EachPair, SomePair, IsIn}
-use Rattle.totem_outcome.specs.Kinds.{SendIsBelow, SendIsNotBelow}
-use Rattle.totem_outcome.specs.Certifying.{ClassesAreOne, TwinsAreApart}
-use Rattle.totem_judge_certificate.specs.Spreads.{least_of, Differs, IsLeastOf, IsEntered, IsKnown, IsNoted, IsTrueOf, KnowsTo, Knows, IsEarly, AreEarlyTo}
-use Rattle.totem_outcome.proofs.Certain.{class_split, classes_one}
 use Rattle.totem_judge_certificate.proofs.Naming.{class_shared, shares_class}
 use Rattle.totem_judge_certificate.proofs.Entering.{weaker_past, more_past, next_log, all_past}
 

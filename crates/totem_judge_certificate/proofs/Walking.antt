@@ -1,22 +1,7 @@
 -- Where a walk is, and what a step of it passes.
-use Rattle.std.proofs.Common.{below_more, ◌≡◌, ◌≢◌, ℕ, zero, suc, ◌+◌, ◌<◌, ◌≤◌, ◌⊎◌, inl, inr, List, [], ◌∷◌, length, get_or, slice_get, slice_set, Option, Some, None, refl, sym, ◌∙◌, ap, subst, arith}
-use Rattle.std.proofs.lemmas.Option.{slice_get_within, slice_get_read, slice_get-get_or, get_or_from_slice_get}
+use Rattle.totem_judge_certificate.proofs.Common.{below_more, ◌≡◌, ◌≢◌, ℕ, zero, suc, ◌+◌, ◌<◌, ◌≤◌, ◌⊎◌, inl, inr, List, [], ◌∷◌, length, get_or, slice_get, slice_set, Option, Some, None, refl, sym, ◌∙◌, ap, subst, arith, slice_get_within, slice_get_read, slice_get-get_or, get_or_from_slice_get, Place, Entry, Log, AreOfOneClass, Numbering, Matches, Rising, in_order, less_or_not, IsLine, IsCertificate, Stands, place, SomePair, IsIn, NumberIsShared, LinesRise, IsAhead, IsHead, IsPassed, NoneLeftTo, IsLeastHead, IsLeastTo, IsLesser, IsStepOf, IsStepped, AreOneBefore, as_many, matches_at, at_index, in_stands, one_in, locate}
 use Rattle.std.proofs.lemmas.List.{length-set}
-use Rattle.totem_names.specs.declared.place.Place.{Place}
-use Rattle.totem_evs.specs.declared.entry.Entry.{Entry}
-use Rattle.totem_evs.specs.declared.log.Log.{Log}
-use Rattle.totem_evs.specs.Classes.{AreOfOneClass}
-use Rattle.totem_evs.specs.Certificates.{Numbering, Matches}
-use Rattle.totem_evs.proofs.LogOf.{Rising, in_order, less_or_not}
-use Rattle.totem_certificate.specs.Keeping.{IsLine, IsCertificate}
 use Rattle.totem_judge_certificate.specs.declared.walk.Head.{Head}
-use Rattle.totem_outcome.specs.Numbered.{Stands, place}
-use Rattle.totem_outcome.specs.Each.{SomePair, IsIn}
-use Rattle.totem_outcome.specs.Kinds.{NumberIsShared}
-use Rattle.totem_outcome.specs.Rising.{LinesRise}
-use Rattle.totem_judge_certificate.specs.Walks.{IsAhead, IsHead, IsPassed, NoneLeftTo, IsLeastHead, IsLeastTo, IsLesser, IsStepOf, IsStepped, AreOneBefore}
-use Rattle.totem_outcome.proofs.Matching.{as_many, matches_at}
-use Rattle.totem_outcome.proofs.Standing.{at_index, in_stands, one_in, locate}
 
 pub ahead_stands : (run : List Log) (lines : List Numbering) (passed : List ℕ) (i : ℕ) (e : Place) (x : Entry) (n : ℕ) → Rising run → Matches run lines → IsAhead run lines passed i e x n → Stands run lines e x n
 ahead_stands run lines passed i e x n rising matches h = in_stands run lines i h.at e x n rising matches h.is

@@ -6,15 +6,13 @@ ghost use Rattle.totem_outcome.specs.Certifying.{Answers, Rise};
 ghost use Rattle.totem_judge_certificate.specs.Spreads.{Knows};
 ghost use Rattle.totem_judge_certificate.specs.Walks.{IsUnclean, NamesFault};
 
-use crate::counts::matches_logs;
-use crate::rising::all_rise;
 use crate::sends::sends_are_below;
 use crate::spread::Spread;
 use crate::walk::is_ordered;
 use std::alloc::{AllocError, Global};
 use totem_certificate::{Certificate, Line};
 use totem_evs::{Log, Run};
-use totem_outcome::CertificateFault;
+use totem_outcome::{CertificateFault, all_rise, matches_logs};
 
 /// Returns the first fault of numbers that are ascending but do not order the run, given the numbers of the classes.
 fn first_fault(spread: &Spread, logs: &[Log], lines: &[Line]) -> CertificateFault

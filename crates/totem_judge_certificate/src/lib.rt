@@ -6,19 +6,16 @@
 //!   (`Answers`, specs/Certifying);
 //! - it is refused memory only if the lines match the logs and are ascending.
 //!
-//! `rises` (specs/Rising) tests a list of numbers; totem_judge uses it, too. This crate uses no table, pass or search of the audit.
+//! This crate uses no table, pass or search of the audit.
 #![tactic(auto)]
 
 mod ascending;
 mod certification;
 mod class;
-mod counts;
 mod passed;
-mod rising;
 mod sends;
 mod spread;
 mod walk;
 
 pub use certification::certified;
-pub use rising::rises;
 pub use totem_outcome::CertificateFault;

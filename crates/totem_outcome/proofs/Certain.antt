@@ -1,21 +1,14 @@
 -- From what the loops found to the result.
-use Rattle.std.proofs.Common.{◌≡◌, ℕ, ◌+◌, ◌<◌, inl, inr, List, length, slice_get, Some, refl, sym, ◌∙◌, ap, arith}
-use Rattle.std.proofs.lemmas.Option.{slice_get_within}
-use Rattle.totem_names.specs.declared.place.Place.{Place}
+use Rattle.totem_outcome.proofs.Common.{◌≡◌, ℕ, ◌+◌, ◌<◌, inl, inr, List, length, slice_get, Some, refl, sym, ◌∙◌, ap, arith, slice_get_within, Place, Log, entry_at, IsEvent, Numbering, numbers_of, IsBelow, Matches, Certified, Rise, DoesNotRise, SendsAreBelow, SendIsLate, ClassesAreOne, TwinsAreApart, OthersAreApart, OthersShare, Rising}
 use Rattle.totem_evs.specs.declared.entry.Entry.{Entry}
 use Rattle.totem_evs.specs.declared.entry.Entry.TheVariants.{Conf, Send, Deliver}
-use Rattle.totem_evs.specs.declared.log.Log.{Log}
-use Rattle.totem_evs.specs.Events.{entry_at, IsEvent}
 use Rattle.totem_evs.specs.Steps.{SameClass}
-use Rattle.totem_evs.specs.Certificates.{Numbering, numbers_of, IsBelow, Matches, Certified}
 use Rattle.totem_certificate.specs.Keeping.{IsCertificate}
 use Rattle.totem_outcome.specs.Numbered.{Stands, place}
 use Rattle.totem_outcome.specs.Each.{EachPair, SomePair}
 use Rattle.totem_evs.specs.Classes.{AreOfOneClass, AreSendAndDelivery}
 use Rattle.totem_outcome.specs.Kinds.{SendIsBelow, SendIsNotBelow, ClassIsOne, ClassIsSplit, NumberIsOwn, NumberIsShared}
 use Rattle.totem_outcome.specs.Rising.{LinesRise, LineFalls}
-use Rattle.totem_outcome.specs.Certifying.{Rise, DoesNotRise, SendsAreBelow, SendIsLate, ClassesAreOne, TwinsAreApart, OthersAreApart, OthersShare}
-use Rattle.totem_evs.proofs.LogOf.{Rising}
 use Rattle.totem_outcome.proofs.Matching.{log_at, matches_at, numbers_of_at}
 use Rattle.totem_outcome.proofs.Standing.{at_index, stands_at, locate, has_number}
 

@@ -1,10 +1,7 @@
 -- From the certificate and the passes to the checker's result.
-use Rattle.std.proofs.Common.{◌≡◌, ◌≢◌, List, [], ◌∷◌, Result, Ok, Err, refl, arith}
-use Rattle.std.specs.Prelude.{slice_index_or}
-use Rattle.totem_evs.specs.declared.log.Log.{Log}
+use Rattle.totem_outcome.proofs.Common.{◌≡◌, List, [], ◌∷◌, Result, Ok, Err, refl, arith, slice_index_or, Log, Numbering, Certified, Answers}
 use Rattle.totem_evs.specs.declared.fault.Fault.{Fault}
 use Rattle.totem_evs.specs.Answers.{No, IsAnswered}
-use Rattle.totem_evs.specs.Certificates.{Numbering, Certified}
 use Rattle.totem_evs.proofs.Synchronous.{sound}
 use Rattle.totem_outcome.specs.declared.certificate_fault.CertificateFault.{CertificateFault}
 use Rattle.totem_outcome.specs.declared.certificate_fault.CertificateFault.TheVariants as certificate
@@ -12,7 +9,6 @@ use Rattle.totem_outcome.specs.declared.accepted.Accepted.{Accepted}
 use Rattle.totem_outcome.specs.declared.check_fault.CheckFault.{CheckFault}
 use Rattle.totem_outcome.specs.declared.check_fault.CheckFault.TheVariants as faults
 use Rattle.totem_outcome.specs.CheckFaults.{check_fault}
-use Rattle.totem_outcome.specs.Certifying.{Answers}
 use Rattle.totem_outcome.specs.Checks.{IsAcceptable, IsFirstFault, Checks, RefusesRightly}
 use Rattle.totem_outcome.proofs.Exactly.{not_certified}
 

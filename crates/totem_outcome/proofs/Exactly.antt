@@ -1,11 +1,7 @@
 -- An answer says whether the run is certified.
-use Rattle.std.proofs.Common.{List, Result, Ok, Err, inl, inr, refl}
-use Rattle.std.specs.Prelude.{IsOk, ◌↔◌}
-use Rattle.totem_evs.specs.declared.log.Log.{Log}
-use Rattle.totem_evs.specs.Certificates.{Numbering, Certified}
+use Rattle.totem_outcome.proofs.Common.{List, Result, Ok, Err, inl, inr, refl, IsOk, ◌↔◌, Log, Numbering, Certified, Answers}
 use Rattle.totem_outcome.specs.declared.certificate_fault.CertificateFault.{CertificateFault}
 use Rattle.totem_outcome.specs.declared.certificate_fault.CertificateFault.TheVariants as faults
-use Rattle.totem_outcome.specs.Certifying.{Answers}
 
 -- lines that are refused are no certificate
 pub not_certified : (run : List Log) (lines : List Numbering) (f : CertificateFault) → Answers run lines (Err f) → Certified run lines → ⊥

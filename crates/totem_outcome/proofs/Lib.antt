@@ -1,3 +1,4 @@
+pub mod Common
 pub mod Matching
 pub mod Standing
 pub mod Certain

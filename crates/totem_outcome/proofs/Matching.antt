@@ -1,10 +1,6 @@
 -- Logs and the lines that match them.
-use Rattle.std.proofs.Common.{below_more, ◌≡◌, ℕ, true, false, zero, suc, ◌+◌, ◌<◌, ◌≤◌, List, [], ◌∷◌, length, slice_get, Some, refl, sym, ◌∙◌, ap, arith, rules}
-use Rattle.std.specs.Prelude.{◌==◌}
-use Rattle.totem_evs.specs.declared.log.Log.{Log}
-use Rattle.totem_evs.specs.Certificates.{Numbering, numbers_of, Matches}
+use Rattle.totem_outcome.proofs.Common.{below_more, ◌≡◌, ℕ, true, false, zero, suc, ◌+◌, ◌<◌, ◌≤◌, List, [], ◌∷◌, length, slice_get, Some, refl, sym, ◌∙◌, ap, arith, rules, ◌==◌, Log, Numbering, numbers_of, Matches, Rising, Rising-tail, in_order}
 use Rattle.totem_outcome.specs.Counts.{IsLineOf}
-use Rattle.totem_evs.proofs.LogOf.{Rising, Rising-tail, in_order}
 
 -- the numbers of lines and logs are equal
 pub as_many : (run : List Log) (lines : List Numbering) → Matches run lines → length run ≡ length lines

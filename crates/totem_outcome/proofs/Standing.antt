@@ -1,14 +1,8 @@
 -- Where an event and its number are.
-use Rattle.std.proofs.Common.{◌≡◌, ℕ, zero, suc, ◌+◌, ◌<◌, inl, inr, List, [], ◌∷◌, length, get_or, slice_get, Some, refl, sym, ◌∙◌, ap, subst, add-one, arith}
-use Rattle.std.proofs.lemmas.Option.{slice_get_within, slice_get-get_or}
-use Rattle.totem_names.specs.declared.place.Place.{Place}
+use Rattle.totem_outcome.proofs.Common.{◌≡◌, ℕ, zero, suc, ◌+◌, ◌<◌, inl, inr, List, [], ◌∷◌, length, get_or, slice_get, Some, refl, sym, ◌∙◌, ap, subst, add-one, arith, slice_get_within, slice_get-get_or, Place, Log, log_of, at_place, entry_at, Numbering, numbers_of, number_in, Matches, Rising, log_of_cases, log_of_at}
 use Rattle.totem_evs.specs.declared.entry.Entry.{Entry}
-use Rattle.totem_evs.specs.declared.log.Log.{Log}
-use Rattle.totem_evs.specs.Events.{log_of, at_place, entry_at}
-use Rattle.totem_evs.specs.Certificates.{Numbering, numbers_of, number_in, Matches}
 use Rattle.totem_outcome.specs.Numbered.{Stands, place}
 use Rattle.totem_outcome.specs.Each.{IsIn}
-use Rattle.totem_evs.proofs.LogOf.{Rising, log_of_cases, log_of_at}
 use Rattle.totem_outcome.proofs.Matching.{line_at, matches_at, numbers_of_at}
 
 -- the element at an index

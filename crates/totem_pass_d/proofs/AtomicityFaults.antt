@@ -1,33 +1,8 @@
 -- The list found for 4 is the least that breaks it: a delivery, its process's next change, and that of a process that
 -- goes along without the message.
-use Rattle.std.proofs.Common.{◌≡◌, ℕ, ◌+◌, ◌<◌, inl, inr, List, [], ◌∷◌, length, slice_get, Some, Bool, true, false, IsTrue, ◌↔◌, refl, sym, arith}
-use Rattle.std.specs.Bool.{OnTrue, OnFalse}
-use Rattle.totem_names.specs.declared.ring.RingId.{RingId}
-use Rattle.totem_names.specs.declared.conf.ConfId.{ConfId}
-use Rattle.totem_names.specs.declared.conf.ConfId.TheVariants.{Regular, Transitional}
-use Rattle.totem_names.specs.declared.message.MsgId.{MsgId}
-use Rattle.totem_names.specs.declared.place.Place.{Place}
-use Rattle.totem_evs.specs.declared.entry.Entry.{Entry}
-use Rattle.totem_evs.specs.declared.entry.Entry.TheVariants.{Deliver}
-use Rattle.totem_evs.specs.declared.log.Log.{Log}
-use Rattle.totem_evs.specs.Events.{log_of, ChangesTo, IsChange, Delivers}
-use Rattle.totem_evs.specs.Following.{IsNextChange, Follows, Com, DeliversIn}
-use Rattle.totem_evs.specs.RingAgreement.{AtomicityIn}
-use Rattle.totem_evs.specs.RingFaults.{BreaksAtomicityIn}
-use Rattle.totem_evs.specs.AgreementFaults.{GoesAt}
-use Rattle.totem_evs.specs.Answers.{ComesFirst, IsLeast}
-use Rattle.totem_evs.proofs.LogOf.{less_or_not}
-use Rattle.totem_search.specs.Search.{place, NoneFrom, IsLeastFrom, HoldsOfNone, IsOneEvent}
-use Rattle.totem_judge_run.proofs.Staying.{same_change, change_within}
-use Rattle.totem_evs.proofs.NextChanges.{one_next}
+use Rattle.totem_pass_d.proofs.Common.{◌≡◌, ℕ, ◌+◌, ◌<◌, inl, inr, List, [], ◌∷◌, length, slice_get, Some, Bool, IsTrue, ◌↔◌, refl, sym, arith, OnTrue, OnFalse, RingId, ConfId, Regular, Transitional, MsgId, Place, Entry, Deliver, Log, log_of, ChangesTo, IsChange, Delivers, IsNextChange, Follows, Com, DeliversIn, BreaksAtomicityIn, GoesAt, ComesFirst, IsLeast, less_or_not, place, NoneFrom, IsLeastFrom, HoldsOfNone, IsOneEvent, same_change, change_within, one_next, IsStay, IsAmong, DeliversNot, IsInside, EachBeginsWithin, BeginsWithin, NoneWithin, IsLeastWithin, IsAnywhere, IsSpan, IsNoChange, NeverDelivers, IsPartner}
 use Rattle.totem_pass_d.specs.declared.stays.Stay.{Stay}
-use Rattle.totem_judge_run.specs.Stays.{IsStay}
-use Rattle.totem_pass_d.specs.Acts.{IsAmong, DeliversNot}
-use Rattle.totem_pass_d.specs.Search.{IsInside, EachBeginsWithin, BeginsWithin, NoneWithin, IsLeastWithin}
-use Rattle.totem_pass_d.specs.Searched.{IsAnywhere, IsSpan, IsNoChange, NeverDelivers, IsPartner}
 use Rattle.totem_judge_traffic.proofs.Together.{follows_too}
-use Rattle.totem_judge_run.proofs.SentOrNot.{same_conf_or_not}
-use Rattle.totem_pass_d.proofs.Deciding.{delivery_or_not}
 use Rattle.totem_pass_d.proofs.Facts.{Facts}
 use Rattle.totem_pass_d.proofs.Searching.{no_event, only_event, begins_at}
 
@@ -133,22 +108,11 @@ never_there run c p m x never = record { never = λ inside l at. never.never (l,
 
 pub delivers_on_true : (run : List Log) (c : RingId) (stay : Stay) (m o : MsgId) (x y : ConfId) (k : ℕ) (b : Bool) → DeliversIn (log_of run stay.proc) c m k → slice_get (log_of run stay.proc) k ≡ Some (Deliver o y) → IsTrue b ↔ (y ≡ x)
     → OnTrue b ((l : ℕ) × Delivers (log_of run stay.proc) l m x)
-delivers_on_true run c stay m o x y k true (d, mine, _) at decides =
-    let same : d ≡ y = cc in
-    (k, rw (same, decides.0 refl) at mine)
-delivers_on_true run c stay m o x y k false here at decides = tt
+delivers_on_true run c stay m o x y k b h p q = grind arith
 
 pub never_on_false : (run : List Log) (c : RingId) (stays : List Stay) (stay : Stay) (m o : MsgId) (x y : ConfId) (k : ℕ) (b : Bool) → Facts run c stays → DeliversIn (log_of run stay.proc) c m k → slice_get (log_of run stay.proc) k ≡ Some (Deliver o y)
     → IsTrue b ↔ (y ≡ x) → OnFalse b (NeverDelivers (log_of run stay.proc) c m x)
-never_on_false run c stays stay m o x y k true facts here at decides = tt
-never_on_false run c stays stay m o x y k false facts (d, mine, _) at decides = record { never = λ inside l at_l. go l at_l }
-  where
-    go : (l : ℕ) → Delivers (log_of run stay.proc) l m x → ⊥
-    go l at_l =
-        let same = facts.meets.once.one_delivery stay.proc l k m x d at_l mine in
-        let moved : Delivers (log_of run stay.proc) k m x = rw same at at_l in
-        let conf : y ≡ x = cc in
-        let t : false ≡ true = decides.1 conf in cc
+never_on_false run c stays stay m o x y k b h p q r = grind arith
 
 pub here_delivered : (run : List Log) (c : RingId) (stay : Stay) (m : MsgId) (x : ConfId) (k : ℕ) (e : Entry) → DeliversIn (log_of run stay.proc) c m k → slice_get (log_of run stay.proc) k ≡ Some e → ((o : MsgId) (y : ConfId) → e ≡ Deliver o y → ⊥)
     → NeverDelivers (log_of run stay.proc) c m x
@@ -249,12 +213,3 @@ deliveries_begin run c stays facts = record { each = λ places h. go places h }
     go (e ∷ f ∷ g ∷ []) (i, is, (j, is_f, (k, is_g, (same, (x, inside, (m, d, delivers, goes, partner, lacks)))))) =
         begins_at run c stays e i x (f ∷ g ∷ []) facts (rw (← is) refl) (Deliver m x, delivers, refl) inside
     go places h = absurd h
-
--- if nothing breaks 4, it holds
-pub atomic : (run : List Log) (c : RingId) → HoldsOfNone (BreaksAtomicityIn run c) → AtomicityIn run c
-atomic run c none = record {
-  each = λ p q x d inside (f, j, from, next, to) (g, k, from', next', to') i m at. elim (delivery_or_not (λ l y. y ≡ x) (log_of run q) m (λ l y. same_conf_or_not y x)) [
-    | inl (l, y, delivers, same) ↦ (l, rw same at delivers)
-    | inr never ↦ absurd (none.none (place p i ∷ place p j ∷ place q k ∷ []) (i, refl, (j, refl, (k, refl, (refl, (x, inside, (m, d, at, (f, from, next, to), (g, from', next', to'), (λ l delivers. never l x delivers refl))))))))
-  ];
-}

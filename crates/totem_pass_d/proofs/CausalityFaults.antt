@@ -1,41 +1,14 @@
 -- The list found for 5 is the least that breaks it: a cause, its effect, and a delivery of the effect without the cause
 -- before it. Only suspects have to be searched as causes: they are found by walks back along the logs.
-use Rattle.std.proofs.Common.{◌≡◌, ℕ, ◌<◌, ◌≤◌, inl, inr, List, [], ◌∷◌, slice_get, Some, Bool, false, IsTrue, ◌↔◌, refl, sym, arith, nat_lt, ◌⊎◌, zero, suc, ◌+◌, length, true, ◌∙◌}
-use Rattle.totem_names.specs.declared.ring.RingId.{RingId}
-use Rattle.totem_names.specs.declared.conf.ConfId.{ConfId}
-use Rattle.totem_names.specs.declared.conf.ConfId.TheVariants.{Regular}
-use Rattle.totem_names.specs.declared.message.MsgId.{MsgId}
-use Rattle.totem_names.specs.declared.message.Service.{Service}
-use Rattle.totem_names.specs.declared.place.Place.{Place}
-use Rattle.totem_evs.specs.declared.entry.Entry.{Entry}
-use Rattle.totem_evs.specs.declared.entry.Entry.TheVariants.{Send, Deliver}
-use Rattle.totem_evs.specs.declared.log.Log.{Log}
-use Rattle.totem_evs.specs.Events.{log_of, entry_at, at_place, Delivers}
-use Rattle.totem_evs.specs.Steps.{SendsAt}
-use Rattle.totem_evs.specs.Following.{Com, DeliversIn}
-use Rattle.totem_evs.specs.AgreementFaults.{IsNotDeliveredFirst}
-use Rattle.totem_evs.specs.RingAgreement.{IsHop, CausalityIn}
-use Rattle.totem_evs.specs.RingFaults.{BreaksCausalityIn}
-use Rattle.totem_search.specs.Search.{place, HoldsOfNone, NoneFrom, IsOneEvent}
-use Rattle.totem_search.proofs.Searching.{Starts}
+use Rattle.totem_pass_d.proofs.Common.{◌≡◌, ℕ, ◌<◌, ◌≤◌, inl, inr, List, [], ◌∷◌, slice_get, Some, Bool, false, IsTrue, ◌↔◌, refl, sym, arith, nat_lt, ◌⊎◌, zero, suc, ◌+◌, length, true, RingId, ConfId, Regular, MsgId, Service, Place, Entry, Send, Deliver, Log, log_of, entry_at, at_place, Delivers, SendsAt, DeliversIn, IsNotDeliveredFirst, IsHop, BreaksCausalityIn, place, NoneFrom, IsOneEvent, Starts, IsAmong, DeliversNot, IsInside, EachBeginsWithin, NoneWithin, IsLeastWithin, BeginsWithin, OnTrue, OnFalse, Ordering, slice_get_within, Names, before_or_at, Handles, ComesBefore, ComesNotBefore, IsEarlier, IsSuspect, HasAllOf, IsNoted, AreNotedFrom, AreNoted, AreSuspects}
 use Rattle.totem_pass_d.specs.declared.stays.Stay.{Stay}
-use Rattle.totem_pass_d.specs.Acts.{IsAmong, DeliversNot}
-use Rattle.totem_pass_d.specs.Search.{IsInside, EachBeginsWithin, NoneWithin, IsLeastWithin, BeginsWithin}
-use Rattle.totem_pass_d.specs.Searched.{IsEffect}
-use Rattle.totem_pass_d.proofs.Deciding.{delivery_or_not}
-use Rattle.totem_judge_run.proofs.Decisions.{both_or_not, below_or_not}
-use Rattle.totem_judge_run.proofs.SentOrNot.{in_or_not}
 use Rattle.totem_pass_d.proofs.Facts.{Facts, delivery_inside}
-use Rattle.totem_pass_d.proofs.Searching.{no_event, only_event, begins_inside, sends_there, there_sends, index_of, begins_at}
-use Rattle.std.specs.Bool.{OnTrue, OnFalse}
-use Rattle.std.specs.declared.cmp.Ordering.{Ordering}
+use Rattle.totem_pass_d.proofs.Searching.{no_event, only_event, begins_inside, begins_at}
+use Rattle.totem_search.specs.Causes.{IsEffect}
+use Rattle.totem_search.proofs.Causing.{sends_there, there_sends, index_of}
 use Rattle.std.specs.BTreeSet.{BTreeSet}
 use Rattle.std.specs.BTreeSet as sorted
 use Rattle.std.proofs.lemmas.Grind.{not_there}
-use Rattle.std.proofs.lemmas.Option.{slice_get_within}
-use Rattle.totem_evs.specs.Changes.{Names}
-use Rattle.totem_judge_traffic.proofs.Rowing.{before_or_at}
-use Rattle.totem_pass_d.specs.Suspects.{Handles, ComesBefore, ComesNotBefore, IsEarlier, IsSuspect, HasAllOf, IsNoted, AreNotedFrom, AreNoted, AreSuspects}
 
 -- one delivery of a message in c and in what follows it
 pub one_delivery_in : (run : List Log) (c : RingId) (stays : List Stay) (p i j : ℕ) (m : MsgId) → Facts run c stays → DeliversIn (log_of run p) c m i → DeliversIn (log_of run p) c m j → i ≡ j
@@ -83,17 +56,11 @@ send_here run c stays stay i m x s facts among inside at = (facts.each stay amon
 
 -- the effects of what is sent at a place
 effect_at : (run : List Log) (c : RingId) (m n : MsgId) (x : ConfId) (s : Service) (e : Place) (q j : ℕ) (rest : List Place) → slice_get (log_of run q) j ≡ Some (Send n x s) → IsEffect run c m e (place q j ∷ rest) → IsOneEvent (IsNotDeliveredFirst run c m n) rest
-effect_at run c m n x s e q j rest at (o, send, hop, one) =
-    let sends = sends_there run q j o (Regular c) send in
-    let there : slice_get (log_of run q) j ≡ Some (Send o (Regular c) sends.0) = sends.1 in
-    let same : o ≡ n = cc in rw same at one
+effect_at run c m n x s e q j rest h k = grind (arith, sends_there)
 
 pub effect_starts : (run : List Log) (c : RingId) (m n : MsgId) (x : ConfId) (s : Service) (e : Place) (q j : ℕ) → slice_get (log_of run q) j ≡ Some (Send n x s) → x ≡ Regular c → IsHop run c m e (place q j)
     → Starts (IsOneEvent (IsNotDeliveredFirst run c m n)) (IsEffect run c m e) q j
-effect_starts run c m n x s e q j at is hop = record {
-  to = λ rest h. (n, there_sends run q j n (Regular c) (s, rw is at at), hop, h);
-  from = λ rest h. effect_at run c m n x s e q j rest at h;
-}
+effect_starts run c m n x s e q j at is hop = grind (arith, there_sends, effect_at)
 
 pub effects_begin : (run : List Log) (c : RingId) (stays : List Stay) (m : MsgId) (e : Place) → Facts run c stays → EachBeginsWithin stays IsInside (IsEffect run c m e)
 effects_begin run c stays m e facts = record { each = λ places h. go places h }
@@ -103,25 +70,9 @@ effects_begin run c stays m e facts = record { each = λ places h. go places h }
     go (f ∷ rest) (n, (s, at), hop, one) = let there = index_of run f (Send n (Regular c) s) at in begins_at run c stays f there.0 (Regular c) rest facts there.1 (Send n (Regular c) s, there.2, refl) (inl refl)
 
 -- the causes
-cause_at : (run : List Log) (c : RingId) (m : MsgId) (x : ConfId) (s : Service) (p i : ℕ) (rest : List Place) → slice_get (log_of run p) i ≡ Some (Send m x s) → BreaksCausalityIn run c (place p i ∷ rest) → IsEffect run c m (place p i) rest
-cause_at run c m x s p i (f ∷ g ∷ []) at (k, is, (o, n, send, effect, hop, (delivers, none))) =
-    let sends = sends_there run p i o (Regular c) send in
-    let there : slice_get (log_of run p) i ≡ Some (Send o (Regular c) sends.0) = sends.1 in
-    let same : o ≡ m = cc in
-    (n, effect, rw same at hop, (k, is, (delivers, rw same at none)))
-cause_at run c m x s p i rest at h = absurd h
-
-caused : (run : List Log) (c : RingId) (m : MsgId) (s : Service) (p i : ℕ) (rest : List Place) → slice_get (log_of run p) i ≡ Some (Send m (Regular c) s) → IsEffect run c m (place p i) rest → BreaksCausalityIn run c (place p i ∷ rest)
-caused run c m s p i [] at h = absurd h
-caused run c m s p i (f ∷ g ∷ []) at (n, effect, hop, (k, is, (delivers, none))) = (k, is, (m, n, there_sends run p i m (Regular c) (s, at), effect, hop, (delivers, none)))
-caused run c m s p i (f ∷ rest) at (n, effect, hop, b) = absurd b
-
 sent_first : (run : List Log) (c : RingId) (e : Place) (rest : List Place) → BreaksCausalityIn run c (e ∷ rest) → (m : MsgId) × SendsAt run e m (Regular c)
 sent_first run c e (f ∷ g ∷ []) (k, is, (m, n, send, effect, hop, wrong)) = (m, send)
 sent_first run c e rest h = absurd h
-
-pub cause_starts : (run : List Log) (c : RingId) (m : MsgId) (x : ConfId) (s : Service) (p i : ℕ) → slice_get (log_of run p) i ≡ Some (Send m x s) → x ≡ Regular c → Starts (IsEffect run c m (place p i)) (BreaksCausalityIn run c) p i
-cause_starts run c m x s p i at is = record { to = λ rest h. caused run c m s p i rest (rw is at at) h; from = λ rest h. cause_at run c m x s p i rest at h }
 
 pub causes_begin : (run : List Log) (c : RingId) (stays : List Stay) → Facts run c stays → EachBeginsWithin stays IsInside (BreaksCausalityIn run c)
 causes_begin run c stays facts = record { each = λ places h. go places h }
@@ -133,51 +84,25 @@ causes_begin run c stays facts = record { each = λ places h. go places h }
         let there = index_of run e (Send first.0 (Regular c) first.1.0) first.1.1 in
         begins_at run c stays e there.0 (Regular c) rest facts there.1 (Send first.0 (Regular c) first.1.0, there.2, refl) (inl refl)
 
--- if nothing breaks 5, it holds
-pub causal : (run : List Log) (c : RingId) → HoldsOfNone (BreaksCausalityIn run c) → CausalityIn run c
-causal run c none = record {
-  each = λ m n e f send effect hop r j delivers. elim (delivery_or_not (λ l x. (l < j) × Com (log_of run r) c x) (log_of run r) m (λ l x. both_or_not (below_or_not l j) (in_or_not (log_of run r) c x))) [
-    | inl (l, x, at, (lt, inside)) ↦ (l, lt, (x, at, inside))
-    | inr never ↦ absurd (none.none (e ∷ f ∷ place r j ∷ []) (j, refl, (m, n, send, effect, hop, (delivers, λ l lt (x, at, inside). never l x at (lt, inside)))))
-  ];
-}
-
 -- ---- suspects
 
 -- ---- one entry
 
 handles_one : (e : Entry) (m n : MsgId) → Handles e m → Handles e n → m ≡ n
-handles_one (Send k x s) m n a b = sym a ∙ b
-handles_one (Deliver k x) m n a b = sym a ∙ b
-handles_one other m n a b = absurd a
+handles_one e m n h k = grind arith
 
 pub undelivered : (run : List Log) (c : RingId) (stay : Stay) (e : Entry) (m : MsgId) (y : ConfId) (v : Service) (early : ℕ) → e ≡ Send m y v → DeliversNot (log_of run stay.proc) c m → IsEarlier run c stay.proc e early early
-undelivered run c stay e m y v early sends not = record {
-  no_later = omega arith;
-  each = λ n x s k is h. (let same : n ≡ m = (let t : Send n x s ≡ Send m y v = sym is ∙ sends in cc) in absurd (not.never (k, rw same at h)));
-}
+undelivered run c stay e m y v early sends not = grind arith
 
 pub delivered_at : (run : List Log) (c : RingId) (stays : List Stay) (stay : Stay) (e : Entry) (m : MsgId) (y : ConfId) (v : Service) (at old new : ℕ) → Facts run c stays → e ≡ Send m y v → DeliversIn (log_of run stay.proc) c m at → new ≤ old → new ≤ at
     → IsEarlier run c stay.proc e old new
-delivered_at run c stays stay e m y v at old new of sends here no_later le = record {
-  no_later = no_later;
-  each = λ n x s k is h. (let same : n ≡ m = (let t : Send n x s ≡ Send m y v = sym is ∙ sends in cc) in
-      let one = one_delivery_in run c stays stay.proc at k m of here (rw same at h) in omega arith);
-}
+delivered_at run c stays stay e m y v at old new of sends here no_later le = grind (arith, one_delivery_in)
 
 pub comes_if_before : (run : List Log) (c : RingId) (stay : Stay) (m : MsgId) (at k : ℕ) → DeliversIn (log_of run stay.proc) c m at → OnTrue (nat_lt at k) (ComesBefore run c stay.proc m k)
-comes_if_before run c stay m at k here = go (nat_lt at k) refl
-  where
-    go : (b : Bool) → nat_lt at k ≡ b → OnTrue b (ComesBefore run c stay.proc m k)
-    go true e = record { index = at; before = grind arith; delivers = here }
-    go false e = tt
+comes_if_before run c stay m at k here = grind arith
 
 pub comes_late : (run : List Log) (c : RingId) (stays : List Stay) (stay : Stay) (m : MsgId) (at k : ℕ) → Facts run c stays → DeliversIn (log_of run stay.proc) c m at → OnFalse (nat_lt at k) (ComesNotBefore run c stay.proc m k)
-comes_late run c stays stay m at k facts here = go (nat_lt at k) refl
-  where
-    go : (b : Bool) → nat_lt at k ≡ b → OnFalse b (ComesNotBefore run c stay.proc m k)
-    go true e = tt
-    go false e = not_before run c stays stay m k at facts here (grind arith)
+comes_late run c stays stay m at k facts here = grind (arith, not_before)
 
 module _ (cmp : MsgId → MsgId → Ordering) where
   pub has_through : (r s t : BTreeSet MsgId) → HasAllOf cmp s r → HasAllOf cmp t s → HasAllOf cmp t r

@@ -1,24 +1,12 @@
 -- Entering the changes to regular configurations, and building the stays from them, log by log.
-use Rattle.std.proofs.Common.{◌≡◌, ℕ, inl, inr, List, slice_get, Some, None, true, IsTrue, sym, ◌∙◌, subst, ◌+◌, ◌<◌, ◌≤◌, ◌⊎◌, [], ◌∷◌, ◌++◌, length, get_or, ◌↔◌, ap, arith, below_more}
-use Rattle.std.specs.declared.cmp.Ordering.{Ordering}
+use Rattle.totem_pass_d.proofs.Common.{◌≡◌, ℕ, inl, inr, List, slice_get, Some, None, true, IsTrue, sym, ◌∙◌, subst, ◌+◌, ◌<◌, ◌≤◌, ◌⊎◌, [], ◌∷◌, ◌++◌, length, get_or, ◌↔◌, ap, arith, below_more, Ordering, RingId, ConfId, Regular, Entry, Conf, Log, log_of, ChangesTo, IsChange, IsQuiet, ending_of, IsRing, AreRings, MeetsPasses, Keeps, StaysSound, equal_at, apart_or_at, exact_ring, slice_get_within, slice_get-get_or, get_or_from_slice_get, NeverFails, log_of_at, log_of_cases, in_order, before_or_at, IsStay, IsStayFrom, IsStayOf, HasStay, AreStays, is_stay, nothing, before_push, stands_before, stands_last}
 use Rattle.std.specs.BTreeMap.{BTreeMap}
 use Rattle.std.specs.BTreeMap as tree
 use Rattle.std.specs.BTreeSet.{BTreeSet, IsOrdered}
 use Rattle.std.specs.BTreeSet as sorted
 use Rattle.std.proofs.lemmas.Map.Lookups.{CmpEqualImpliesEq}
-use Rattle.totem_names.specs.declared.ring.RingId.{RingId}
-use Rattle.totem_names.specs.declared.conf.ConfId.{ConfId}
-use Rattle.totem_names.specs.declared.conf.ConfId.TheVariants.{Regular}
-use Rattle.totem_evs.specs.declared.entry.Entry.{Entry}
-use Rattle.totem_evs.specs.declared.entry.Entry.TheVariants.{Conf}
-use Rattle.totem_evs.specs.declared.log.Log.{Log}
-use Rattle.totem_evs.specs.Events.{log_of, ChangesTo, IsChange, IsQuiet, ending_of}
-use Rattle.totem_evs.specs.Answers.{IsRing, AreRings, MeetsPasses}
 use Rattle.totem_table.specs.declared.keys.Change.{Change}
-use Rattle.totem_table.specs.Registers.{Keeps, StaysSound}
-use Rattle.totem_names.proofs.Exact.{equal_at, apart_or_at, exact_ring}
 use Rattle.totem_table.proofs.Exact.{change_by}
-use Rattle.std.proofs.lemmas.Option.{slice_get_within, slice_get-get_or, get_or_from_slice_get}
 use Rattle.std.proofs.lemmas.Map.Keys.{Less-from_sorted}
 use Rattle.std.proofs.lemmas.Map.Views.{btree_set_contains_iff}
 use Rattle.totem_names.specs.contracts.ring.RingIdOrd.TheImpl as ring
@@ -26,23 +14,13 @@ use Rattle.totem_names.specs.contracts.ring.RingIdOrd.TheImpl.Laws.{total-law}
 use Rattle.totem_judge_run.proofs.PendingOrder.{below_from_less}
 use Rattle.totem_pass_d.specs.Comings.{KnowsComing, AreComings, HoldsComings}
 use Rattle.totem_evs.specs.Runs.{IsRun, IsLog}
-use Rattle.totem_evs.specs.Following.{NeverFails}
-use Rattle.totem_evs.proofs.LogOf.{log_of_at, log_of_cases, in_order}
-use Rattle.totem_judge_traffic.proofs.Rowing.{before_or_at}
 use Rattle.totem_pass_d.specs.declared.stays.Stay.{Stay}
-use Rattle.totem_judge_run.specs.Stays.{IsStay}
-use Rattle.totem_pass_d.specs.Stays.{IsStayFrom, IsStayOf, HasStay, AreStays}
-use Rattle.totem_judge_run.proofs.Staying.{is_stay}
-use Rattle.totem_evs.proofs.Pushing.{nothing, before_push, stands_before, stands_last}
 use Rattle.totem_judge_run.proofs.LogEnds.{ending_of_at, quiet_never_fails}
 
 -- an entry that is not a change changes to no configuration
 pub spares_coming : (by_ring : RingId → RingId → Ordering) (by_change : Change → Change → Ordering) (rings : BTreeSet RingId) (indices : BTreeMap Change ℕ) (p : ℕ) (log : List Entry) (i : ℕ) → (IsChange log i → ⊥)
     → KnowsComing by_ring by_change rings indices p log i
-spares_coming by_ring by_change rings indices p log i never = record {
-  ring = λ c change. absurd (never (Regular c, change));
-  index = λ c change. absurd (never (Regular c, change));
-}
+spares_coming by_ring by_change rings indices p log i never = grind arith
 
 pub one_coming : (by_ring : RingId → RingId → Ordering) (by_change : Change → Change → Ordering) → CmpEqualImpliesEq by_ring → CmpEqualImpliesEq by_change
     → (r s : BTreeSet RingId) (m n : BTreeMap Change ℕ) (p i : ℕ) (log : List Entry) (x : ConfId) (c : RingId) (ms : List ℕ) → slice_get log i ≡ Some (Conf x ms) → x ≡ Regular c
@@ -73,21 +51,7 @@ one_coming by_ring by_change exact_ring exact_change r s m n p i log x c ms at i
 pub keeps_comings : (by_ring : RingId → RingId → Ordering) (by_change : Change → Change → Ordering) → CmpEqualImpliesEq by_ring → CmpEqualImpliesEq by_change
     → (r s : BTreeSet RingId) (m n : BTreeMap Change ℕ) (p i : ℕ) (c : RingId) → sorted.Updates by_ring r s c true → tree.Updates by_change m n (change_by p (Regular c)) (Some i)
     → Keeps (KnowsComing by_ring by_change r m) (KnowsComing by_ring by_change s n)
-keeps_comings by_ring by_change exact_ring exact_change r s m n p i c added updated = record {
-  each = λ q log j known. record {
-    ring = λ d change. elim (apart_or_at by_ring c d) [
-      | inr apart ↦ added.2 d apart ∙ known.ring d change
-      | inl at_d ↦ subst (λ (z : RingId). IsTrue (sorted.contains by_ring s z)) (exact_ring c d (equal_at (by_ring c d) at_d)) added.1
-    ];
-    index = λ d change none. elim (apart_or_at by_change (change_by p (Regular c)) (change_by q (Regular d))) [
-      | inr apart ↦ known.index d change (sym (updated.2 (change_by q (Regular d)) apart) ∙ none)
-      | inl at_v ↦ found_here (sym (subst (λ (z : Change). tree.get by_change n z ≡ Some i) (exact_change (change_by p (Regular c)) (change_by q (Regular d)) (equal_at (by_change (change_by p (Regular c)) (change_by q (Regular d))) at_v)) updated.1) ∙ none)
-    ];
-  };
-}
-  where
-    found_here : Some i ≡ None → ⊥
-    found_here e = cc
+keeps_comings by_ring by_change exact_ring exact_change r s m n p i c added updated = grind (arith, apart_or_at, equal_at, change_by)
 
 -- the rings that are collected are those of the run, in order
 pub are_rings : (by_change : Change → Change → Ordering) (rings : BTreeSet RingId) (indices : BTreeMap Change ℕ) (run : List Log) → HoldsComings ring.cmp-value.it by_change rings indices run

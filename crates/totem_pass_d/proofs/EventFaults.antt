@@ -1,33 +1,12 @@
 -- What breaks 3, 7.1 and 7.2 in one regular configuration, event by event, and which processes the end of their stay excuses.
-use Rattle.std.proofs.Common.{◌≡◌, ◌⊎◌, inl, inr, List, length, Bool, true, false, refl, arith, ℕ, ◌<◌, ◌≤◌, get_or, slice_get, Some, not, IsTrue, ◌↔◌, sym}
-use Rattle.totem_names.specs.declared.ring.RingId.{RingId}
-use Rattle.totem_evs.specs.declared.log.Log.{Log}
-use Rattle.totem_evs.specs.Events.{IsQuiet, log_of, ChangesTo, Delivers}
-use Rattle.totem_evs.specs.Following.{FailedIn, StaysIn, OpenIn, Com, DeliversIn, HasDelivered, DeliversOrEnds}
-use Rattle.totem_judge_traffic.proofs.Rowing.{before_or_at}
+use Rattle.totem_pass_d.proofs.Common.{◌≡◌, ◌⊎◌, inl, inr, List, length, Bool, true, false, refl, arith, ℕ, ◌<◌, ◌≤◌, get_or, slice_get, Some, not, IsTrue, ◌↔◌, sym, All, RingId, Log, IsQuiet, log_of, ChangesTo, Delivers, FailedIn, StaysIn, OpenIn, Com, DeliversIn, HasDelivered, DeliversOrEnds, before_or_at, IsExcused, IsStayOf, MatchBool, OnTrue, OnFalse, ConfId, Regular, MsgId, Service, Entry, Send, Deliver, Fail, Names, IsNotOwned, IsNotReached, IsNotInstalled, MeetsPasses, HasCome, NeverComes, DeliversNot, IsInside, IsBrokenAlone, IsSafeIn, AreMembersAt, HoldsNotOfAll, both_or_not}
 use Rattle.totem_pass_d.specs.declared.stays.Stay.{Stay}
-use Rattle.totem_pass_d.specs.Stays.{IsExcused, IsStayOf}
-use Rattle.std.specs.Prelude.{All}
-use Rattle.std.specs.Bool.{MatchBool, OnTrue, OnFalse}
 use Rattle.std.specs.List.{AllWithin, HoldsAt}
 use Rattle.std.proofs.lemmas.Bool.{cases_eq}
 use Rattle.std.proofs.lemmas.Grind.{get_or_default_zero}
 use Rattle.std.proofs.lemmas.List.Elements.{All-from_all_within, All-contains}
-use Rattle.totem_names.specs.declared.conf.ConfId.{ConfId}
-use Rattle.totem_names.specs.declared.conf.ConfId.TheVariants.{Regular}
-use Rattle.totem_names.specs.declared.message.MsgId.{MsgId}
-use Rattle.totem_names.specs.declared.message.Service.{Service}
-use Rattle.totem_evs.specs.declared.entry.Entry.{Entry}
-use Rattle.totem_evs.specs.declared.entry.Entry.TheVariants.{Send, Deliver, Fail}
-use Rattle.totem_evs.specs.Changes.{Names}
-use Rattle.totem_evs.specs.AgreementFaults.{IsNotOwned, IsNotReached, IsNotInstalled}
 use Rattle.totem_evs.specs.declared.spec.SpecNo.TheVariants as spec
-use Rattle.totem_evs.specs.Answers.{MeetsPasses}
-use Rattle.totem_pass_d.specs.Acts.{HasCome, NeverComes, DeliversNot}
-use Rattle.totem_pass_d.specs.Search.{IsInside, IsBrokenAlone}
-use Rattle.totem_pass_d.specs.Reached.{IsSafeIn, AreMembersAt, HoldsNotOfAll}
-use Rattle.totem_pass_d.proofs.Deciding.{changes_or_not, has_delivered_or_not}
-use Rattle.totem_judge_run.proofs.Decisions.{both_or_not}
+use Rattle.totem_search.proofs.Deciding.{changes_or_not, has_delivered_or_not}
 use Rattle.totem_pass_d.proofs.Facts.{Facts, StayFacts, at_turn_no_name}
 use Rattle.totem_pass_d.proofs.Reaching.{is_among_members, is_member, safe_in}
 
@@ -42,19 +21,7 @@ excused run c stay is e = go (rw is.log at (is.is.ends e.0))
     go (inr stays) = inr (loud, stays)
 
 pub not_excused : (run : List Log) (c : RingId) (stay : Stay) → IsStayOf run c stay → (IsExcused stay → ⊥) → FailedIn (log_of run stay.proc) c ⊎ OpenIn run stay.proc c → ⊥
-not_excused run c stay is never ends = elim (before_or_at stay.end (length stay.log.now) (omega (arith, is.is.within))) [
-  | inl lt ↦ is.is.goes_on lt (rw is.log (here ends))
-  | inr last ↦ at_end last stay.quiet refl ends
-]
-  where
-    here : FailedIn (log_of run stay.proc) c ⊎ OpenIn run stay.proc c → FailedIn (log_of run stay.proc) c ⊎ StaysIn (log_of run stay.proc) c
-    here (inl failed) = inl failed
-    here (inr (loud, stays)) = inr stays
-
-    at_end : stay.end ≡ length stay.log.now → (b : Bool) → stay.quiet ≡ b → FailedIn (log_of run stay.proc) c ⊎ OpenIn run stay.proc c → ⊥
-    at_end last false is_not h = never (last, is_not)
-    at_end last true told (inl (i, d, fails, inside)) = is.unfailed told i d (rw is.log fails)
-    at_end last true told (inr (loud, stays)) = loud (is.quiet.0 told)
+not_excused run c stay is never ends = grind (arith, before_or_at)
 
 -- ---- the events
 
@@ -87,11 +54,7 @@ absent run c q m meets never h = go h
     go (inr (inr (loud, (d, fails, last, inr f)))) = never.never f.from f.first.change
 
 excused_or_not : (stay : Stay) → IsExcused stay ⊎ (IsExcused stay → ⊥)
-excused_or_not stay = both_or_not (cases_eq stay.end (length stay.log.now)) (false_or_not stay.quiet)
-  where
-    false_or_not : (b : Bool) → (b ≡ false) ⊎ (b ≡ false → ⊥)
-    false_or_not true = inr (λ e. cc)
-    false_or_not false = inl refl
+excused_or_not stay = grind (arith, both_or_not, cases_eq)
 
 -- a process delivers m or is excused, or it does not and is not
 delivers_or_ends_or_not : (run : List Log) (c : RingId) (stays : List Stay) → Facts run c stays → (p : ℕ) (m : MsgId) → DeliversOrEnds run p c m ⊎ (DeliversOrEnds run p c m → ⊥)
@@ -144,9 +107,7 @@ pub owned_excused : (run : List Log) (c : RingId) (stay : Stay) (i : ℕ) → St
 owned_excused run c stay i is e (m, sends, never) = never (inr (excused run c stay is.of e))
 
 pub owned_delivered : (run : List Log) (c : RingId) (stay : Stay) (i k : ℕ) (m : MsgId) (x : ConfId) (v : Service) → slice_get (log_of run stay.proc) i ≡ Some (Send m x v) → DeliversIn (log_of run stay.proc) c m k → IsNotOwned run c stay.proc i → ⊥
-owned_delivered run c stay i k m x v at here (n, (w, sends), never) =
-    let same : n ≡ m = (let entries : Some (Send n (Regular c) w) ≡ Some (Send m x v) = cc in cc) in
-    never (inl (rw same (k, here)))
+owned_delivered run c stay i k m x v h o p = grind arith
 
 pub owned_never : (run : List Log) (c : RingId) (stay : Stay) (i : ℕ) (m : MsgId) (x : ConfId) (v : Service) → StayFacts run c stay → IsInside stay i → slice_get (log_of run stay.proc) i ≡ Some (Send m x v)
     → (IsExcused stay → ⊥) → DeliversNot (log_of run stay.proc) c m → IsNotOwned run c stay.proc i

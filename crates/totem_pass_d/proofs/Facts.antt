@@ -1,25 +1,7 @@
 -- What the stays of a run that meets the specifications of the first two passes say about its logs.
-use Rattle.std.proofs.Common.{◌≡◌, ℕ, ◌<◌, ◌≤◌, inl, inr, List, length, refl, arith}
-use Rattle.std.proofs.lemmas.Option.{slice_get_within, get_or_from_slice_get}
-use Rattle.totem_names.specs.declared.ring.RingId.{RingId}
-use Rattle.totem_names.specs.declared.conf.ConfId.{ConfId}
-use Rattle.totem_names.specs.declared.conf.ConfId.TheVariants.{Regular, Transitional}
-use Rattle.totem_names.specs.declared.message.MsgId.{MsgId}
-use Rattle.totem_evs.specs.declared.entry.Entry.{Entry}
-use Rattle.totem_evs.specs.declared.entry.Entry.TheVariants.{Send, Deliver}
-use Rattle.totem_evs.specs.declared.log.Log.{Log}
-use Rattle.totem_evs.specs.Events.{IsRegular, IsTransitional, ChangesTo, Sends, log_of}
-use Rattle.totem_evs.specs.Changes.{Names}
-use Rattle.totem_evs.specs.Following.{Com, DeliversIn}
-use Rattle.totem_evs.specs.Answers.{MeetsPasses}
-use Rattle.totem_evs.proofs.LogOf.{less_or_not}
-use Rattle.totem_judge_run.proofs.Staying.{names_no_change}
+use Rattle.totem_pass_d.proofs.Common.{◌≡◌, ℕ, ◌<◌, ◌≤◌, inl, inr, List, length, refl, arith, slice_get_within, get_or_from_slice_get, RingId, ConfId, Regular, Transitional, MsgId, Entry, Send, Deliver, Log, IsRegular, IsTransitional, ChangesTo, Sends, log_of, Names, Com, DeliversIn, MeetsPasses, less_or_not, names_no_change, IsStay, IsStayOf, HasStay, AreStays, IsAmong, IsInside, StandsInside}
 use Rattle.totem_pass_d.specs.declared.stays.Stay.{Stay}
 use Rattle.totem_pass_d.specs.declared.stays.Stays.{Stays}
-use Rattle.totem_judge_run.specs.Stays.{IsStay}
-use Rattle.totem_pass_d.specs.Stays.{IsStayOf, HasStay, AreStays}
-use Rattle.totem_pass_d.specs.Acts.{IsAmong}
-use Rattle.totem_pass_d.specs.Search.{IsInside, StandsInside}
 use Rattle.totem_pass_d.specs.KnownStays.{AreKnown}
 
 pub stay_of : (run : List Log) (c : RingId) (stays : List Stay) (stay : Stay) → AreStays run c stays → IsAmong stays stay → IsStayOf run c stay

@@ -1,37 +1,9 @@
 -- The list found for 6.3 is the least that breaks it: an earlier message, a later one, and a process that delivers only
 -- the later one.
-use Rattle.std.proofs.Common.{◌≡◌, ℕ, ◌+◌, ◌<◌, ◌≤◌, inl, inr, List, [], ◌∷◌, length, slice_get, Option, Some, None, Bool, true, false, not, IsTrue, ◌↔◌, refl, sym, ◌∙◌, arith, below_more}
-use Rattle.std.specs.Prelude.{Contains, IfSome, IfNone}
-use Rattle.std.specs.Option.{unwrap_or}
-use Rattle.std.specs.Bool.{OnTrue, OnFalse}
-use Rattle.std.proofs.lemmas.Option.{slice_get_within}
-use Rattle.totem_names.specs.declared.ring.RingId.{RingId}
-use Rattle.totem_names.specs.declared.conf.ConfId.{ConfId}
-use Rattle.totem_names.specs.declared.conf.ConfId.TheVariants.{Regular}
-use Rattle.totem_names.specs.declared.message.MsgId.{MsgId}
-use Rattle.totem_names.specs.declared.place.Place.{Place}
-use Rattle.totem_evs.specs.declared.entry.Entry.{Entry}
-use Rattle.totem_evs.specs.declared.entry.Entry.TheVariants.{Deliver}
-use Rattle.totem_evs.specs.declared.log.Log.{Log}
-use Rattle.totem_evs.specs.Events.{log_of, Sends, Delivers, WasSentIn, IsMember}
-use Rattle.totem_evs.specs.Following.{Com, DeliversIn}
-use Rattle.totem_evs.specs.Agreement.{NoGapsIn}
-use Rattle.totem_evs.specs.AgreementFaults.{IsGap, BreaksGapIn}
-use Rattle.totem_evs.specs.Answers.{ComesFirst, MeetsPasses}
-use Rattle.totem_evs.proofs.LogOf.{less_or_not}
-use Rattle.totem_evs.proofs.Pushing.{Along}
-use Rattle.totem_judge_traffic.proofs.Rowing.{before_or_at}
-use Rattle.totem_search.specs.Search.{place, NoneFrom, IsLeastFrom, HoldsOfNone, IsOneEvent}
-use Rattle.totem_search.proofs.Searching.{Starts}
+use Rattle.totem_pass_d.proofs.Common.{◌≡◌, ℕ, ◌+◌, ◌<◌, ◌≤◌, inl, inr, List, [], ◌∷◌, length, slice_get, Option, Some, None, Bool, true, false, not, IsTrue, ◌↔◌, refl, sym, ◌∙◌, arith, below_more, Contains, IfSome, IfNone, unwrap_or, OnTrue, OnFalse, slice_get_within, RingId, ConfId, Regular, MsgId, Place, Entry, Deliver, Log, log_of, Sends, Delivers, WasSentIn, IsMember, Com, DeliversIn, IsGap, BreaksGapIn, ComesFirst, MeetsPasses, less_or_not, Along, before_or_at, place, NoneFrom, IsLeastFrom, IsOneEvent, Starts, IsAmong, DeliversNot, IsSendingOf, NobodySent, IsInside, EachBeginsWithin, NoneWithin, IsLeastWithin, BeginsWithin, AreMembersAt, AreMembersAfter, ComesNotBefore, IsLack, IsLater, TellsMember, IsApart, IsBeyond, IsPassed, HasPassed, IsLast, AreLasts, IsAhead, KeepsUp, AllKeepUp}
 use Rattle.totem_pass_d.specs.declared.stays.Stay.{Stay}
 use Rattle.totem_pass_d.specs.declared.stays.Sending.{Sending}
 use Rattle.totem_pass_d.specs.declared.gap_6_3.Last.{Last}
-use Rattle.totem_pass_d.specs.Acts.{IsAmong, DeliversNot, IsSendingOf, NobodySent}
-use Rattle.totem_pass_d.specs.Search.{IsInside, EachBeginsWithin, NoneWithin, IsLeastWithin, BeginsWithin}
-use Rattle.totem_pass_d.specs.Reached.{AreMembersAt, AreMembersAfter}
-use Rattle.totem_pass_d.specs.Suspects.{ComesNotBefore}
-use Rattle.totem_pass_d.specs.Searched.{IsLack, IsLater, TellsMember, IsApart, IsBeyond, IsPassed, HasPassed, IsLast, AreLasts, IsAhead, KeepsUp, AllKeepUp}
-use Rattle.totem_pass_d.proofs.Deciding.{has_delivered_or_not}
 use Rattle.totem_pass_d.proofs.Reaching.{is_among_members, is_member, one_origin}
 use Rattle.totem_pass_d.proofs.Facts.{Facts, delivery_inside}
 use Rattle.totem_pass_d.proofs.Searching.{no_event, only_event, begins_inside, begins_at}
@@ -70,9 +42,7 @@ lacks_begin run c stays s m n facts = begins_inside (IsLack run c s m n) stays (
 
 -- later messages of one log
 later_at : (run : List Log) (c : RingId) (s : ℕ) (m n : MsgId) (i p j : ℕ) (d : ConfId) (rest : List Place) → Delivers (log_of run p) j n d → IsLater run c s m i (place p j ∷ rest) → IsOneEvent (IsLack run c s m n) rest
-later_at run c s m n i p j d rest at (k, is, (lt, (o, (y, at', belongs), one))) =
-    let there : slice_get (log_of run p) j ≡ Some (Deliver o y) = (let same : k ≡ j = omega arith in rw same at at') in
-    let same : o ≡ n = (let h : slice_get (log_of run p) j ≡ Some (Deliver n d) = at in cc) in rw same at one
+later_at run c s m n i p j d rest h k = grind arith
 
 pub lack_starts : (run : List Log) (c : RingId) (stays : List Stay) (stay : Stay) (s : ℕ) (m n : MsgId) (i j : ℕ) (d : ConfId) → Facts run c stays → IsAmong stays stay → IsInside stay j → slice_get (log_of run stay.proc) j ≡ Some (Deliver n d) → i < j
     → Starts (IsOneEvent (IsLack run c s m n)) (IsLater run c s m i) stay.proc j
@@ -155,15 +125,6 @@ gaps_begin run c stays facts = record { each = λ places h. go places h }
         begins_at run c stays e i y (f ∷ g ∷ []) facts (rw (← is) refl) (Deliver m y, at, refl) belongs
     go places h = absurd h
 
--- if nothing breaks 6.3, it holds
-pub no_gaps : (run : List Log) (c : RingId) → HoldsOfNone (BreaksGapIn run c) → NoGapsIn run c
-no_gaps run c none = record {
-  each = λ m n p i j q k d earlier later lt at belongs s l x send member. elim (has_delivered_or_not (log_of run q) c m) [
-    | inl has ↦ has
-    | inr lacks ↦ absurd (none.none (place p i ∷ place p j ∷ place q k ∷ []) (i, refl, (j, refl, (k, refl, (refl, (m, n, d, x, s, l, earlier, later, lt, at, belongs, send, member, lacks))))))
-  ];
-}
-
 -- ---- the last delivery of a process that another process makes too
 
 -- the entry delivers m, which q does not deliver before until
@@ -203,18 +164,10 @@ rough_last run c stays p i follower facts among beyond = record {
 -- p delivers at `there` what the follower delivers at k
 passed_there : (run : List Log) (c : RingId) (stays : List Stay) (follower : Stay) (p k there i : ℕ) (m : MsgId) (d : ConfId) → Facts run c stays → slice_get (log_of run follower.proc) k ≡ Some (Deliver m d) → DeliversIn (log_of run p) c m there → there ≤ i
     → IsPassed run c p follower k i
-passed_there run c stays follower p k there i m d facts at here le = record {
-  never = λ n j lt delivers (x, is, belongs). (
-      let same : n ≡ m = cc in
-      let one = one_delivery_in run c stays p j there m facts (rw same at delivers) here in
-      absurd (omega arith)
-      );
-}
+passed_there run c stays follower p k there i m d facts at here le = grind (arith, one_delivery_in)
 
 passed_undelivered : (run : List Log) (c : RingId) (follower : Stay) (p k i : ℕ) (m : MsgId) (d : ConfId) → slice_get (log_of run follower.proc) k ≡ Some (Deliver m d) → DeliversNot (log_of run p) c m → IsPassed run c p follower k i
-passed_undelivered run c follower p k i m d at not = record {
-  never = λ n j lt delivers (x, is, belongs). (let same : n ≡ m = cc in not.never (j, rw same at delivers));
-}
+passed_undelivered run c follower p k i m d at not = grind arith
 
 -- p delivers at no later index than i what the follower delivers at k, or never
 pub passed_delivered : (run : List Log) (c : RingId) (stays : List Stay) (follower : Stay) (p k i last : ℕ) (m : MsgId) (d : ConfId) (found : Option ℕ) → Facts run c stays → slice_get (log_of run follower.proc) k ≡ Some (Deliver m d)
@@ -287,10 +240,7 @@ ahead_of run c p m n d x stay q j k s l same later at belongs send member = (n, 
 
 -- no gap starts at an entry that delivers nothing
 pub none_silent : (run : List Log) (c : RingId) (p i : ℕ) (e : Entry) → slice_get (log_of run p) i ≡ Some e → ((m : MsgId) (d : ConfId) → e ≡ Deliver m d → ⊥) → NoneFrom (BreaksGapIn run c) p i
-none_silent run c p i e at silent = record { none = λ rest h. let g = gap_at run c p i rest h in go g.0 g.1 g.2 g.4 }
-  where
-    go : (j q k : ℕ) → IsGap run c p i j q k → ⊥
-    go j q k (o, n, x, y, s, l, (z, at', b'), later, lt, at_k, belongs, send, member, lacks) = (let same : e ≡ Deliver o z = cc in silent o z same)
+none_silent run c p i e at silent = grind (arith, gap_at)
 
 -- no gap starts at a message with which all keep up
 pub none_behind : (run : List Log) (c : RingId) (stays : List Stay) (m : MsgId) (d : ConfId) (p i : ℕ) → Facts run c stays → slice_get (log_of run p) i ≡ Some (Deliver m d) → AllKeepUp run c stays p m i → NoneFrom (BreaksGapIn run c) p i

@@ -1,4 +1,4 @@
-pub mod Deciding
+pub mod Common
 pub mod Reaching
 pub mod EventFaults
 pub mod Searching

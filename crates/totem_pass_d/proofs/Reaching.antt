@@ -1,28 +1,7 @@
 -- Safe messages, the members of the configuration in which a message is delivered, and the members that it reaches.
-use Rattle.std.proofs.Common.{◌≡◌, ℕ, ◌<◌, ◌≤◌, inl, inr, List, slice_get, Some, Bool, true, false, IsTrue, ◌↔◌, refl, arith}
-use Rattle.std.specs.Prelude.{Contains}
-use Rattle.totem_names.specs.declared.ring.RingId.{RingId}
-use Rattle.totem_names.specs.declared.conf.ConfId.{ConfId}
-use Rattle.totem_names.specs.declared.conf.ConfId.TheVariants.{Regular}
-use Rattle.totem_names.specs.declared.message.MsgId.{MsgId}
-use Rattle.totem_names.specs.declared.message.Service.TheVariants.{Safe}
-use Rattle.totem_evs.specs.declared.entry.Entry.{Entry}
-use Rattle.totem_evs.specs.declared.entry.Entry.TheVariants.{Conf, Send}
-use Rattle.totem_evs.specs.declared.log.Log.{Log}
-use Rattle.totem_evs.specs.Missing.{members_of}
-use Rattle.totem_evs.specs.Events.{ChangesTo, Delivers, IsMember, IsSafe, IsTransitional, log_of}
-use Rattle.totem_evs.specs.Changes.{Names}
+use Rattle.totem_pass_d.proofs.Common.{◌≡◌, ℕ, ◌<◌, ◌≤◌, inl, inr, List, slice_get, Some, Bool, true, false, IsTrue, ◌↔◌, refl, arith, Contains, RingId, ConfId, Regular, MsgId, Safe, Entry, Conf, Send, Log, members_of, ChangesTo, Delivers, IsMember, IsSafe, IsTransitional, log_of, Names, Follows, Com, MeetsPasses, less_or_not, before_or_at, same_first, one_next, names_no_change, same_change, IsStay, IsSendingOf, IsSafeIn, AreMembersAt}
 use Rattle.totem_evs.specs.Delivery.{WasSentFor}
-use Rattle.totem_evs.specs.Following.{Follows, Com}
-use Rattle.totem_evs.specs.Answers.{MeetsPasses}
-use Rattle.totem_evs.proofs.LogOf.{less_or_not}
-use Rattle.totem_judge_traffic.proofs.Rowing.{before_or_at}
-use Rattle.totem_evs.proofs.NextChanges.{same_first, one_next}
-use Rattle.totem_judge_run.proofs.Staying.{names_no_change, same_change}
 use Rattle.totem_pass_d.specs.declared.stays.Sending.{Sending}
-use Rattle.totem_judge_run.specs.Stays.{IsStay}
-use Rattle.totem_pass_d.specs.Acts.{IsSendingOf}
-use Rattle.totem_pass_d.specs.Reached.{IsSafeIn, AreMembersAt}
 
 -- a message sent for another service is not safe
 pub not_safe : (run : List Log) (c : RingId) (m : MsgId) (s : Sending) → MeetsPasses run → IsSendingOf run c m s → (s.service ≡ Safe → ⊥) → IsSafeIn run c m → ⊥

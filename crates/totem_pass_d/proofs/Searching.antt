@@ -1,28 +1,9 @@
 -- Going from stay to stay: the least list that is found is the least of all; how lists of places continue, lists of one event, and the
 -- stay of a process.
-use Rattle.std.proofs.Common.{◌≡◌, ℕ, ◌+◌, ◌<◌, ◌≤◌, inl, inr, List, ◌∷◌, length, slice_get, Some, refl, sym, ap, arith, below_more, [], Result, Ok, Err, Option, None, IfOk, MatchOption, zero, suc, add-one}
-use Rattle.std.proofs.lemmas.Option.{slice_get_within, get_or_from_slice_get}
-use Rattle.totem_names.specs.declared.ring.RingId.{RingId}
-use Rattle.totem_names.specs.declared.place.Place.{Place}
-use Rattle.totem_evs.specs.declared.log.Log.{Log}
-use Rattle.totem_evs.specs.Answers.{ComesFirst, IsLeast, FindsIn}
-use Rattle.totem_search.specs.Search.{place, NoneFrom, HoldsOfNone, IsOneEvent}
-use Rattle.totem_search.proofs.Searching.{event_at}
-use Rattle.totem_evs.proofs.LogOf.{less_or_not}
+use Rattle.totem_pass_d.proofs.Common.{◌≡◌, ℕ, ◌+◌, ◌<◌, ◌≤◌, inl, inr, List, ◌∷◌, length, slice_get, Some, refl, sym, ap, arith, below_more, [], Result, Ok, Err, Option, None, IfOk, MatchOption, slice_get_within, get_or_from_slice_get, RingId, Place, Log, ComesFirst, IsLeast, FindsIn, place, NoneFrom, HoldsOfNone, IsOneEvent, event_at, less_or_not, AreStays, IsAmong, NeverComes, IsInside, EachBeginsWithin, NoneBelow, NoneWithin, IsLeastWithin, IsOfOne, IsBrokenAlone, EachStandsInside, BeginsWithin, BreaksIn, MeetsIn, ConfId, log_of, Names, Com}
 use Rattle.totem_pass_d.specs.declared.stays.Stay.{Stay}
-use Rattle.totem_pass_d.specs.Stays.{AreStays}
-use Rattle.totem_pass_d.specs.Acts.{IsAmong, NeverComes}
-use Rattle.totem_pass_d.specs.Search.{IsInside, EachBeginsWithin, NoneBelow, NoneWithin, IsLeastWithin, IsOfOne, IsBrokenAlone, EachStandsInside, BeginsWithin}
 use Rattle.totem_evs.specs.declared.spec.SpecNo.{SpecNo}
-use Rattle.totem_evs.specs.RingFaults.{BreaksIn, MeetsIn}
 use Rattle.std.specs.declared.alloc.AllocError.{AllocError}
-use Rattle.totem_names.specs.declared.conf.ConfId.{ConfId}
-use Rattle.totem_names.specs.declared.message.MsgId.{MsgId}
-use Rattle.totem_evs.specs.declared.entry.Entry.{Entry}
-use Rattle.totem_evs.specs.Events.{at_place, entry_at, log_of, Sends}
-use Rattle.totem_evs.specs.Changes.{Names}
-use Rattle.totem_evs.specs.Following.{Com}
-use Rattle.totem_evs.specs.Steps.{SendsAt}
 use Rattle.totem_pass_d.proofs.Facts.{Facts}
 
 pub none_inside_more : (H : List Place → Type 0) (stay : Stay) (n : ℕ) → NoneFrom H stay.proc n → NoneBelow IsInside H stay n → NoneBelow IsInside H stay (n + 1)
@@ -33,15 +14,10 @@ pub record NoneBefore (stays : List Stay) (Reaches : Stay → ℕ → Type 0) (H
   pub none : (j : ℕ) → j < k → (i : ℕ) (stay : Stay) (rest : List Place) → slice_get stays j ≡ Some stay → Reaches stay i → H (place stay.proc i ∷ rest) → ⊥
 
 pub none_before_more : (stays : List Stay) (Reaches : Stay → ℕ → Type 0) (H : List Place → Type 0) (k : ℕ) (stay : Stay) → slice_get stays k ≡ Some stay → NoneWithin Reaches H stay → NoneBefore stays Reaches H k → NoneBefore stays Reaches H (k + 1)
-none_before_more stays Reaches H k stay at here before = record {
-  none = below_more _ _ before.none (λ i other rest at_k reached h. (let one : other ≡ stay = cc in here.none i rest (rw one at reached) (rw one at h)));
-}
+none_before_more stays Reaches H k stay at here before = grind arith
 
 pub none_at_end : (stays : List Stay) (Reaches : Stay → ℕ → Type 0) (H : List Place → Type 0) (k : ℕ) → length stays ≤ k → EachBeginsWithin stays Reaches H → NoneBefore stays Reaches H k → HoldsOfNone H
-none_at_end stays Reaches H k end begins before = record {
-  none = λ places h. let b = begins.each places h in
-      before.none b.among.at (omega (arith, slice_get_within stays b.among.at b.stay b.among.stands)) b.index b.stay b.rest b.among.stands b.reached (rw b.is at h);
-}
+none_at_end stays Reaches H k end begins before = grind (arith, slice_get_within)
 
 -- of two stays the earlier is that of the lesser process
 rises : (run : List Log) (c : RingId) (stays : List Stay) (j k : ℕ) (a b : Stay) → AreStays run c stays → slice_get stays j ≡ Some a → slice_get stays k ≡ Some b → j < k → a.proc < b.proc
@@ -97,34 +73,13 @@ no_event Reaches Fact stay never = record { none = λ i rest reached h. never i 
 -- one event of the stay has it
 pub only_event : (Reaches : Stay → ℕ → Type 0) (Fact : ℕ → ℕ → Type 0) (stay : Stay) (k : ℕ) (places : List Place) → Fact stay.proc k → ((i : ℕ) → Fact stay.proc i → i ≡ k) → places ≡ place stay.proc k ∷ []
     → IsLeastWithin Reaches (IsOneEvent Fact) stay places
-only_event Reaches Fact stay k places fact one is = record {
-  at = k;
-  rest = [];
-  is = is;
-  least = record { least = record { holds = (k, refl, fact); first = λ others h. tt } };
-  none_before = record { none = λ i lt rest reached h. let same = one i (event_at Fact stay.proc i rest h) in omega arith };
-}
+only_event Reaches Fact stay k places fact one is = grind (arith, event_at)
 
 pub begins_inside : (Fact : ℕ → ℕ → Type 0) (stays : List Stay) → EachStandsInside stays Fact → EachBeginsWithin stays IsInside (IsOneEvent Fact)
-begins_inside Fact stays stand = record { each = λ places h. go places h }
-  where
-    go : (places : List Place) → IsOneEvent Fact places → BeginsWithin stays IsInside places
-    go (e ∷ []) at =
-        let s = stand.each e.proc at.0 at.2 in
-        record { stay = s.stay; among = s.among; index = at.0; reached = s.inside; rest = []; is = rw (s.proc, ← at.1) refl }
-    go places h = absurd h
+begins_inside Fact stays stand = grind arith
 
 least_of_one : (H : List Place → Type 0) (Fact : ℕ → ℕ → Type 0) (places : List Place) → IsOfOne H Fact → IsLeast (IsOneEvent Fact) places → IsLeast H places
-least_of_one H Fact places of least = record { holds = to places least.holds; first = λ others h. least.first others (from others h) }
-  where
-    to : (list : List Place) → IsOneEvent Fact list → H list
-    to (e ∷ []) h = of.is e h
-    to places h = absurd h
-
-    from : (list : List Place) → H list → IsOneEvent Fact list
-    from [] h = of.empty h
-    from (e ∷ []) h = of.one e h
-    from (e ∷ f ∷ more) h = of.many e f more h
+least_of_one H Fact places of least = grind arith
 
 -- what the result of a search for one event says about a specification
 pub finds_event : {F : Type 0} (run : List Log) (c : RingId) (stays : List Stay) (k : SpecNo) (r : Result (Option (List Place)) F) (Fact : ℕ → ℕ → Type 0) → IsBrokenAlone run c stays k Fact
@@ -138,30 +93,7 @@ finds_event run c stays k (Ok (Some ps)) Fact alone h = least_of_one (BreaksIn r
 -- what the result of a search says about a specification
 pub answered : (r : Result (Option (List Place)) AllocError) (run : List Log) (c : RingId) (k : SpecNo) → (HoldsOfNone (BreaksIn run c k) → MeetsIn run c k)
     → IfOk r (λ found. MatchOption found (HoldsOfNone (BreaksIn run c k)) (IsLeast (BreaksIn run c k))) → IfOk r (FindsIn run c k)
-answered (Err e) run c k meets h = tt
-answered (Ok None) run c k meets h = meets h
-answered (Ok (Some x)) run c k meets h = h
-
--- the entry at a place
-at_next : (log : List Entry) (i : ℕ) → at_place log (i + 1) ≡ slice_get log i
-at_next log i = rw add-one refl
-
-pub sends_there : (run : List Log) (p i : ℕ) (m : MsgId) (x : ConfId) → SendsAt run (place p i) m x → Sends (log_of run p) i m x
-sends_there run p i m x (s, at) = (s, rw at_next at at)
-
-pub there_sends : (run : List Log) (p i : ℕ) (m : MsgId) (x : ConfId) → Sends (log_of run p) i m x → SendsAt run (place p i) m x
-there_sends run p i m x (s, at) = (s, rw at_next at)
-
--- an event is at some index of its log
-pub index_of : (run : List Log) (e : Place) (x : Entry) → entry_at run e ≡ Some x → (i : ℕ) × (e ≡ place e.proc i) × (slice_get (log_of run e.proc) i ≡ Some x)
-index_of run e x at = go e.at refl at
-  where
-    named : (n : ℕ) → e.at ≡ n → e ≡ record { proc = e.proc; at = n }
-    named n is = rw (← is) refl
-
-    go : (n : ℕ) → e.at ≡ n → at_place (log_of run e.proc) n ≡ Some x → (i : ℕ) × (e ≡ place e.proc i) × (slice_get (log_of run e.proc) i ≡ Some x)
-    go zero h k = absurd cc
-    go (suc i) h k = (i, rw add-one (named (suc i) h), k)
+answered r run c k h m = grind arith
 
 -- a list starts at an entry that names c or what follows it
 pub begins_at : (run : List Log) (c : RingId) (stays : List Stay) (e : Place) (i : ℕ) (x : ConfId) (rest : List Place) → Facts run c stays → e ≡ place e.proc i → Names (log_of run e.proc) i x → Com (log_of run e.proc) c x → BeginsWithin stays IsInside (e ∷ rest)

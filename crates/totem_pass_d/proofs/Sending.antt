@@ -1,43 +1,18 @@
 -- What the stays send and deliver, noted entry by entry and stay by stay.
-use Rattle.std.proofs.Common.{◌≡◌, ℕ, ◌+◌, ◌<◌, inl, inr, List, length, slice_get, Some, None, true, refl, sym, ◌∙◌, ap, below_more, Option}
+use Rattle.std.proofs.Common.{arith}
+use Rattle.totem_pass_d.proofs.Common.{◌≡◌, ℕ, ◌+◌, ◌<◌, inl, inr, List, length, slice_get, Some, None, true, refl, sym, ◌∙◌, ap, below_more, Option, IfSome, IfNone, slice_get_within, RingId, ConfId, Regular, MsgId, Service, Entry, Send, Deliver, Log, Sends, log_of, Delivers, MeetsPasses, before_or_at, equal_at, apart_or_at, exact_message, IsStay, HasStay, AreStays, IsSendingOf, DeliversNot, IsSendOf, HasSendsTo, NotesSends, IsSendOfOne, HasSends, AreSends, DeliversIn, delivered_at, IsDelivery, IsNoDelivery, IsTold, Tells}
 use Rattle.std.specs.BTreeMap.{BTreeMap}
 use Rattle.std.specs.BTreeMap as tree
-use Rattle.std.proofs.lemmas.Option.{slice_get_within}
-use Rattle.totem_names.specs.declared.ring.RingId.{RingId}
-use Rattle.totem_names.specs.declared.conf.ConfId.{ConfId}
-use Rattle.totem_names.specs.declared.conf.ConfId.TheVariants.{Regular}
-use Rattle.totem_names.specs.declared.message.MsgId.{MsgId}
-use Rattle.totem_names.specs.declared.message.Service.{Service}
 use Rattle.totem_names.specs.contracts.message.MsgIdOrd.TheImpl as message
-use Rattle.totem_evs.specs.declared.entry.Entry.{Entry}
-use Rattle.totem_evs.specs.declared.entry.Entry.TheVariants.{Send, Deliver}
-use Rattle.totem_evs.specs.declared.log.Log.{Log}
-use Rattle.totem_evs.specs.Events.{Sends, log_of, Delivers}
-use Rattle.totem_evs.specs.Answers.{MeetsPasses}
-use Rattle.totem_judge_traffic.proofs.Rowing.{before_or_at}
-use Rattle.totem_names.proofs.Exact.{equal_at, apart_or_at, exact_message}
-use Rattle.totem_judge_run.specs.Stays.{IsStay}
 use Rattle.totem_pass_d.specs.declared.stays.Stay.{Stay}
 use Rattle.totem_pass_d.specs.declared.stays.Sending.{Sending}
-use Rattle.totem_pass_d.specs.Stays.{HasStay, AreStays}
-use Rattle.totem_pass_d.specs.Acts.{IsSendingOf, DeliversNot}
-use Rattle.totem_pass_d.specs.Sends.{IsSendOf, HasSendsTo, NotesSends, IsSendOfOne, HasSends, AreSends}
 use Rattle.totem_pass_d.proofs.Facts.{stay_of, sends_of, StayFacts}
-use Rattle.std.specs.Prelude.{IfSome, IfNone}
-use Rattle.totem_evs.specs.Following.{DeliversIn}
-use Rattle.totem_pass_d.specs.Indexes.{delivered_at, IsDelivery, IsNoDelivery, IsTold, Tells}
 
 -- ---- entry by entry
 
 -- the entry at n is no send
 pub notes_nothing : (stay : Stay) (n : ℕ) (old now : BTreeMap MsgId Sending) (e : Entry) → slice_get stay.log.now n ≡ Some e → ((m : MsgId) (x : ConfId) (v : Service) → e ≡ Send m x v → ⊥) → NotesSends stay n old now → NotesSends stay (n + 1) old now
-notes_nothing stay n old now e at_n other before = record {
-  only = before.only;
-  kept = before.kept;
-  whole = record {
-    each = below_more _ _ before.whole.each (λ m x v after at none. other m x v cc);
-  };
-}
+notes_nothing stay n old now e at_n other before = grind arith
 
 -- the send at n is noted
 pub notes_one : (stay : Stay) (n : ℕ) (old now new : BTreeMap MsgId Sending) (e : Entry) (m : MsgId) (x : ConfId) (v : Service) (sending : Sending) → slice_get stay.log.now n ≡ Some e → e ≡ Send m x v → stay.from < n → n < stay.turn
@@ -115,11 +90,7 @@ are_sends run c stays sends meets are has = record {
 
 -- the message that is delivered at an index
 delivers : (log : List Entry) (i : ℕ) (m : MsgId) → delivered_at log i ≡ Some m → (x : ConfId) × Delivers log i m x
-delivers log i m does = go (slice_get log i) refl
-  where
-    go : (o : Option Entry) → slice_get log i ≡ o → (x : ConfId) × Delivers log i m x
-    go (Some (Deliver n x)) at = (x, (let h : Some n ≡ Some m = rw at at does in let same : n ≡ m = cc in rw same at at))
-    go other at = absurd (let h = rw at at does in cc)
+delivers log i m does = grind arith
 
 -- what is found in a stay is delivered in its configurations
 pub delivery_is : (run : List Log) (c : RingId) (stay : Stay) (m : MsgId) (found : Option ℕ) → StayFacts run c stay → IfSome found (IsDelivery stay.log.now stay.from stay.end m) → IfSome found (DeliversIn (log_of run stay.proc) c m)
@@ -139,12 +110,7 @@ no_delivery run c stay m None facts is = record {
 -- ---- what the indices say
 
 told_more : (kept : MsgId → Option ℕ) (log : List Entry) (from end n : ℕ) → ((m : MsgId) → IsDelivery log from end m n → IsTold kept log from end m) → Tells kept log from end n → Tells kept log from end (n + 1)
-told_more kept log from end n here before = record {
-  each = λ i m lt h. elim (before_or_at i n lt) [
-    | inl under ↦ before.each i m under h
-    | inr same ↦ here m (rw same at h)
-  ];
-}
+told_more kept log from end n here before = grind (arith, before_or_at)
 
 -- nothing is delivered at this index
 pub nothing_told : (kept : MsgId → Option ℕ) (log : List Entry) (from end n : ℕ) → delivered_at log n ≡ None → Tells kept log from end n → Tells kept log from end (n + 1)

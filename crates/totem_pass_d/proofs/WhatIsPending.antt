@@ -1,80 +1,24 @@
 -- What is pending: message by message, stay by stay and ring by ring.
-use Rattle.std.proofs.Common.{◌≡◌, ◌⊎◌, ◌↔◌, ℕ, ◌+◌, ◌<◌, inl, inr, List, [], ◌∷◌, ◌++◌, slice_get, Some, subst, arith, ◌≤◌, length, Option, None, Bool, true, false, not, IsTrue, refl, sym, ◌∙◌, ap}
-use Rattle.std.specs.Prelude.{Contains}
-use Rattle.std.proofs.lemmas.List.Elements.{Contains-push, Contains-append_left, Contains-push_cases}
+use Rattle.totem_pass_d.proofs.Common.{◌≡◌, ◌↔◌, ℕ, ◌+◌, inl, inr, List, [], ◌∷◌, ◌++◌, Some, arith, ◌≤◌, length, Option, None, Bool, false, not, IsTrue, refl, sym, Contains, IsPendingIn, IsPendingFor, OnTrue, OnFalse, IsSome, slice_get_within, slice_get_read, get_or_from_slice_get, RingId, Regular, MsgId, exact_message, Entry, Log, log_of, ChangesTo, HasDelivered, StaysIn, OpenIn, AreRings, GoesOn, IsExcused, IsStayOf, HasStay, AreStays}
 use Rattle.totem_evs.specs.declared.pending.Pending.{Pending}
-use Rattle.totem_judge_traffic.proofs.Rowing.{before_or_at}
-use Rattle.totem_pass_d.specs.Pendings.{Adds, IsPendingIn, IsPendingFor}
-use Rattle.std.specs.Bool.{OnTrue, OnFalse}
-use Rattle.std.specs.Option.{IsSome}
 use Rattle.std.specs.BTreeMap as tree
-use Rattle.std.proofs.lemmas.Option.{slice_get_within, slice_get_read, get_or_from_slice_get}
 use Rattle.std.proofs.lemmas.Map.Views.{btree_map_contains_key_iff}
-use Rattle.totem_names.specs.declared.ring.RingId.{RingId}
-use Rattle.totem_names.specs.declared.conf.ConfId.TheVariants.{Regular}
-use Rattle.totem_names.specs.declared.message.MsgId.{MsgId}
 use Rattle.totem_names.specs.contracts.message.MsgIdOrd.TheImpl as message
 use Rattle.totem_names.specs.contracts.message.MsgIdOrd.TheImpl.Laws.{total-law}
-use Rattle.totem_names.proofs.Exact.{exact_message}
-use Rattle.totem_evs.specs.declared.entry.Entry.{Entry}
-use Rattle.totem_evs.specs.declared.log.Log.{Log}
-use Rattle.totem_evs.specs.Events.{log_of, ChangesTo}
-use Rattle.totem_evs.specs.Following.{HasDelivered, StaysIn, OpenIn, FailedIn}
 use Rattle.totem_evs.specs.Unsettled.{IsPending}
-use Rattle.totem_evs.specs.Answers.{AreRings}
 use Rattle.totem_judge_run.specs.Endings.{HoldsPending, HasFailed}
-use Rattle.totem_judge_run.specs.Ends.{GoesOn}
 use Rattle.totem_pass_d.specs.declared.stays.Stay.{Stay}
 use Rattle.totem_pass_d.specs.declared.stays.Sending.{Sending}
 use Rattle.totem_pass_d.specs.declared.stays.Stays.{Stays}
-use Rattle.totem_pass_d.specs.Stays.{IsExcused, IsStayOf, HasStay, AreStays}
 use Rattle.totem_pass_d.specs.KnownStays.{AreKnown}
 use Rattle.totem_pass_d.proofs.EventFaults.{excused, not_excused}
-
--- the property holds at one of the first n elements
-pub record AtSome {X : Type 0} (P : X → Pending → Type 0) (xs : List X) (n : ℕ) (x : Pending) : Type 0 where
-  pub at : ℕ
-  pub item : X
-  pub below : at < n
-  pub stands : slice_get xs at ≡ Some item
-  pub holds : P item x
-
-pub adds_alike : (P Q : Pending → Type 0) (s t : List Pending) → ((x : Pending) → P x → Q x) → ((x : Pending) → Q x → P x) → Adds P s t → Adds Q s t
-adds_alike P Q s t to from h = record {
-  each = λ x. (λ has. elim ((h.each x).0 has) [ inl old ↦ inl old | inr new ↦ inr (to x new) ], λ k. (h.each x).1 (elim k [ inl old ↦ inl old | inr new ↦ inr (from x new) ]));
-}
-
-pub some_more : {X : Type 0} (P : X → Pending → Type 0) (xs : List X) (n : ℕ) (item : X) (s t u : List Pending) → slice_get xs n ≡ Some item → Adds (P item) t u → Adds (AtSome P xs n) s t → Adds (AtSome P xs (n + 1)) s u
-some_more P xs n item s t u at second first = record { each = λ x. (λ has. to x has, λ given. from x given) }
-  where
-    to : (x : Pending) → Contains u x → Contains s x ⊎ AtSome P xs (n + 1) x
-    to x has = elim ((second.each x).0 has) [
-      | inl old ↦ elim ((first.each x).0 old) [
-        | inl oldest ↦ inl oldest
-        | inr b ↦ inr (record { at = b.at; item = b.item; below = (let lt = b.below in omega arith); stands = b.stands; holds = b.holds })
-      ]
-      | inr new ↦ inr (record { at = n; item = item; below = omega arith; stands = at; holds = new })
-    ]
-
-    here : (x : Pending) (b : AtSome P xs (n + 1) x) → b.at ≡ n → P item x
-    here x b same = (let there : slice_get xs n ≡ Some b.item = rw same at b.stands in let one : b.item ≡ item = cc in rw one at b.holds)
-
-    from : (x : Pending) → Contains s x ⊎ AtSome P xs (n + 1) x → Contains u x
-    from x (inl old) = (second.each x).1 (inl ((first.each x).1 (inl old)))
-    from x (inr b) = elim (before_or_at b.at n b.below) [
-      | inl under ↦ (second.each x).1 (inl ((first.each x).1 (inr (record { at = b.at; item = b.item; below = under; stands = b.stands; holds = b.holds }))))
-      | inr same ↦ (second.each x).1 (inr (here x b same))
-    ]
+use Rattle.totem_search.specs.Adding.{Adds}
+use Rattle.totem_search.proofs.Adding.{AtSome, adds_alike, one_added}
 
 -- ---- whether a process is open
 
 pub excused_open : (run : List Log) (c : RingId) (stay : Stay) (b : Bool) → IsStayOf run c stay → IsExcused stay → OnTrue b (HasFailed stay.log.now) → OnFalse b (GoesOn stay.log.now) → IsTrue (not b) ↔ OpenIn run stay.proc c
-excused_open run c stay true is e failed on = (λ t. absurd cc, λ (loud, (d, never, last, inside)). absurd (never failed.index failed.conf (rw is.log at failed.fails)))
-excused_open run c stay false is e failed on = (λ t. open_one (excused run c stay is e), λ h. refl)
-  where
-    open_one : FailedIn (log_of run stay.proc) c ⊎ OpenIn run stay.proc c → OpenIn run stay.proc c
-    open_one (inr h) = h
-    open_one (inl (i, d, fails, inside)) = absurd (on.never i d (rw is.log fails))
+excused_open run c stay b h k m o = grind (arith, excused)
 
 pub not_excused_open : (run : List Log) (c : RingId) (stay : Stay) (b : Bool) → IsStayOf run c stay → b ≡ false → IsTrue b ↔ IsExcused stay → IsTrue b ↔ OpenIn run stay.proc c
 not_excused_open run c stay b is is_false decides = (λ t. absurd cc, λ h. absurd (not_excused run c stay is (λ e. let t = decides.1 e in cc) (inr h)))
@@ -91,20 +35,7 @@ pub not_missed : (run : List Log) (c : RingId) (p : ℕ) (m : MsgId) (list : Lis
 not_missed run c p m list has = record { each = λ x. (λ here. inl here, λ h. elim h [ inl here ↦ here | inr missed ↦ absurd (missed.missing has) ]) }
 
 pub one_missed : (run : List Log) (c : RingId) (p : ℕ) (m : MsgId) (list : List Pending) (k : Pending) → IsMissed run c p m k → Adds (IsMissed run c p m) list (list ++ k ∷ [])
-one_missed run c p m list k missed = record {
-  each = λ x. (
-    λ has. elim (Contains-push_cases list k x has) [ inl old ↦ inl old | inr same ↦ inr (subst (IsMissed run c p m) same missed) ],
-    λ h. elim h [
-      | inl old ↦ Contains-append_left list (k ∷ []) x old
-      | inr other ↦ subst (λ (y : Pending). Contains (list ++ k ∷ []) y) (same_pending x other) (Contains-push list k)
-    ],
-  );
-}
-  where
-    same_pending : (x : Pending) → IsMissed run c p m x → k ≡ x
-    same_pending x other =
-        let of : ℕ → MsgId → Pending = λ q n. record { proc = q; msg = n } in
-        ap (λ (q : ℕ). of q k.msg) (missed.proc ∙ sym other.proc) ∙ ap (λ (n : MsgId). of x.proc n) (missed.msg ∙ sym other.msg)
+one_missed run c p m list k missed = grind (arith, one_added)
 
 -- of the messages sent in c, those that an open process misses are pending, and the converse
 pub all_missing : (stays : Stays) (p n : ℕ) (old now : List Pending) → AreKnown stays → OpenIn stays.run.now.logs p stays.ring → length (tree.keys stays.sends) ≤ n

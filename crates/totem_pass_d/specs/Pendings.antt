@@ -1,15 +1,11 @@
 -- What is pending, gathered configuration by configuration (docs/SPECIFICATIONS.md, "Pending and waiting").
-use Rattle.std.specs.Prelude.{◌≡◌, ◌↔◌, ◌⊎◌, ℕ, List, Contains}
+use Rattle.std.specs.Prelude.{◌≡◌, ℕ, List}
 use Rattle.totem_names.specs.declared.ring.RingId.{RingId}
 use Rattle.totem_names.specs.declared.conf.ConfId.TheVariants.{Regular}
 use Rattle.totem_evs.specs.declared.log.Log.{Log}
 use Rattle.totem_evs.specs.declared.pending.Pending.{Pending}
 use Rattle.totem_evs.specs.Events.{WasSentIn, log_of}
 use Rattle.totem_evs.specs.Following.{HasDelivered, OpenIn}
-
--- the new list has what the old one had and everything for which P holds
-pub record Adds (P : Pending → Type 0) (old new : List Pending) : Type 0 where
-  pub each : (x : Pending) → Contains new x ↔ (Contains old x ⊎ P x)
 
 -- x is pending in c
 pub record IsPendingIn (run : List Log) (c : RingId) (x : Pending) : Type 0 where

@@ -1,5 +1,4 @@
--- 4, 5 and 6.3, in the form in which they are searched (docs/SPECIFICATIONS.md, "4 Failure atomicity", "5 Causal delivery",
--- "6 Total order", "Passes").
+-- 4 and 6.3, in the form in which they are searched (docs/SPECIFICATIONS.md, "4 Failure atomicity", "6 Total order", "Passes").
 use Rattle.std.specs.Prelude.{◌≡◌, ℕ, List, ◌<◌, ◌≤◌, [], ◌∷◌, ◌↔◌, ◌⊎◌, Bool, IsTrue, length, slice_get, Some}
 use Rattle.totem_names.specs.declared.ring.RingId.{RingId}
 use Rattle.totem_names.specs.declared.conf.ConfId.{ConfId}
@@ -9,13 +8,11 @@ use Rattle.totem_evs.specs.declared.entry.Entry.{Entry}
 use Rattle.totem_evs.specs.declared.log.Log.{Log}
 use Rattle.totem_evs.specs.Events.{IsChange, Sends, Delivers, log_of, IsMember}
 use Rattle.totem_evs.specs.Following.{Com, DeliversIn, HasDelivered}
-use Rattle.totem_evs.specs.AgreementFaults.{GoesAt, IsNotDeliveredFirst}
+use Rattle.totem_evs.specs.AgreementFaults.{GoesAt}
 use Rattle.totem_search.specs.Search.{IsOneEvent}
 use Rattle.totem_pass_d.specs.declared.stays.Stay.{Stay}
 use Rattle.totem_pass_d.specs.declared.gap_6_3.Last.{Last}
 use Rattle.totem_names.specs.declared.place.Place.{Place}
-use Rattle.totem_evs.specs.Steps.{SendsAt}
-use Rattle.totem_evs.specs.RingAgreement.{IsHop}
 use Rattle.totem_evs.specs.Changes.{Names}
 use Rattle.totem_evs.specs.Places.{At}
 use Rattle.totem_pass_d.specs.Acts.{IsAmong}
@@ -42,13 +39,6 @@ pub record NeverDelivers (log : List Entry) (c : RingId) (m : MsgId) (x : ConfId
 -- the change at k, from x to d, is by a process that does not deliver m in x
 abbrev pub IsPartner : List Log → RingId → MsgId → ConfId → ConfId → ℕ → ℕ → Type 0
 IsPartner run c m x d q k = Com (log_of run q) c x × GoesAt (log_of run q) x d k × ((l : ℕ) → Delivers (log_of run q) l m x → ⊥)
-
--- ---- 5: a send of a cause, a later send of its effect, and a delivery of the effect without the cause before it
-
--- the send of an effect of what e sends, and such an entry
-abbrev pub IsEffect : List Log → RingId → MsgId → Place → List Place → Type 0
-IsEffect run c cause e [] = ⊥
-IsEffect run c cause e (f ∷ rest) = (effect : MsgId) × SendsAt run f effect (Regular c) × IsHop run c cause e f × IsOneEvent (IsNotDeliveredFirst run c cause effect) rest
 
 -- ---- 6.3: a delivery, a later one of the same log, and a delivery of the later message by a process that lacks the earlier one
 

@@ -11,7 +11,7 @@ ghost use Rattle.totem_evs.specs.Answers.{FindsIn};
 ghost use Rattle.totem_pass_d.specs.KnownStays.{AreKnown};
 ghost use Rattle.totem_pass_d.specs.Acts.{IsAmong};
 ghost use Rattle.totem_pass_d.specs.Search.{IsInside};
-ghost use Rattle.totem_pass_d.specs.Searched.{IsEffect};
+ghost use Rattle.totem_search.specs.Causes.{IsEffect};
 ghost use Rattle.totem_pass_d.specs.Suspects.{AreSuspects};
 
 use crate::search::{EachIndex, Finder, Relation, first_found, least_found, only};

@@ -1,5 +1,5 @@
 //! Pass D of the audit (docs/SPECIFICATIONS.md, "Passes").
-ghost use Rattle.std.specs.Prelude.{◌≡◌, ◌++◌, IfOk};
+ghost use Rattle.std.specs.Prelude.{IfOk};
 ghost use Rattle.totem_evs.specs.Answers.{ListsConfigurations};
 ghost use Rattle.totem_pass_d.specs.Jobs.{AreJobs};
 
@@ -7,7 +7,7 @@ use crate::findings::Findings;
 use crate::jobs::Jobs;
 use std::alloc::{AllocError, Global};
 use totem_evs::{Fault, SpecNo};
-use totem_search::with_found;
+use totem_search::{joined, with_found};
 
 /// The faults of each specification: one for each configuration in which it is broken, in the order of the configurations.
 #[derive(Drop)]
@@ -18,14 +18,6 @@ pub struct Found {
     pub gap: Vec<Fault>,
     pub safety: Vec<Fault>,
     pub installed: Vec<Fault>,
-}
-
-/// Returns the first list with the second appended.
-fn joined(mut faults: Vec<Fault>, mut others: Vec<Fault>) -> Result<Vec<Fault>, AllocError>
-    ensures { IfOk result (λ list. list.items ≡ faults.items ++ others.items) }
-{
-    faults.append(&mut others)?;
-    Ok(faults)
 }
 
 impl Found {

@@ -6,7 +6,8 @@ ghost use Rattle.totem_evs.specs.Unsettled.{ArePending};
 ghost use Rattle.totem_pass_d.specs.Acts.{IsAmong};
 ghost use Rattle.totem_pass_d.specs.Jobs.{AreJobs};
 ghost use Rattle.totem_pass_d.specs.KnownStays.{AreKnown};
-ghost use Rattle.totem_pass_d.specs.Pendings.{Adds, IsPendingIn, IsPendingFor};
+ghost use Rattle.totem_search.specs.Adding.{Adds};
+ghost use Rattle.totem_pass_d.specs.Pendings.{IsPendingIn, IsPendingFor};
 
 use crate::jobs::Jobs;
 use crate::stays::{Stay, Stays};

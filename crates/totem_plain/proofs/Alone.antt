@@ -1,31 +1,15 @@
 -- The specifications that one event breaks by itself: what breaks them is an event of the run, and where none does, the run meets them.
-use Rattle.std.proofs.Common.{◌≡◌, ℕ, inl, inr, List, slice_get, Some, Bool, IsTrue, ◌↔◌, refl}
-use Rattle.std.proofs.lemmas.Option.{slice_get_within}
-use Rattle.totem_names.specs.declared.ring.RingId.{RingId}
-use Rattle.totem_names.specs.declared.conf.ConfId.TheVariants.{Regular}
-use Rattle.totem_evs.specs.declared.entry.Entry.{Entry}
-use Rattle.totem_evs.specs.declared.entry.Entry.TheVariants.{Conf, Send, Deliver}
-use Rattle.totem_evs.specs.declared.log.Log.{Log}
-use Rattle.totem_evs.specs.Events.{log_of}
-use Rattle.totem_evs.specs.Changes.{EndsTogether, StaysInPlace}
+use Rattle.std.proofs.Common.{arith}
+use Rattle.totem_plain.proofs.Common.{◌≡◌, ℕ, inl, inr, List, slice_get, Some, Bool, IsTrue, ◌↔◌, refl, slice_get_within, RingId, Regular, Entry, Conf, Send, Deliver, Log, log_of, EndsTogether, StaysInPlace, IsNotOwned, IsNotReached, IsNotInstalled, OwnDeliveryIn, SafetyIn, InstalledIn, IsOneEvent, HoldsOfNone, AreEvents, first_change_or_not, nowhere, told_at}
 use Rattle.totem_evs.specs.ChangeFaults.{EndsAlone, IsMisplaced}
-use Rattle.totem_evs.specs.AgreementFaults.{IsNotOwned, IsNotReached, IsNotInstalled}
-use Rattle.totem_evs.specs.Agreement.{OwnDeliveryIn, SafetyIn, InstalledIn}
 use Rattle.totem_evs.proofs.Originating.{change_or_not}
 use Rattle.totem_plain.specs.Bad.{IsLoneEnd, IsUnowned, IsUnreached, IsUninstalled}
-use Rattle.totem_search.specs.Search.{IsOneEvent, HoldsOfNone, AreEvents}
-use Rattle.totem_judge_run.proofs.SentOrNot.{first_change_or_not}
-use Rattle.totem_search.proofs.Searching.{nowhere, told_at}
 use Rattle.totem_plain.proofs.Deciding.{shares_end_or_not, stands_or_not, delivers_or_ends_or_not}
 
 -- ---- 2.1
 
 pub end_told : (run : List Log) (p i : ℕ) (x : Entry) (b : Bool) → slice_get (log_of run p) i ≡ Some x → IsTrue b ↔ IsLoneEnd run p (log_of run p) i x → IsTrue b ↔ EndsAlone run p i
-end_told run p i x b at = told_at (log_of run p) i x (IsLoneEnd run p (log_of run p) i) (EndsAlone run p i) b at (to x at) (λ (x, ms, q, quiet, last, member, strays). (Conf x ms, last.change, (quiet, record { none = last.none_after }, (q, member, strays))))
-  where
-    to : (x : Entry) → slice_get (log_of run p) i ≡ Some x → IsLoneEnd run p (log_of run p) i x → EndsAlone run p i
-    to (Conf x ms) at (quiet, last, (q, member, strays)) = (x, ms, q, quiet, record { change = at; none_after = last.none }, member, strays)
-    to x at h = absurd h
+end_told run p i x b at = grind (arith, told_at)
 
 pub end_events : (run : List Log) → AreEvents run (EndsAlone run)
 end_events run = record { each = λ p i (x, ms, q, quiet, last, member, strays). slice_get_within (log_of run p) i (Conf x ms) last.change }
@@ -57,11 +41,7 @@ all_placed run none p = record {
 -- ---- 3
 
 pub owned_told : (run : List Log) (c : RingId) (p i : ℕ) (x : Entry) (b : Bool) → slice_get (log_of run p) i ≡ Some x → IsTrue b ↔ IsUnowned run c p x → IsTrue b ↔ IsNotOwned run c p i
-owned_told run c p i x b at = told_at (log_of run p) i x (IsUnowned run c p) (IsNotOwned run c p i) b at (to x at) (λ (m, (s, at), never). (Send m (Regular c) s, at, (refl, never)))
-  where
-    to : (x : Entry) → slice_get (log_of run p) i ≡ Some x → IsUnowned run c p x → IsNotOwned run c p i
-    to (Send m (Regular d) s) at (same, never) = (m, (s, rw same at at), never)
-    to x at h = absurd h
+owned_told run c p i x b at = grind (arith, told_at)
 
 pub owned_events : (run : List Log) (c : RingId) → AreEvents run (IsNotOwned run c)
 owned_events run c = record { each = λ p i (m, (s, at), h). slice_get_within (log_of run p) i (Send m (Regular c) s) at }
@@ -74,11 +54,7 @@ all_owned run c none = record {
 -- ---- 7.1
 
 pub reached_told : (run : List Log) (c : RingId) (p i : ℕ) (x : Entry) (b : Bool) → slice_get (log_of run p) i ≡ Some x → IsTrue b ↔ IsUnreached run c (log_of run p) x → IsTrue b ↔ IsNotReached run c p i
-reached_told run c p i x b at = told_at (log_of run p) i x (IsUnreached run c (log_of run p)) (IsNotReached run c p i) b at (to x at) (λ (m, d, q, safe, at, inside, member, never). (Deliver m d, at, (inside, record { safe = safe; missed = (q, member, never) })))
-  where
-    to : (x : Entry) → slice_get (log_of run p) i ≡ Some x → IsUnreached run c (log_of run p) x → IsNotReached run c p i
-    to (Deliver m d) at (inside, h) = let (q, member, never) = h.missed in (m, d, q, h.safe, at, inside, member, never)
-    to x at h = absurd h
+reached_told run c p i x b at = grind (arith, told_at)
 
 pub reached_events : (run : List Log) (c : RingId) → AreEvents run (IsNotReached run c)
 reached_events run c = record { each = λ p i (m, d, q, safe, at, inside, member, never). slice_get_within (log_of run p) i (Deliver m d) at }

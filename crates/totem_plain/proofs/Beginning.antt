@@ -1,12 +1,5 @@
 -- Where lists of events begin.
-use Rattle.std.proofs.Common.{◌≡◌, ℕ, ◌+◌, List, [], ◌∷◌, slice_get, Some, arith}
-use Rattle.std.proofs.lemmas.Option.{slice_get_within}
-use Rattle.totem_names.specs.declared.place.Place.{Place}
-use Rattle.totem_evs.specs.declared.entry.Entry.{Entry}
-use Rattle.totem_evs.specs.declared.log.Log.{Log}
-use Rattle.totem_evs.specs.Events.{log_of}
-use Rattle.totem_search.specs.Search.{Begins, EachBegins}
-use Rattle.totem_search.proofs.Searching.{begins_at}
+use Rattle.totem_plain.proofs.Common.{◌≡◌, ℕ, ◌+◌, List, [], ◌∷◌, slice_get, Some, arith, slice_get_within, Place, Entry, Log, log_of, Begins, EachBegins, begins_at}
 
 -- a place of a log is at one index
 pub index_is : (i j : ℕ) → i + 1 ≡ j + 1 → j ≡ i

@@ -1,29 +1,14 @@
 -- What the definitions say of logs holds, or it does not.
-use Rattle.std.proofs.Common.{below_more, ◌≡◌, ℕ, zero, suc, ◌<◌, ◌⊎◌, inl, inr, List, length, slice_get, Option, Some, None, refl, ◌∙◌, ap, arith}
+use Rattle.totem_plain.proofs.Common.{below_more, ◌≡◌, ℕ, zero, suc, ◌<◌, ◌⊎◌, inl, inr, List, length, slice_get, Option, Some, None, refl, ◌∙◌, ap, arith, slice_get_within, get_or_from_slice_get, slice_get-get_or, RingId, ConfId, MsgId, Entry, Conf, Fail, Log, log_of, ending_of, ChangesTo, IsChange, Fails, IsQuiet, SharesEnd, StandsIn, IsFirstChange, Com, NeverFails, FailedIn, LastChange, StaysIn, DeliversOrEnds, HasLog, less_or_not, same_conf_or_not, first_change_or_not, in_or_not, NoneBelow}
 use Rattle.std.proofs.lemmas.Bool.{cases_eq}
-use Rattle.std.proofs.lemmas.Option.{slice_get_within, get_or_from_slice_get, slice_get-get_or}
-use Rattle.totem_names.specs.declared.ring.RingId.{RingId}
-use Rattle.totem_names.specs.declared.conf.ConfId.{ConfId}
-use Rattle.totem_names.specs.declared.message.MsgId.{MsgId}
-use Rattle.totem_evs.specs.declared.entry.Entry.{Entry}
-use Rattle.totem_evs.specs.declared.entry.Entry.TheVariants.{Conf, Deliver, Fail}
-use Rattle.totem_evs.specs.declared.log.Log.{Log}
 use Rattle.totem_evs.specs.declared.ending.Ending.{Ending}
-use Rattle.totem_evs.specs.declared.ending.Ending.TheVariants.{Standing, Failed, Quiet}
-use Rattle.totem_evs.specs.Events.{log_of, ending_of, ChangesTo, IsChange, Delivers, Fails, IsQuiet}
-use Rattle.totem_evs.specs.Changes.{SharesEnd, StandsIn}
-use Rattle.totem_evs.specs.Following.{IsFirstChange, Com, HasDelivered, NeverFails, FailedIn, LastChange, StaysIn, DeliversOrEnds}
-use Rattle.totem_evs.specs.Missing.{HasLog}
-use Rattle.totem_evs.proofs.LogOf.{less_or_not}
+use Rattle.totem_evs.specs.declared.ending.Ending.TheVariants.{Quiet}
 use Rattle.totem_evs.proofs.Originating.{last_before}
 use Rattle.totem_judge_run.proofs.Decisions.{both_or_not, same_or_not}
-use Rattle.totem_judge_run.proofs.SentOrNot.{same_conf_or_not, same_message_or_not, first_change_or_not, in_or_not}
-use Rattle.totem_search.proofs.Loops.{NoneBelow}
+use Rattle.totem_search.proofs.Deciding.{has_delivered_or_not}
 
 pub either_or_not : {P Q : Type 0} → P ⊎ (P → ⊥) → Q ⊎ (Q → ⊥) → (P ⊎ Q) ⊎ (P ⊎ Q → ⊥)
-either_or_not (inl p) other = inl (inl p)
-either_or_not (inr never) (inl q) = inl (inr q)
-either_or_not (inr never) (inr nor) = inr (λ h. elim h [ inl p ↦ never p | inr q ↦ nor q ])
+either_or_not h k = grind arith
 
 pub not_or_not : {P : Type 0} → P ⊎ (P → ⊥) → (P → ⊥) ⊎ ((P → ⊥) → ⊥)
 not_or_not (inl p) = inr (λ never. never p)
@@ -93,32 +78,6 @@ standing_last log x stands = record { index = stands.from; change = stands.chang
 
 -- ---- what a log has, or has not
 
-IsDelivery : (ℕ → ConfId → Type 0) → MsgId → ℕ → Entry → Type 0
-IsDelivery P m i (Deliver n x) = (n ≡ m) × P i x
-IsDelivery P m i _ = ⊥
-
--- a delivery of m for whose index and configuration P holds
-pub delivery_or_not : (P : ℕ → ConfId → Type 0) (log : List Entry) (m : MsgId) → ((i : ℕ) (x : ConfId) → P i x ⊎ (P i x → ⊥)) → ((i : ℕ) × (x : ConfId) × Delivers log i m x × P i x) ⊎ ((i : ℕ) (x : ConfId) → Delivers log i m x → P i x → ⊥)
-unfolding IsDelivery
-delivery_or_not P log m decide = elim (some_or_not (IsDelivery P m) log test) [
-  | inl (i, e, at, h) ↦ inl (delivery_of i e at h)
-  | inr none ↦ inr (λ i x at holds. none i (Deliver m x) at (refl, holds))
-]
-  where
-    test : (i : ℕ) (e : Entry) → IsDelivery P m i e ⊎ (IsDelivery P m i e → ⊥)
-    test i (Deliver n x) = both_or_not (same_message_or_not n m) (decide i x)
-    test i other = inr (λ h. h)
-
-    delivery_of : (i : ℕ) (e : Entry) → slice_get log i ≡ Some e → IsDelivery P m i e → (j : ℕ) × (x : ConfId) × Delivers log j m x × P j x
-    delivery_of i (Deliver n x) at (same, holds) = (i, x, rw same at at, holds)
-    delivery_of i other at h = absurd h
-
-pub has_delivered_or_not : (log : List Entry) (c : RingId) (m : MsgId) → HasDelivered log c m ⊎ (HasDelivered log c m → ⊥)
-has_delivered_or_not log c m = elim (delivery_or_not (λ i x. Com log c x) log m (λ i x. in_or_not log c x)) [
-  | inl (i, x, at, inside) ↦ inl (i, (x, at, inside))
-  | inr never ↦ inr (λ (i, (x, at, inside)). never i x at inside)
-]
-
 IsFailIn : (ConfId → Type 0) → ℕ → Entry → Type 0
 IsFailIn P i (Fail x) = P x
 IsFailIn P i _ = ⊥
@@ -158,9 +117,7 @@ stays_or_not log c = elim (standing_or_none log (length log)) [
 ]
 
 quiet_or_not : (e : Ending) → (e ≡ Quiet) ⊎ (e ≡ Quiet → ⊥)
-quiet_or_not Standing = inr (λ e. cc)
-quiet_or_not Failed = inr (λ e. cc)
-quiet_or_not Quiet = inl refl
+quiet_or_not e = grind arith
 
 loud_or_not : (run : List Log) (p : ℕ) → (IsQuiet run p → ⊥) ⊎ ((IsQuiet run p → ⊥) → ⊥)
 loud_or_not run p = not_or_not (quiet_or_not (ending_of run p))

@@ -1,15 +1,6 @@
 -- The last change of a log, and the next one.
-use Rattle.std.proofs.Common.{◌≡◌, ℕ, ◌<◌, inl, inr, List, Option, Some, None, true, false, Bool, not, IsTrue, ◌↔◌, refl, arith}
-use Rattle.std.specs.Prelude.{IfSome, IfNone}
-use Rattle.totem_names.specs.declared.conf.ConfId.{ConfId}
-use Rattle.totem_evs.specs.declared.entry.Entry.{Entry}
-use Rattle.totem_evs.specs.Events.{ChangesTo, IsChange}
-use Rattle.totem_evs.specs.Following.{IsFirstChange, IsNextChange, LastChange}
-use Rattle.totem_evs.proofs.LogOf.{less_or_not}
-use Rattle.totem_evs.proofs.NextChanges.{one_next}
+use Rattle.totem_plain.proofs.Common.{◌≡◌, ℕ, ◌<◌, inl, inr, List, Option, Some, None, true, false, Bool, not, IsTrue, ◌↔◌, refl, arith, IfSome, IfNone, ConfId, Entry, ChangesTo, IsChange, IsFirstChange, IsNextChange, LastChange, less_or_not, one_next, IsSomeBefore, IsLastChangeBefore, no_is}
 use Rattle.totem_search.specs.Following.{NoNextChange, NeverChangesTo}
-use Rattle.totem_plain.specs.Plain.{IsSomeBefore, IsLastChangeBefore}
-use Rattle.totem_search.proofs.Loops.{no_is}
 
 pub one_change : (log : List Entry) (x : ConfId) (i : ℕ) → IsFirstChange log x i → IsTrue false ↔ NeverChangesTo log x
 one_change log x i first = no_is (λ none. none.never i first.change)

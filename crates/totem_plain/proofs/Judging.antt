@@ -1,20 +1,13 @@
 -- From what the passes find to the checker's result.
-use Rattle.std.proofs.Common.{◌≡◌, ◌≢◌, inl, inr, List, [], ◌∷◌, length, true, Result, Ok, Err, Vec, Global, vec_len, refl, sym, ◌∙◌, arith}
-use Rattle.std.specs.Prelude.{◌==◌}
+use Rattle.totem_plain.proofs.Common.{◌≡◌, ◌≢◌, inl, inr, List, [], ◌∷◌, length, true, Result, Ok, Err, Vec, Global, vec_len, refl, sym, ◌∙◌, arith, ◌==◌, Decides-eqb, Log, No, IsAnswered, Numbering, Certified, Answers, passed_on}
 use Rattle.std.specs.Result.{IsErrAnd}
-use Rattle.std.proofs.lemmas.Bool.Decides.{Decides-eqb}
-use Rattle.totem_evs.specs.declared.log.Log.{Log}
 use Rattle.totem_evs.specs.declared.fault.Fault.{Fault}
-use Rattle.totem_evs.specs.Answers.{No, IsAnswered}
-use Rattle.totem_evs.specs.Certificates.{Numbering, Certified}
 use Rattle.totem_evs.proofs.Synchronous.{meets_passes, meets_configurations, synchronous}
 use Rattle.totem_outcome.specs.declared.accepted.Accepted.{Accepted}
 use Rattle.totem_outcome.specs.declared.certificate_fault.CertificateFault.{CertificateFault}
 use Rattle.totem_outcome.specs.declared.check_fault.CheckFault.{CheckFault}
 use Rattle.totem_outcome.specs.CheckFaults.{check_fault}
-use Rattle.totem_outcome.specs.Certifying.{Answers}
 use Rattle.totem_outcome.specs.Checks.{ListsOpen, Checks}
-use Rattle.totem_outcome.proofs.Checking.{passed_on}
 use Rattle.totem_plain.specs.Found.{ListsFirst}
 
 no_fault : (faults : List Fault) → length faults ≡ 0 → faults ≡ []
@@ -26,9 +19,7 @@ none_listed faults h = no_fault faults.items (sym faults.ok.0 ∙ (Decides-eqb (
 
 -- the faults are the answer
 pub answered : (run : List Log) (lines : List Numbering) (faults : List Fault) → Certified run lines → faults ≢ [] → ListsFirst run faults → IsAnswered run (No faults)
-answered run lines faults c some (inl (more, a)) = (some, inl a)
-answered run lines faults c some (inr (inl (more, a, b))) = (some, inr (inl (a, b)))
-answered run lines faults c some (inr (inr (a, b, d))) = (some, inr (inr (inr (a, b, (lines, c), d))))
+answered run lines faults h k m = grind arith
 
 -- where there are none, the run meets the specifications
 pub accepted : (run : List Log) (lines : List Numbering) (faults : List Fault) (open_lists : Accepted) → Certified run lines → faults ≡ [] → ListsFirst run faults → ListsOpen run open_lists → Checks run lines (Ok open_lists)

@@ -1,21 +1,8 @@
 -- The log of a process: its entries, its ending, and what some log has.
-use Rattle.std.proofs.Common.{◌≡◌, ℕ, zero, suc, ◌<◌, ◌≤◌, inl, inr, List, [], ◌∷◌, length, slice_get, Some, true, false, Bool, IsTrue, ◌↔◌, refl, sym, ◌∙◌, ap, arith, rules}
-use Rattle.std.specs.Prelude.{◌==◌, slice_index_or}
-use Rattle.std.proofs.lemmas.Option.{slice_get_within, get_or_from_slice_get, slice_get-get_or}
-use Rattle.totem_names.specs.declared.conf.ConfId.{ConfId}
-use Rattle.totem_names.specs.declared.message.MsgId.{MsgId}
-use Rattle.totem_names.specs.declared.message.Service.TheVariants.{Safe}
-use Rattle.totem_evs.specs.declared.entry.Entry.{Entry}
-use Rattle.totem_evs.specs.declared.entry.Entry.TheVariants.{Conf, Send}
+use Rattle.totem_plain.proofs.Common.{◌≡◌, ℕ, suc, ◌<◌, ◌≤◌, List, [], ◌∷◌, length, slice_get, Some, true, false, Bool, IsTrue, ◌↔◌, refl, sym, ◌∙◌, ap, arith, rules, ◌==◌, slice_index_or, slice_get_within, get_or_from_slice_get, slice_get-get_or, ConfId, MsgId, Safe, Entry, Conf, Send, Log, log_of, ending_of, IsQuiet, IsSafe, HasLog, Rising, log_of_cases, log_of_at, SomeLog, IsLogOf, HasNoLog, IsEntrySafe, IsEntryMember, SomeMember, NoneBelow, HasLogAt, no_is}
 use Rattle.totem_evs.specs.declared.ending.Ending.{Ending}
 use Rattle.totem_evs.specs.declared.ending.Ending.TheVariants.{Standing, Quiet}
-use Rattle.totem_evs.specs.declared.log.Log.{Log}
-use Rattle.totem_evs.specs.Events.{log_of, ending_of, IsQuiet, IsSafe}
-use Rattle.totem_evs.specs.Missing.{HasLog}
-use Rattle.totem_evs.proofs.LogOf.{Rising, Rising-tail, in_order, log_of_cases, log_of_at}
-use Rattle.totem_search.specs.Entries.{SomeLog}
-use Rattle.totem_plain.specs.Plain.{IsLogOf, HasNoLog, IsEntrySafe, IsEntryMember, SomeMember}
-use Rattle.totem_search.proofs.Loops.{NoneBelow, HasLogAt, no_is}
+use Rattle.totem_judge_run.proofs.LogEnds.{ending_of_at}
 
 pub no_log : (run : List Log) (p n : ℕ) → length run ≤ n → NoneBelow (HasLogAt (λ q es. q ≡ p) run) n → HasNoLog run p
 no_log run p n end before = record { none = λ (k, l, lt, is, same). before.none k (omega arith) (record { log = l; at = there k l lt is; holds = same }) }
@@ -25,10 +12,7 @@ no_log run p n end before = record { none = λ (k, l, lt, is, same). before.none
 
 -- the log of a process without one is empty, and open
 pub no_entries : (run : List Log) (p : ℕ) → HasNoLog run p → log_of run p ≡ []
-no_entries run p lacks = elim (log_of_cases run p) [
-  | inl empty ↦ empty
-  | inr (k, l, at, procs, entries) ↦ absurd (lacks.none (k, l, slice_get_within run k l at, get_or_from_slice_get run k l l at, procs))
-]
+no_entries run p lacks = grind (arith, log_of_cases, slice_get_within, get_or_from_slice_get)
 
 ends_open : (logs : List Log) (p : ℕ) → (HasLog logs p → ⊥) → ending_of logs p ≡ Standing
 ends_open [] p lacks = refl
@@ -43,17 +27,6 @@ no_ending run p lacks = no_is (λ quiet. let e : ending_of run p ≡ Standing = 
 
 pub quiet_told : (e f : Ending) (b : Bool) → f ≡ e → IsTrue b ↔ (e ≡ Quiet) → IsTrue b ↔ (f ≡ Quiet)
 quiet_told e f b same tells = (λ t. same ∙ tells.0 t, λ h. tells.1 (sym same ∙ h))
-
-ending_of_at : (run : List Log) (k : ℕ) (log : Log) → Rising run → slice_get run k ≡ Some log → ending_of run log.proc ≡ log.ending
-ending_of_at [] k log rising at = absurd cc
-ending_of_at (x ∷ xs) zero log rising at =
-    let same : x ≡ log = cc in
-    let test : (x.proc == log.proc) ≡ true = rw same (search rules) in
-    rw test (ap (λ (l : Log). l.ending) same)
-ending_of_at (x ∷ xs) (suc k) log rising at =
-    let lt : x.proc < log.proc = in_order (x ∷ xs) 0 (suc k) x log rising refl at (omega arith) in
-    let test : (x.proc == log.proc) ≡ false = search rules in
-    rw test (ending_of_at xs k log (Rising-tail x xs rising) at)
 
 pub is_log : (run : List Log) (p k : ℕ) (log : Log) → Rising run → slice_get run k ≡ Some log → log.proc ≡ p → IsLogOf run p log
 is_log run p k log rising at same = record {

@@ -1,11 +1,5 @@
 -- What holds for the entries of a run with their numbers, log by log.
-use Rattle.std.proofs.Common.{below_more, ◌≡◌, ℕ, ◌+◌, ◌<◌, ◌≤◌, List, length, slice_get, Some, arith}
-use Rattle.std.proofs.lemmas.Option.{slice_get_within}
-use Rattle.totem_names.specs.declared.place.Place.{Place}
-use Rattle.totem_evs.specs.declared.entry.Entry.{Entry}
-use Rattle.totem_evs.specs.declared.log.Log.{Log}
-use Rattle.totem_evs.specs.Certificates.{Numbering, Matches}
-use Rattle.totem_evs.proofs.LogOf.{Rising}
+use Rattle.totem_plain.proofs.Common.{below_more, ◌≡◌, ℕ, ◌+◌, ◌<◌, ◌≤◌, List, length, slice_get, Some, arith, slice_get_within, Place, Entry, Log, Numbering, Matches, Rising}
 use Rattle.totem_outcome.specs.Numbered.{place}
 use Rattle.totem_outcome.specs.Each.{EachEvent, SomeEvent}
 use Rattle.totem_outcome.proofs.Standing.{stands_at, locate}

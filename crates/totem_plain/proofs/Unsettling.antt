@@ -1,33 +1,18 @@
 -- What is pending and who waits, from what entries give.
-use Rattle.std.proofs.Common.{◌≡◌, ℕ, inl, inr, List, [], ◌∷◌, ◌++◌, slice_get, Some, refl, sym, ◌∙◌, ap}
-use Rattle.std.proofs.lemmas.Option.{slice_get_within, get_or_from_slice_get, slice_get-get_or}
-use Rattle.totem_names.specs.declared.ring.RingId.{RingId}
-use Rattle.totem_names.specs.declared.conf.ConfId.{ConfId}
-use Rattle.totem_names.specs.declared.conf.ConfId.TheVariants.{Regular}
-use Rattle.totem_names.specs.declared.message.MsgId.{MsgId}
+use Rattle.std.proofs.Common.{arith}
+use Rattle.totem_plain.proofs.Common.{◌≡◌, ℕ, List, [], ◌∷◌, ◌++◌, slice_get, Some, refl, sym, ◌∙◌, ap, slice_get_within, get_or_from_slice_get, slice_get-get_or, RingId, ConfId, Regular, MsgId, Entry, Conf, Send, Log, log_of, ChangesTo, Sends, HasLog, IsWaiting, ArePending, AreWaiting, AreRings, log_of_cases, Adds, AreListed, Misses, GivesPending, GivesWaiting, GivesRing, ring_of, sent_in}
 use Rattle.totem_names.specs.contracts.ring.RingIdOrd.TheImpl as ring
-use Rattle.totem_evs.specs.declared.entry.Entry.{Entry}
-use Rattle.totem_evs.specs.declared.entry.Entry.TheVariants.{Conf, Send}
-use Rattle.totem_evs.specs.declared.log.Log.{Log}
 use Rattle.totem_evs.specs.declared.pending.Pending.{Pending}
 use Rattle.totem_evs.specs.declared.pending.Waiting.{Waiting}
 use Rattle.totem_evs.specs.contracts.pending.PendingOrd.TheImpl as pending
 use Rattle.totem_evs.specs.contracts.pending.WaitingOrd.TheImpl as waiting
-use Rattle.totem_evs.specs.Events.{log_of, ChangesTo, Sends}
-use Rattle.totem_evs.specs.Missing.{HasLog}
-use Rattle.totem_evs.specs.Unsettled.{IsWaiting, ArePending, AreWaiting}
-use Rattle.totem_evs.specs.Answers.{AreRings}
-use Rattle.totem_evs.proofs.LogOf.{log_of_cases}
-use Rattle.totem_plain.specs.Gathered.{Adds, AreListed, Misses, GivesPending, GivesWaiting, GivesRing, ring_of, sent_in}
-use Rattle.totem_plain.proofs.Gathering.{one_added}
-use Rattle.totem_plain.proofs.Comparing.{ring_below, pending_below, waiting_below, same_pending}
+use Rattle.totem_search.proofs.Adding.{one_added}
+use Rattle.totem_plain.proofs.Comparing.{pending_below, waiting_below, same_pending}
+use Rattle.totem_judge_run.proofs.PendingOrder.{below_from_less}
 
 -- a process that changes to a configuration has a log
 has_log : (run : List Log) (p i : ℕ) (x : ConfId) → ChangesTo (log_of run p) i x → HasLog run p
-has_log run p i x (ms, change) = elim (log_of_cases run p) [
-  | inl empty ↦ absurd (let none : slice_get {X = Entry} [] i ≡ Some (Conf x ms) = rw empty at change in cc)
-  | inr (k, l, at, same, is) ↦ (k, l, slice_get_within run k l at, get_or_from_slice_get run k l l at, same)
-]
+has_log run p i x h = grind (arith, log_of_cases, slice_get_within, get_or_from_slice_get)
 
 -- ---- rings
 
@@ -37,7 +22,7 @@ change_of log i c e at same = absurd cc
 
 pub are_rings : (run : List Log) (list : List RingId) → AreListed ring.cmp-value.it (λ p e c. GivesRing e c) run list → AreRings run list
 are_rings run list h = record {
-  rising = λ i j d lt within. ring_below _ _ (h.rising i j d lt within);
+  rising = λ i j d lt within. below_from_less _ _ (h.rising i j d lt within);
   exact = λ c. (
     λ has. (let (p, there, (q, (i, e, at, given))) = (h.exact c).0 has in record { proc = q; index = i; change = change_of (log_of run q) i c e at given }),
     λ is. (h.exact c).1 (is.proc, has_log run is.proc is.index (Regular c) is.change, (is.proc, (is.index, Conf (Regular c) is.change.0, is.change.1, refl))),
@@ -53,9 +38,7 @@ pub one_pending : (run : List Log) (p : ℕ) (e : Entry) (c : RingId) (m : MsgId
 one_pending run p e c m list sent misses = one_added (GivesPending run p e) list (record { proc = p; msg = m }) (c, sym sent, refl, misses) (λ x (d, also, procs, other). same_pending _ x (sym procs) (pair_parts (c, m) (d, x.msg) (sent ∙ also)).1)
 
 send_of : (log : List Entry) (i : ℕ) (c : RingId) (m : MsgId) (e : Entry) → slice_get log i ≡ Some e → sent_in e ≡ Some (c, m) → Sends log i m (Regular c)
-send_of log i c m (Send n (Regular d) s) at same =
-    let parts = pair_parts (d, n) (c, m) same in (s, rw (parts.0, parts.1) at at)
-send_of log i c m e at same = absurd cc
+send_of log i c m e h k = grind (arith, pair_parts)
 
 pub are_pending : (run : List Log) (list : List Pending) → AreListed pending.cmp-value.it (λ p e x. GivesPending run p e x) run list → ArePending run list
 are_pending run list h = record {

@@ -1,5 +1,5 @@
 -- What the entries of a run give, as lists (docs/SPECIFICATIONS.md, "Passes", "Pending and waiting").
-use Rattle.std.specs.Prelude.{◌≡◌, ◌↔◌, ◌⊎◌, ℕ, List, AllPairs, Contains, Option, Some, None, slice_get}
+use Rattle.std.specs.Prelude.{◌≡◌, ◌↔◌, ℕ, List, AllPairs, Contains, Option, Some, None, slice_get}
 use Rattle.std.specs.declared.cmp.Ordering.{Ordering}
 use Rattle.std.specs.declared.cmp.Ordering.TheVariants.{Less}
 use Rattle.totem_names.specs.declared.ring.RingId.{RingId}
@@ -16,10 +16,6 @@ use Rattle.totem_evs.specs.Following.{HasDelivered, OpenIn}
 use Rattle.totem_evs.specs.Unsettled.{EndsIn}
 use Rattle.totem_evs.specs.Missing.{HasLog}
 use Rattle.totem_search.specs.Entries.{SomeLog}
-
--- the new list has what the old one had and everything for which P holds
-pub record Adds {T : Type 0} (P : T → Type 0) (old new : List T) : Type 0 where
-  pub each : (x : T) → Contains new x ↔ (Contains old x ⊎ P x)
 
 -- the elements of a list in ascending order, each once
 pub record IsInOrder {T : Type 0} (cmp : T → T → Ordering) (list ordered : List T) : Type 0 where

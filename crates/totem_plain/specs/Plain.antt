@@ -58,10 +58,6 @@ pub record IsLogOf (run : List Log) (p : ℕ) (log : Log) : Type 0 where
 pub record HasNoLog (run : List Log) (p : ℕ) : Type 0 where
   pub none : HasLog run p → ⊥
 
--- no change is before i
-abbrev pub NoChangeBefore : List Entry → ℕ → Type 0
-NoChangeBefore log i = (k : ℕ) → k < i → IsChange log k → ⊥
-
 abbrev pub IsFailureAt : List Entry → ℕ → Type 0
 IsFailureAt log i = (x : ConfId) × Fails log i x
 

@@ -1,19 +1,15 @@
--- 4, 5 and 6.3, as lists of events that begin with a given one (docs/SPECIFICATIONS.md, "4 Failure atomicity", "5 Causal delivery",
--- "6 Total order").
+-- 4 and 6.3, as lists of events that begin with a given one (docs/SPECIFICATIONS.md, "4 Failure atomicity", "6 Total order").
 use Rattle.std.specs.Prelude.{◌≡◌, ℕ, ◌<◌, List, [], ◌∷◌}
 use Rattle.totem_names.specs.declared.ring.RingId.{RingId}
 use Rattle.totem_names.specs.declared.conf.ConfId.{ConfId}
-use Rattle.totem_names.specs.declared.conf.ConfId.TheVariants.{Regular}
 use Rattle.totem_names.specs.declared.message.MsgId.{MsgId}
 use Rattle.totem_names.specs.declared.place.Place.{Place}
 use Rattle.totem_evs.specs.declared.log.Log.{Log}
 use Rattle.totem_evs.specs.declared.entry.Entry.{Entry}
 use Rattle.totem_evs.specs.Events.{ChangesTo, Delivers, log_of}
-use Rattle.totem_evs.specs.Steps.{SendsAt}
 use Rattle.totem_evs.specs.Following.{IsNextChange, Com, DeliversIn, HasDelivered}
 use Rattle.totem_evs.specs.Places.{At}
-use Rattle.totem_evs.specs.RingAgreement.{IsHop}
-use Rattle.totem_evs.specs.AgreementFaults.{GoesAt, IsNotDeliveredFirst}
+use Rattle.totem_evs.specs.AgreementFaults.{GoesAt}
 use Rattle.totem_search.specs.Search.{IsOneEvent}
 use Rattle.totem_search.specs.Entries.{HasOne}
 use Rattle.totem_plain.specs.Plain.{IsEntrySend, SomeMember}
@@ -30,11 +26,6 @@ IsParting run m x d q k = GoesAt (log_of run q) x d k × ((l : ℕ) → Delivers
 abbrev pub IsGoing : List Log → ℕ → MsgId → ConfId → List Place → Type 0
 IsGoing run p m x [] = ⊥
 IsGoing run p m x (f ∷ rest) = At f (λ r j. (p ≡ r) × ((d : ConfId) × GoesAt (log_of run r) x d j × IsOneEvent (IsParting run m x d) rest))
-
--- the send of an effect of what e sends, and a delivery of the effect without the cause before it
-abbrev pub IsEffect : List Log → RingId → MsgId → Place → List Place → Type 0
-IsEffect run c cause e [] = ⊥
-IsEffect run c cause e (f ∷ rest) = (effect : MsgId) × SendsAt run f effect (Regular c) × IsHop run c cause e f × IsOneEvent (IsNotDeliveredFirst run c cause effect) rest
 
 -- p sends the message
 abbrev pub HasSent : List Log → MsgId → ℕ → Type 0

@@ -92,6 +92,7 @@ impl EntryTest for SendsSafe<'_> {
 }
 
 /// Returns whether the message was sent as a safe one.
+#[tactic(auto, using(crate::proofs::Logs::sent_safe))]
 fn is_safe(run: &Run, message: &MsgId) -> bool
     ensures { IsTrue result ↔ IsSafe run.now.logs message.now }
 {
@@ -134,6 +135,7 @@ impl<T: MemberTest> EntryTest for Lists<'_, T> {
 }
 
 /// Returns whether some member of the configuration passes the test.
+#[tactic(auto, using(crate::proofs::Logs::some_member))]
 pub fn some_member<T: MemberTest>(test: &T, run: &Run, conf: &ConfId) -> bool
     ensures { IsTrue result ↔ SomeMember (T.holds test.now) run.now.logs conf.now }
 {

@@ -7,7 +7,7 @@ ghost use Rattle.totem_evs.specs.RingAgreement.{IsHop};
 ghost use Rattle.totem_evs.specs.AgreementFaults.{IsNotDeliveredFirst};
 ghost use Rattle.totem_evs.specs.RingFaults.{BreaksCausalityIn};
 ghost use Rattle.totem_search.specs.Search.{place};
-ghost use Rattle.totem_plain.specs.Rings.{IsEffect};
+ghost use Rattle.totem_search.specs.Causes.{IsEffect};
 
 use crate::one_log::{delivered_by, delivers_before, delivers_in};
 use std::alloc::Global;

@@ -1,55 +1,10 @@
-//! The five tests of a certificate: two of its lines, three of pairs of entries (docs/SPECIFICATIONS.md, "The checker").
-ghost use Rattle.std.specs.Prelude.{◌↔◌, IsTrue, MatchBool, length};
-ghost use Rattle.totem_evs.specs.Certificates.{Matches};
+//! The three tests of a certificate that look at pairs of entries (docs/SPECIFICATIONS.md, "The checker").
+ghost use Rattle.std.specs.Prelude.{◌↔◌, IsTrue};
 ghost use Rattle.totem_evs.specs.Classes.{AreSendAndDelivery};
-ghost use Rattle.totem_outcome.specs.Counts.{IsLineOf};
 ghost use Rattle.totem_outcome.specs.Kinds.{SendIsBelow, SendIsNotBelow, ClassIsOne, ClassIsSplit, NumberIsOwn, NumberIsShared};
-ghost use Rattle.totem_outcome.specs.Rising.{RisesBefore, FallsSomewhere, LinesRise, LineFalls};
 
 use crate::numbered::{Numbered, PairTest};
-use totem_certificate::Line;
-use totem_evs::{Entry, Log};
-
-fn is_line_of(log: &Log, line: &Line) -> bool
-    ensures { IsTrue result ↔ IsLineOf log.now line.now }
-{
-    log.proc.rank() == line.proc.rank()
-        && log.entries.as_slice().len() == line.numbers.as_slice().len()
-}
-
-/// Returns whether there is a line for each log, and a number for each entry.
-pub fn matches(logs: &[Log], lines: &[Line]) -> bool
-    ensures { MatchBool result (Matches logs.now lines.now) (Matches logs.now lines.now → ⊥) }
-{
-    if logs.len() != lines.len() {
-        return false;
-    }
-    for at in 0..logs.len() {
-        if !is_line_of(&logs[at], &lines[at]) {
-            return false;
-        }
-    }
-    true
-}
-
-/// Returns whether each number is above the one before it.
-fn rises(numbers: &[u32]) -> bool
-    ensures { MatchBool result (RisesBefore numbers.now (length numbers.now)) (FallsSomewhere numbers.now) }
-{
-    for at in 1..numbers.len() {
-        if numbers[at] <= numbers[at - 1] {
-            return false;
-        }
-    }
-    true
-}
-
-/// Returns whether the numbers of each line are ascending.
-pub fn all_rise(lines: &[Line]) -> bool
-    ensures { MatchBool result (LinesRise lines.now (length lines.now)) (LineFalls lines.now) }
-{
-    lines.iter().all(|line| rises(line.numbers.as_slice()))
-}
+use totem_evs::Entry;
 
 fn are_send_and_delivery(first: &Entry, second: &Entry) -> bool
     ensures { IsTrue result ↔ AreSendAndDelivery first.now second.now }

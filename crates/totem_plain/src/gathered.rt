@@ -4,7 +4,8 @@ ghost use Rattle.std.specs.declared.cmp.Ordering.TheVariants.{Equal};
 ghost use Rattle.totem_evs.specs.declared.entry.Entry.{Entry};
 ghost use Rattle.totem_evs.specs.declared.log.Log.{Log};
 ghost use Rattle.totem_search.specs.Entries.{HasOne, SomeLog};
-ghost use Rattle.totem_plain.specs.Gathered.{Adds, IsInOrder, AreListed};
+ghost use Rattle.totem_search.specs.Adding.{Adds};
+ghost use Rattle.totem_plain.specs.Gathered.{IsInOrder, AreListed};
 
 use std::alloc::{AllocError, Global};
 use totem_evs::{Entry, Run};

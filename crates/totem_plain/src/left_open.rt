@@ -2,7 +2,8 @@
 ghost use Rattle.std.specs.Prelude.{◌≡◌, ◌↔◌, IsTrue, IfOk, OnOk};
 ghost use Rattle.totem_evs.specs.Events.{log_of};
 ghost use Rattle.totem_evs.specs.Unsettled.{EndsIn, ArePending, AreWaiting};
-ghost use Rattle.totem_plain.specs.Gathered.{Adds, Misses, WaitsFor, GivesPending, GivesWaiting, sent_in};
+ghost use Rattle.totem_search.specs.Adding.{Adds};
+ghost use Rattle.totem_plain.specs.Gathered.{Misses, WaitsFor, GivesPending, GivesWaiting, sent_in};
 
 use crate::all_logs::{is_open_in, log_of};
 use crate::gathered::{Gathered, all_given};

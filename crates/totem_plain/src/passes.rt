@@ -1,5 +1,5 @@
 //! The faults of a run, pass by pass, and in each pass specification by specification (docs/SPECIFICATIONS.md, "Passes").
-ghost use Rattle.std.specs.Prelude.{◌≡◌, ◌++◌, IfOk};
+ghost use Rattle.std.specs.Prelude.{◌≡◌, IfOk};
 ghost use Rattle.totem_evs.specs.Answers.{FindsIn, Lists, ListsRings, ListsConfigurations, AreRings, pass_a, pass_b};
 ghost use Rattle.totem_plain.specs.Found.{IsOfPassD};
 ghost use Rattle.totem_plain.specs.Gathered.{GivesRing, ring_of};
@@ -11,7 +11,9 @@ use crate::{
 use std::alloc::{AllocError, Global};
 use totem_evs::{Entry, Fault, Run, SpecNo};
 use totem_names::{ConfId, Proc, RingId};
-use totem_search::{FoundPlaces, find_turns, find_twice, find_two_forms, find_unsent, with_found};
+use totem_search::{
+    FoundPlaces, find_turns, find_twice, find_two_forms, find_unsent, joined, with_found,
+};
 
 /// Pass A: 1.4, 2.1, 2.2, 2.3 and 2.4.
 pub fn pass_a(alloc: Global, run: &Run) -> Result<Vec<Fault>, AllocError>
@@ -101,25 +103,15 @@ fn faults_of(
     Ok(faults)
 }
 
-/// Returns the first list with the second appended.
-fn joined(mut faults: Vec<Fault>, mut others: Vec<Fault>) -> Result<Vec<Fault>, AllocError>
-    ensures { IfOk result (λ list. list.items ≡ faults.items ++ others.items) }
-{
-    faults.append(&mut others)?;
-    Ok(faults)
-}
-
 /// Pass D: 3, 4, 5, 6.3, 7.1 and 7.2, each in each regular configuration.
 pub fn pass_d(alloc: Global, run: &Run) -> Result<Vec<Fault>, AllocError>
     ensures { IfOk result (λ faults. ListsConfigurations run.now.logs faults.items) }
 {
     let rings = rings_of(alloc, run)?;
     let own = faults_of(alloc, run, &rings, SpecNo::OwnDelivery)?;
-    let atomicity = faults_of(alloc, run, &rings, SpecNo::Atomicity)?;
-    let causality = faults_of(alloc, run, &rings, SpecNo::Causality)?;
-    let gaps = faults_of(alloc, run, &rings, SpecNo::Gap)?;
-    let safety = faults_of(alloc, run, &rings, SpecNo::Safety)?;
-    let installed = faults_of(alloc, run, &rings, SpecNo::Installed)?;
-    let last = joined(gaps, joined(safety, installed)?)?;
-    joined(own, joined(atomicity, joined(causality, last)?)?)
+    let two = joined(own, faults_of(alloc, run, &rings, SpecNo::Atomicity)?)?;
+    let three = joined(two, faults_of(alloc, run, &rings, SpecNo::Causality)?)?;
+    let four = joined(three, faults_of(alloc, run, &rings, SpecNo::Gap)?)?;
+    let five = joined(four, faults_of(alloc, run, &rings, SpecNo::Safety)?)?;
+    joined(five, faults_of(alloc, run, &rings, SpecNo::Installed)?)
 }

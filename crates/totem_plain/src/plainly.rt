@@ -1,26 +1,28 @@
 //! The plain checker of runs and certificates (docs/SPECIFICATIONS.md, "The checker").
 ghost use Rattle.std.specs.Prelude.{IfOk};
+ghost use Rattle.totem_certificate.specs.Keeping.{IsCertificate};
 ghost use Rattle.totem_evs.specs.Certificates.{Certified};
+ghost use Rattle.totem_evs.specs.Runs.{IsRun};
 ghost use Rattle.totem_outcome.specs.Certifying.{Answers};
 ghost use Rattle.totem_outcome.specs.Checks.{Checks, RefusesRightly};
 ghost use Rattle.totem_plain.specs.Found.{ListsFirst};
 
-use crate::certificate::{LateSend, SharedNumber, SplitClass, all_rise, matches};
+use crate::certificate::{LateSend, SharedNumber, SplitClass};
 use crate::left_open::{pending, waiting};
 use crate::numbered::each_pair;
 use crate::passes::{pass_a, pass_b, pass_d};
 use std::alloc::{AllocError, Global};
-use totem_certificate::Certificate;
-use totem_evs::{Fault, Run};
-use totem_outcome::{Accepted, CertificateFault, CheckFault};
+use totem_certificate::{Certificate, Line};
+use totem_evs::{Fault, Log, Run};
+use totem_outcome::{Accepted, CertificateFault, CheckFault, all_rise, matches_logs};
 
-/// Tests whether the certificate certifies the run. Takes no memory.
-fn certified(run: &Run, certificate: &Certificate) -> Result<(), CertificateFault>
-    ensures { Answers run.now.logs certificate.now.lines result }
+/// Tests whether the lines certify the run that these logs make.
+fn lines_certify(logs: &[Log], lines: &[Line]) -> Result<(), CertificateFault>
+    requires run { IsRun logs.now }
+    requires certificate { IsCertificate lines.now }
+    ensures { Answers logs.now lines.now result }
 {
-    let logs = run.logs.as_slice();
-    let lines = certificate.as_slice();
-    if !matches(logs, lines) {
+    if !matches_logs(logs, lines) {
         Err(CertificateFault::Count)
     } else if !all_rise(lines) {
         Err(CertificateFault::NotRising)
@@ -33,6 +35,13 @@ fn certified(run: &Run, certificate: &Certificate) -> Result<(), CertificateFaul
     } else {
         Ok(())
     }
+}
+
+/// Tests whether the certificate certifies the run. Takes no memory.
+fn certified(run: &Run, certificate: &Certificate) -> Result<(), CertificateFault>
+    ensures { Answers run.now.logs certificate.now.lines result }
+{
+    lines_certify(run.logs.as_slice(), certificate.as_slice())
 }
 
 /// Returns the faults of the first of passes A, B and D that has one.

@@ -1,9 +1,6 @@
 -- Lists of one bad entry, or of two, are those that break 1.4 and 2.3.
-use Rattle.std.proofs.Common.{inl, inr, List, [], ◌∷◌, refl}
+use Rattle.totem_judge_run.proofs.Common.{inl, inr, List, [], ◌∷◌, refl, Place, Conf, Send, Deliver, Log}
 use Rattle.std.proofs.lemmas.Bool.{cases_eq}
-use Rattle.totem_names.specs.declared.place.Place.{Place}
-use Rattle.totem_evs.specs.declared.entry.Entry.TheVariants.{Conf, Send, Deliver}
-use Rattle.totem_evs.specs.declared.log.Log.{Log}
 use Rattle.totem_evs.specs.Delivery.{DeliversOnce}
 use Rattle.totem_evs.specs.Changes.{IsOneConfiguration}
 use Rattle.totem_evs.specs.DeliveryFaults.{BreaksTwice}

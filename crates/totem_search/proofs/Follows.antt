@@ -1,12 +1,5 @@
 -- What follows a regular configuration in a log, from the first change to it and the next one.
-use Rattle.std.proofs.Common.{ℕ, List, false, Bool, IsTrue, ◌↔◌}
-use Rattle.totem_names.specs.declared.ring.RingId.{RingId}
-use Rattle.totem_names.specs.declared.conf.ConfId.{ConfId}
-use Rattle.totem_names.specs.declared.conf.ConfId.TheVariants.{Regular}
-use Rattle.totem_evs.specs.declared.entry.Entry.{Entry}
-use Rattle.totem_evs.specs.Events.{ChangesTo, IsTransitional}
-use Rattle.totem_evs.specs.Following.{IsFirstChange, IsNextChange, Follows}
-use Rattle.totem_evs.proofs.NextChanges.{one_next, same_first}
+use Rattle.totem_judge_run.proofs.Common.{ℕ, List, false, Bool, IsTrue, ◌↔◌, RingId, ConfId, Regular, Entry, ChangesTo, IsTransitional, IsFirstChange, IsNextChange, Follows, one_next, same_first}
 use Rattle.totem_search.specs.Following.{NoNextChange, NeverChangesTo}
 use Rattle.totem_search.proofs.Loops.{no_is}
 

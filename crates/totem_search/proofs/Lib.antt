@@ -6,3 +6,7 @@ pub mod Turning
 pub mod Loops
 pub mod Follows
 pub mod Unsent
+pub mod Deciding
+pub mod Causing
+pub mod Meeting
+pub mod Adding

@@ -1,11 +1,5 @@
 -- Loops that look for what has a property, index by index.
-use Rattle.std.proofs.Common.{◌≡◌, ℕ, ◌+◌, ◌<◌, ◌≤◌, inl, inr, List, [], length, slice_get, Bool, Some, true, false, IsTrue, ◌↔◌, refl, ◌∙◌, ap, arith, below_more}
-use Rattle.std.specs.Prelude.{Contains}
-use Rattle.std.proofs.lemmas.Option.{slice_get_within, get_or_from_slice_get, slice_get-get_or}
-use Rattle.totem_evs.specs.declared.entry.Entry.{Entry}
-use Rattle.totem_evs.specs.declared.log.Log.{Log}
-use Rattle.totem_evs.specs.Events.{log_of}
-use Rattle.totem_evs.proofs.LogOf.{Rising, log_of_cases, log_of_at}
+use Rattle.totem_judge_run.proofs.Common.{◌≡◌, ℕ, ◌+◌, ◌<◌, ◌≤◌, inl, inr, List, [], length, slice_get, Bool, Some, true, false, IsTrue, ◌↔◌, refl, arith, below_more, slice_get_within, Entry, Log, log_of, Rising, log_of_cases, log_of_at}
 
 pub yes_is : {X : Type 0} → X → IsTrue true ↔ X
 yes_is x = (λ t. x, λ h. refl)
@@ -27,18 +21,6 @@ none_yet P n before m end within k h = (let lt = within k h in before.none k (om
 pub denied : {P : Type 0} (b : Bool) → b ≡ false → IsTrue b ↔ P → P → ⊥
 denied b no_ tells h = let t = tells.1 h in cc
 
--- an entry with the property is at some index of the log
-pub record HasEntry (P : ℕ → Entry → Type 0) (log : List Entry) (k : ℕ) : Type 0 where
-  pub entry : Entry
-  pub at : slice_get log k ≡ Some entry
-  pub holds : P k entry
-
-pub none_here : (P : ℕ → Entry → Type 0) (log : List Entry) (n : ℕ) (e : Entry) → slice_get log n ≡ Some e → (P n e → ⊥) → HasEntry P log n → ⊥
-none_here P log n e at never h = let same : h.entry ≡ e = (let x = h.at in cc) in never (rw same at h.holds)
-
-pub none_in : (P : ℕ → Entry → Type 0) (log : List Entry) (n : ℕ) → length log ≤ n → NoneBelow (HasEntry P log) n → (k : ℕ) (e : Entry) → slice_get log k ≡ Some e → P k e → ⊥
-none_in P log n end before k e at h = before.none k (omega (arith, slice_get_within log k e at)) (record { entry = e; at = at; holds = h })
-
 -- a log with the property is at some index of the run
 pub record HasLogAt (Q : ℕ → List Entry → Type 0) (run : List Log) (k : ℕ) : Type 0 where
   pub log : Log
@@ -58,17 +40,3 @@ pub at_log : (Q : ℕ → List Entry → Type 0) (run : List Log) (k : ℕ) (l :
 at_log Q run k l rising at h = (l.proc, rw (log_of_at run k l rising at) h)
 
 -- ---- members
-
-pub record HasMember (Bad : ℕ → Type 0) (members : List ℕ) (k : ℕ) : Type 0 where
-  pub member : ℕ
-  pub at : slice_get members k ≡ Some member
-  pub bad : Bad member
-
-pub no_member : (Bad : ℕ → Type 0) (members : List ℕ) (k q : ℕ) → slice_get members k ≡ Some q → (Bad q → ⊥) → HasMember Bad members k → ⊥
-no_member Bad members k q at never h = let same : h.member ≡ q = (let x = h.at in cc) in never (rw same at h.bad)
-
-pub no_member_of : (Bad : ℕ → Type 0) (members : List ℕ) (n : ℕ) → length members ≤ n → NoneBelow (HasMember Bad members) n → (q : ℕ) → Contains members q → Bad q → ⊥
-no_member_of Bad members n end before q (k, lt, is) bad = before.none k (omega arith) (record { member = q; at = slice_get-get_or members k q lt ∙ ap (λ (x : ℕ). Some x) is; bad = bad })
-
-pub contains_at : (members : List ℕ) (k q : ℕ) → slice_get members k ≡ Some q → Contains members q
-contains_at members k q at = (k, slice_get_within members k q at, get_or_from_slice_get members k q q at)

@@ -1,10 +1,5 @@
 -- Lists of one entry that is bad alone, or of two that are bad together.
-use Rattle.std.proofs.Common.{◌≡◌, ℕ, ◌+◌, List, [], ◌∷◌, slice_get, Some, Bool, IsTrue, ◌↔◌, refl, arith}
-use Rattle.std.proofs.lemmas.Option.{slice_get_within}
-use Rattle.totem_names.specs.declared.place.Place.{Place}
-use Rattle.totem_evs.specs.declared.entry.Entry.{Entry}
-use Rattle.totem_evs.specs.declared.log.Log.{Log}
-use Rattle.totem_evs.specs.Events.{log_of}
+use Rattle.totem_judge_run.proofs.Common.{◌≡◌, ℕ, ◌+◌, List, [], ◌∷◌, slice_get, Some, Bool, IsTrue, ◌↔◌, refl, arith, slice_get_within, Place, Entry, Log, log_of}
 use Rattle.totem_search.specs.Search.{place, NoneFrom, IsLeastFrom, HoldsOfNone, Begins, EachBegins, IsOneEvent, AreEvents}
 use Rattle.totem_search.specs.Pairs.{Has, IsOneOrTwo}
 use Rattle.totem_search.proofs.Searching.{begins_at, Starts}

@@ -1,19 +1,10 @@
 -- Searching a run, event by event.
-use Rattle.std.proofs.lemmas.Grind.{common_steps}
-use Rattle.std.proofs.Common.{below_more, ◌≡◌, ℕ, ◌+◌, ◌<◌, ◌≤◌, ◌⊎◌, inl, inr, List, [], ◌∷◌, length, slice_get, Some, refl, sym, ◌∙◌, ap, arith, Option, None, Result, Ok, Err, IfOk, MatchOption, Bool, true, false, IsTrue, ◌↔◌}
+use Rattle.totem_judge_run.proofs.Common.{below_more, ◌≡◌, ℕ, ◌+◌, ◌<◌, ◌≤◌, ◌⊎◌, inl, inr, List, [], ◌∷◌, length, slice_get, Some, refl, sym, ◌∙◌, ap, arith, Option, None, Result, Ok, Err, IfOk, MatchOption, Bool, true, false, IsTrue, ◌↔◌, common_steps, slice_get_within, Place, Entry, Log, RingId, log_of, Rising, log_of_cases, in_order, less_or_not}
+use Rattle.totem_evs.proofs.Common.{Breaks, BreaksIn, MeetsIn}
 use Rattle.std.specs.Bool.{then_some}
-use Rattle.std.proofs.lemmas.Option.{slice_get_within}
-use Rattle.totem_names.specs.declared.place.Place.{Place}
-use Rattle.totem_evs.specs.declared.entry.Entry.{Entry}
-use Rattle.totem_evs.specs.declared.log.Log.{Log}
-use Rattle.totem_names.specs.declared.ring.RingId.{RingId}
 use Rattle.totem_evs.specs.declared.spec.SpecNo.{SpecNo}
-use Rattle.totem_evs.specs.Events.{log_of}
-use Rattle.totem_evs.specs.Faults.{Breaks}
-use Rattle.totem_evs.specs.RingFaults.{BreaksIn, MeetsIn}
 use Rattle.totem_evs.specs.Answers.{ComesFirst, IsLeast, Meets, Finds, FindsIn}
 use Rattle.totem_search.specs.Search.{place, NoneFrom, IsLeastFrom, NoneInLog, IsLeastInLog, Begins, EachBegins, HoldsOfNone, IsOneEvent, AreEvents}
-use Rattle.totem_evs.proofs.LogOf.{Rising, log_of_cases, in_order, less_or_not}
 
 pub none_in_log_more : (H : List Place → Type 0) (p i : ℕ) → NoneFrom H p i → NoneInLog H p i → NoneInLog H p (i + 1)
 none_in_log_more H p i here before = record { none = λ k rest lt. below_more (λ k. H (place p k ∷ rest) → ⊥) i (λ k under. before.none k rest under) (here.none rest) k lt }

@@ -1,26 +1,14 @@
 -- Searching for what breaks 2.4, change by change: what is found is the least list that breaks it. And what is noted of the changes
 -- for that.
+use Rattle.totem_judge_run.proofs.Common.{All, Contains, slice_get_within, RingId, ConfId, Regular, Transitional, Place, Entry, Conf, Log, log_of, IsChange, IsRegular, IsTransitional, ChangesNext, TakesTurns, IsNextOrEnd, less_or_not}
 use Rattle.std.proofs.Common.{◌≡◌, ◌≢◌, ℕ, ◌+◌, ◌<◌, ◌≤◌, ◌⊎◌, inl, inr, List, [], ◌∷◌, length, slice_get, Option, Some, None, Result, Ok, Err, IfOk, MatchOption, Bool, true, false, not, IsTrue, ◌↔◌, refl, sym, subst, ap, ◌∙◌, arith}
-use Rattle.std.specs.Prelude.{All, Contains}
-use Rattle.std.proofs.lemmas.Option.{slice_get_within}
-use Rattle.totem_names.specs.declared.ring.RingId.{RingId}
-use Rattle.totem_names.specs.declared.conf.ConfId.{ConfId}
-use Rattle.totem_names.specs.declared.conf.ConfId.TheVariants.{Regular, Transitional}
-use Rattle.totem_names.specs.declared.place.Place.{Place}
-use Rattle.totem_evs.specs.declared.entry.Entry.{Entry}
-use Rattle.totem_evs.specs.declared.entry.Entry.TheVariants.{Conf}
-use Rattle.totem_evs.specs.declared.log.Log.{Log}
-use Rattle.totem_evs.specs.Events.{log_of, IsChange, IsRegular, IsTransitional}
-use Rattle.totem_evs.specs.Changes.{ChangesNext, TakesTurns}
 use Rattle.totem_evs.specs.ChangeFaults.{BeginsTransitional, AreWrongNeighbours, BreaksTurns}
 use Rattle.totem_evs.specs.declared.spec.SpecNo.TheVariants as spec
 use Rattle.totem_evs.specs.Answers.{ComesFirst, IsLeast, TakeTurns, Finds}
 use Rattle.totem_search.specs.Search.{place, NoneFrom, IsLeastFrom, Begins, EachBegins, HoldsOfNone}
-use Rattle.totem_evs.specs.Following.{IsNextOrEnd}
 use Rattle.totem_evs.proofs.NextChanges.{no_change, one_next}
 use Rattle.totem_judge_run.specs.Succession.{IsWrongSuccession}
 use Rattle.totem_search.specs.Turns.{HasNoSuccession, IsOfOtherRing, IsOtherOrigin, IsTurnRest, IsTurnFault}
-use Rattle.totem_evs.proofs.LogOf.{less_or_not}
 use Rattle.totem_search.proofs.Searching.{begins_at}
 use Rattle.totem_names.proofs.Orderings.{place_strict}
 use Rattle.totem_judge_run.proofs.Behind.{right_kinds, right_from, right_to, right_name}

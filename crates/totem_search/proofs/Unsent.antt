@@ -1,13 +1,5 @@
 -- 1.3: what breaks it, and where nothing does.
-use Rattle.std.proofs.Common.{◌≡◌, ℕ, inl, inr, List, slice_get, Some, Bool, IsTrue, ◌↔◌, refl}
-use Rattle.std.proofs.lemmas.Option.{slice_get_within}
-use Rattle.totem_names.specs.declared.conf.ConfId.{ConfId}
-use Rattle.totem_names.specs.declared.conf.ConfId.TheVariants.{Regular}
-use Rattle.totem_names.specs.declared.message.MsgId.{MsgId}
-use Rattle.totem_evs.specs.declared.entry.Entry.{Entry}
-use Rattle.totem_evs.specs.declared.entry.Entry.TheVariants.{Send, Deliver}
-use Rattle.totem_evs.specs.declared.log.Log.{Log}
-use Rattle.totem_evs.specs.Events.{log_of}
+use Rattle.totem_judge_run.proofs.Common.{◌≡◌, ℕ, inl, inr, List, slice_get, Some, Bool, IsTrue, ◌↔◌, refl, slice_get_within, ConfId, Regular, MsgId, Entry, Send, Deliver, Log, log_of}
 use Rattle.totem_evs.specs.Delivery.{DeliversWhatWasSent}
 use Rattle.totem_evs.specs.DeliveryFaults.{IsUnsent}
 use Rattle.totem_judge_run.specs.Sent.{WasSentTo, IsSendTo}

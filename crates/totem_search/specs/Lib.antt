@@ -4,4 +4,6 @@ pub mod Bad
 pub mod Turns
 pub mod Following
 pub mod Entries
+pub mod Causes
+pub mod Adding
 pub mod Unsent

@@ -29,8 +29,8 @@ pub use neighbours::{Succession, is_transitional, succession_at};
 pub use pairs::Standing;
 pub use quick::QuickTests;
 pub use search::{
-    FoundList, FoundPlaces, Relation, Test, bad_places, begin_at, least, least_bad, least_places,
-    places_of, with_found,
+    FoundList, FoundPlaces, Relation, Test, bad_places, begin_at, joined, least, least_bad,
+    least_places, places_of, with_found,
 };
 pub use succession_2_4::find_turns;
 pub use twice_1_4::find_twice;

@@ -153,3 +153,11 @@ pub fn with_found(
     }
     Ok(faults)
 }
+
+/// Returns the first list with the second appended.
+pub fn joined(mut faults: Vec<Fault>, mut others: Vec<Fault>) -> Result<Vec<Fault>, AllocError>
+    ensures { IfOk result (λ list. list.items ≡ faults.items ++ others.items) }
+{
+    faults.append(&mut others)?;
+    Ok(faults)
+}

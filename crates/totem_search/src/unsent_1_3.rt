@@ -37,6 +37,7 @@ impl EntryTest for SendsTo<'_> {
 }
 
 /// Returns whether the message was sent in this configuration, or in the regular one that it follows in this log.
+#[tactic(auto, using(crate::proofs::Unsent::sent_to))]
 fn was_sent_to(run: &Run, log: &[Entry], message: &MsgId, conf: &ConfId) -> bool
     ensures { IsTrue result ↔ WasSentTo run.now.logs log.now message.now conf.now }
 {

@@ -1,6 +1,4 @@
-use Rattle.std.proofs.Common.{◌≡◌, ◌∙◌, ap, length, slice_get, Some, arith}
-use Rattle.totem_evs.specs.LogRecord.{LogRecord}
-use Rattle.totem_judge_traffic.proofs.Rowing.{read_at}
+use Rattle.totem_judge.proofs.Common.{◌≡◌, ◌∙◌, ap, length, slice_get, Some, arith, LogRecord, read_at}
 use Rattle.totem_judge.proofs.Steps.{log_covered}
 use Rattle.totem_judge.proofs.covered.are_covered.Goals as goal
 

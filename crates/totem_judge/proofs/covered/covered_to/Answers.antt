@@ -1,5 +1,4 @@
-use Rattle.std.proofs.Common.{◌≡◌, slice_get, Some, arith}
-use Rattle.totem_judge_traffic.proofs.Rowing.{read_at}
+use Rattle.totem_judge.proofs.Common.{◌≡◌, slice_get, Some, arith, read_at}
 use Rattle.totem_judge.proofs.Steps.{all_covered_more, covered_none}
 use Rattle.totem_judge.proofs.covered.covered_to.Goals as goal
 

@@ -1,6 +1,4 @@
-use Rattle.std.proofs.Common.{◌≡◌, slice_get, Some}
-use Rattle.totem_judge_traffic.proofs.Rowing.{read_at}
-use Rattle.totem_judge.specs.Ends.{IsAny, IsExcusedIn, IsOpenAt}
+use Rattle.totem_judge.proofs.Common.{◌≡◌, slice_get, Some, read_at, IsAny, IsExcusedIn, IsOpenAt}
 use Rattle.totem_judge.proofs.Steps.{select_more, select_skip}
 use Rattle.totem_judge.proofs.ends.ends_of.Goals.{then-is_excused+then-goes_on, then-is_excused+else-goes_on, else-is_excused}
 use Rattle.totem_judge.proofs.ends.ends_of.Goals as goal

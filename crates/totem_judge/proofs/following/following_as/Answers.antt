@@ -1,6 +1,4 @@
-use Rattle.std.proofs.Common.{◌≡◌, slice_get, Some}
-use Rattle.totem_judge_traffic.proofs.Rowing.{read_at}
-use Rattle.totem_judge.specs.Turns.{TurnsToConf, LeavesFrom}
+use Rattle.totem_judge.proofs.Common.{◌≡◌, slice_get, Some, read_at, TurnsToConf, LeavesFrom}
 use Rattle.totem_judge.proofs.Steps.{select_more, select_skip}
 use Rattle.totem_judge.proofs.following.following_as.Goals.{then-turns_to+then-goes_further, then-turns_to+else-goes_further, else-turns_to}
 use Rattle.totem_judge.proofs.following.following_as.Goals as goal

@@ -1,5 +1,4 @@
-use Rattle.std.proofs.Common.{◌≡◌, slice_get, Some}
-use Rattle.totem_judge_traffic.proofs.Rowing.{read_at}
+use Rattle.totem_judge.proofs.Common.{◌≡◌, slice_get, Some, read_at}
 use Rattle.totem_judge.proofs.Steps.{followings_none, seen_none, followings_pushed, seen_pushed, followings_same}
 use Rattle.totem_judge.proofs.following.following_in.Goals.{in-Some+then-not-contains+in_ok-push, in-Some+else-not-contains, in_default}
 use Rattle.totem_judge.proofs.following.following_in.Goals as goal

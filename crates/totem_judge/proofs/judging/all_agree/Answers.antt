@@ -1,8 +1,4 @@
-use Rattle.std.proofs.Common.{◌≡◌, slice_get, Some, subst}
-use Rattle.totem_judge_traffic.specs.declared.observed.Observed.{Observed}
-use Rattle.totem_judge_traffic.specs.Clean.{ShowsAgreement}
-use Rattle.totem_judge_traffic.proofs.Rowing.{read_at}
-use Rattle.totem_judge.specs.Judged.{AgreesAt}
+use Rattle.totem_judge.proofs.Common.{◌≡◌, slice_get, Some, subst, Observed, ShowsAgreement, read_at, AgreesAt}
 use Rattle.totem_judge.proofs.Steps.{each_more}
 use Rattle.totem_judge.proofs.judging.all_agree.Goals as goal
 

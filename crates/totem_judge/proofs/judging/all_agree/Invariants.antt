@@ -1,5 +1,4 @@
-use Rattle.totem_judge.specs.Judged.{AgreesAt}
-use Rattle.totem_judge.specs.Lists.{EachBelow}
+use Rattle.totem_judge.proofs.Common.{AgreesAt, EachBelow}
 use Rattle.totem_judge.proofs.judging.all_agree.Given as goal
 
 abbrev pub invariant-loop-one : goal.invariant-loop-one

@@ -1,7 +1,6 @@
-use Rattle.std.proofs.Common.{◌≡◌, ◌∷◌, [], List, length, refl, sym, ap, subst, ◌∙◌, append_assoc, append-nil, arith}
+use Rattle.totem_judge.proofs.Common.{◌≡◌, ◌∷◌, [], List, length, refl, sym, ap, subst, ◌∙◌, append_assoc, append-nil, arith, AreObserved}
 use Rattle.std.specs.Vec.Iter.{into_iter_items}
 use Rattle.totem_judge.specs.declared.gathered.Gathered.{Gathered}
-use Rattle.totem_judge.specs.Judged.{AreObserved}
 use Rattle.totem_judge.proofs.OneByOne.{observed_none, observed_more, nothing_left}
 use Rattle.totem_judge.proofs.judging.observe_all.Goals as goal
 

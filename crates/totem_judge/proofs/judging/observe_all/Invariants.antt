@@ -1,6 +1,5 @@
-use Rattle.std.proofs.Common.{◌≡◌, ◌++◌, length}
+use Rattle.totem_judge.proofs.Common.{◌≡◌, ◌++◌, length, AreObserved}
 use Rattle.std.specs.Vec.Iter.{into_iter_items, into_iter_len}
-use Rattle.totem_judge.specs.Judged.{AreObserved}
 use Rattle.totem_judge.proofs.judging.observe_all.Given as goal
 
 abbrev pub invariant-loop-gathered : goal.invariant-loop-gathered

@@ -1,5 +1,4 @@
-use Rattle.std.proofs.Common.{ap, ◌∙◌}
-use Rattle.totem_evs.specs.RunRecord.{RunRecord}
+use Rattle.totem_judge.proofs.Common.{ap, ◌∙◌, RunRecord}
 use Rattle.totem_judge.proofs.Settled.{view}
 use Rattle.totem_judge.proofs.judging.observe_configurations.Goals as goal
 

@@ -1,6 +1,4 @@
-use Rattle.std.proofs.Common.{◌≡◌, slice_get, Some, refl, ap}
-use Rattle.std.proofs.lemmas.Option.{slice_get_read}
-use Rattle.totem_evs.specs.LogRecord.{LogRecord}
+use Rattle.totem_judge.proofs.Common.{◌≡◌, slice_get, Some, refl, ap, slice_get_read, LogRecord}
 use Rattle.totem_judge.proofs.Steps.{adds_none, adds_more}
 use Rattle.totem_judge.proofs.pending.add_pending.Goals as goal
 

@@ -1,5 +1,4 @@
-use Rattle.std.proofs.Common.{◌≡◌, slice_get, Some, refl, arith}
-use Rattle.std.proofs.lemmas.Option.{slice_get_read}
+use Rattle.totem_judge.proofs.Common.{◌≡◌, slice_get, Some, refl, arith, slice_get_read}
 use Rattle.totem_judge.proofs.Steps.{listed_more, delivered_more, sent_more}
 use Rattle.totem_judge.proofs.replay.are_as_listed.Goals.{in-Send+else-not-is_origin_at, in-Deliver+else-not-is_delivery_of, in-Conf+else-at-stay, in-Fail}
 use Rattle.totem_judge.proofs.replay.are_as_listed.Goals as goal

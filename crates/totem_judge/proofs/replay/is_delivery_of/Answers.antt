@@ -1,5 +1,4 @@
-use Rattle.std.proofs.Common.{◌≡◌, ℕ, slice_get, Some, sym, ◌∙◌, subst, rules}
-use Rattle.std.proofs.lemmas.Option.{slice_get-get_or}
+use Rattle.totem_judge.proofs.Common.{◌≡◌, ℕ, slice_get, Some, sym, ◌∙◌, subst, rules, slice_get-get_or}
 use Rattle.totem_judge.proofs.replay.is_delivery_of.Goals as goal
 
 pub returns : goal.returns

@@ -1,5 +1,4 @@
-use Rattle.std.proofs.Common.{refl}
-use Rattle.std.proofs.lemmas.Option.{slice_get_read}
+use Rattle.totem_judge.proofs.Common.{refl, slice_get_read}
 use Rattle.totem_judge.proofs.Steps.{skipped_more}
 use Rattle.totem_judge.proofs.replay.next_got.Goals as goal
 

@@ -1,6 +1,4 @@
-use Rattle.std.proofs.Common.{refl, ap, arith}
-use Rattle.std.proofs.lemmas.Option.{slice_get_read}
-use Rattle.totem_judge_traffic.specs.declared.traffic.Sent.{Sent}
+use Rattle.totem_judge.proofs.Common.{refl, ap, arith, slice_get_read, Sent}
 use Rattle.totem_judge.proofs.Steps.{unsent_more}
 use Rattle.totem_judge.proofs.replay.next_sent.Goals as goal
 

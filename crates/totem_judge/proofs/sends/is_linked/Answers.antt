@@ -1,6 +1,4 @@
-use Rattle.std.proofs.Common.{sym, ◌∙◌, arith}
-use Rattle.std.proofs.lemmas.Bool.{OnTrue_from}
-use Rattle.totem_judge.specs.Lists.{IsLinked}
+use Rattle.totem_judge.proofs.Common.{sym, ◌∙◌, arith, OnTrue_from, IsLinked}
 use Rattle.totem_judge.proofs.sends.is_linked.Goals as goal
 
 pub returns-then-got-index : goal.returns-then-got-index

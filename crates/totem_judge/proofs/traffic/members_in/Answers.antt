@@ -1,7 +1,4 @@
-use Rattle.std.proofs.Common.{Some, refl, ap, ◌∙◌, arith, rules}
-use Rattle.std.proofs.lemmas.Option.{slice_get_read}
-use Rattle.totem_evs.specs.declared.entry.Entry.{Entry}
-use Rattle.totem_evs.specs.LogRecord.{LogRecord}
+use Rattle.totem_judge.proofs.Common.{Some, refl, ap, ◌∙◌, arith, rules, slice_get_read, Entry, LogRecord}
 use Rattle.totem_judge.proofs.traffic.members_in.Goals as goal
 
 pub returns-in-Conf : goal.returns-in-Conf

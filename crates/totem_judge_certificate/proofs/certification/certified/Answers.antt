@@ -1,7 +1,5 @@
-use Rattle.std.proofs.Common.{Err, Ok, ap, ◌∙◌}
-use Rattle.totem_evs.specs.RunRecord.{RunRecord}
+use Rattle.totem_judge_certificate.proofs.Common.{Err, Ok, ap, ◌∙◌, RunRecord, all_rise, one_falls}
 use Rattle.totem_outcome.specs.declared.certificate_fault.CertificateFault.TheVariants as faults
-use Rattle.totem_outcome.proofs.Certain.{all_rise, one_falls}
 use Rattle.totem_outcome.proofs.Exactly.{exactly}
 use Rattle.totem_judge_certificate.proofs.Faulty.{ordered, named, refused}
 use Rattle.totem_judge_certificate.proofs.certification.certified.Goals as goal

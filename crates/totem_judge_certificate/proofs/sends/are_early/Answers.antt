@@ -1,9 +1,4 @@
-use Rattle.std.proofs.Common.{refl, ◌∙◌, ap, length, arith}
-use Rattle.std.proofs.lemmas.Option.{slice_get_read}
-use Rattle.totem_evs.specs.LogRecord.{LogRecord}
-use Rattle.totem_evs.specs.Certificates.{Numbering}
-use Rattle.totem_outcome.proofs.Matching.{as_many}
-use Rattle.totem_outcome.proofs.Standing.{in_stands}
+use Rattle.totem_judge_certificate.proofs.Common.{refl, ◌∙◌, ap, length, arith, slice_get_read, LogRecord, Numbering, as_many, in_stands}
 use Rattle.totem_judge_certificate.proofs.Entering.{more_past, next_log, number_within, read_in}
 use Rattle.totem_judge_certificate.proofs.Spreading.{one_late}
 use Rattle.totem_judge_certificate.proofs.sends.are_early.Goals as goal

@@ -1,6 +1,4 @@
-use Rattle.std.proofs.Common.{refl, ◌∙◌, ap, length, arith}
-use Rattle.std.proofs.lemmas.Option.{slice_get_read}
-use Rattle.totem_evs.specs.LogRecord.{LogRecord}
+use Rattle.totem_judge_certificate.proofs.Common.{refl, ◌∙◌, ap, length, arith, slice_get_read, LogRecord}
 use Rattle.totem_judge_certificate.proofs.Walking.{head_read, ahead_of}
 use Rattle.totem_judge_certificate.proofs.walk.entry_at.Goals as goal
 

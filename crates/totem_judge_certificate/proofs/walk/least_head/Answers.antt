@@ -1,5 +1,4 @@
-use Rattle.std.proofs.Common.{refl, sym, ◌∙◌, arith}
-use Rattle.std.proofs.lemmas.Option.{slice_get_read, slice_get-get_or}
+use Rattle.totem_judge_certificate.proofs.Common.{refl, sym, ◌∙◌, arith, slice_get_read, slice_get-get_or}
 use Rattle.totem_judge_certificate.proofs.Walking.{head_above, least_next, is_head, no_head, skips_line, takes_line, least_of_all}
 use Rattle.totem_judge_certificate.proofs.walk.least_head.Goals as goal
 use Rattle.totem_judge_certificate.proofs.walk.least_head.Goals.{in-Some+else-number-last-eq1, in_default}

@@ -1,5 +1,4 @@
-use Rattle.std.proofs.Common.{inl, refl, arith}
-use Rattle.std.proofs.lemmas.Option.{slice_get_read, slice_get-get_or}
+use Rattle.totem_judge_certificate.proofs.Common.{inl, refl, arith, slice_get_read, slice_get-get_or}
 use Rattle.totem_judge_certificate.proofs.Walking.{is_head, ahead_number, ahead_before, as_before, own_ahead, ones_more, sharing, steps, stays}
 use Rattle.totem_judge_certificate.proofs.walk.pass.Goals as goal
 use Rattle.totem_judge_certificate.proofs.walk.pass.Goals.{then-log-head+else-not-is_of_class_of, else-log-head}

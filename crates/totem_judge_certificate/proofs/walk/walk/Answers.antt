@@ -1,5 +1,4 @@
-use Rattle.std.proofs.Common.{inr, arith}
-use Rattle.totem_outcome.proofs.Certain.{others_share}
+use Rattle.totem_judge_certificate.proofs.Common.{inr, arith, others_share}
 use Rattle.totem_judge_certificate.proofs.Walking.{ahead_stands, head_is_above, step_passed, all_passed}
 use Rattle.totem_judge_certificate.proofs.Passing.{is_next, too_late, clean_more, classes_more, all_clean}
 use Rattle.totem_judge_certificate.proofs.walk.walk.Goals as goal

@@ -1,5 +1,4 @@
-use Rattle.std.proofs.Common.{◌≡◌, ◌-◌, ◌^◌, length}
-use Rattle.totem_judge_certificate.specs.Walks.{IsPassed, AreClasses, IsCleanTo}
+use Rattle.totem_judge_certificate.proofs.Common.{◌≡◌, ◌-◌, ◌^◌, length, IsPassed, AreClasses, IsCleanTo}
 use Rattle.totem_judge_certificate.proofs.walk.walk.Given as goal
 
 abbrev pub invariant-loop-head : goal.invariant-loop-head

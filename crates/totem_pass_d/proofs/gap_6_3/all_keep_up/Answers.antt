@@ -1,5 +1,4 @@
-use Rattle.std.proofs.Common.{◌≡◌, slice_get, Some, refl, arith}
-use Rattle.std.proofs.lemmas.Option.{slice_get_read, slice_get-get_or, slice_get_within}
+use Rattle.totem_pass_d.proofs.Common.{◌≡◌, slice_get, Some, refl, arith, slice_get_read, slice_get-get_or, slice_get_within}
 use Rattle.totem_pass_d.proofs.GapFaults.{keep_up_more, keep_up_whole}
 use Rattle.totem_pass_d.proofs.gap_6_3.all_keep_up.Goals as goal
 

@@ -1,7 +1,8 @@
 use Rattle.totem_evs.specs.declared.spec.SpecNo.TheVariants as spec
 use Rattle.totem_pass_d.proofs.Facts.{facts_of}
 use Rattle.totem_pass_d.proofs.Searching.{answered}
-use Rattle.totem_pass_d.proofs.GapFaults.{gaps_begin, no_gaps}
+use Rattle.totem_search.proofs.Meeting.{no_gaps}
+use Rattle.totem_pass_d.proofs.GapFaults.{gaps_begin}
 use Rattle.totem_pass_d.proofs.gap_6_3.find.Goals as goal
 
 pub least_found-requires-clause-begins : goal.least_found-requires-clause-begins

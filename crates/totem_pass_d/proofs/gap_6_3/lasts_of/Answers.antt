@@ -1,6 +1,4 @@
-use Rattle.std.proofs.Common.{refl, ◌≡◌, length, ap, arith}
-use Rattle.std.proofs.lemmas.Option.{slice_get_read}
-use Rattle.totem_evs.proofs.Pushing.{along_more}
+use Rattle.totem_pass_d.proofs.Common.{refl, ◌≡◌, length, ap, arith, slice_get_read, along_more}
 use Rattle.totem_pass_d.proofs.GapFaults.{lasts_whole}
 use Rattle.totem_pass_d.proofs.gap_6_3.lasts_of.Goals as goal
 

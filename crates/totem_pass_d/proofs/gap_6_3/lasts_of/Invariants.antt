@@ -1,5 +1,4 @@
-use Rattle.totem_evs.proofs.Pushing.{Along}
-use Rattle.totem_pass_d.specs.Searched.{IsLast}
+use Rattle.totem_pass_d.proofs.Common.{Along, IsLast}
 use Rattle.totem_pass_d.proofs.gap_6_3.lasts_of.Given as goal
 
 abbrev pub invariant-loop-follower : goal.invariant-loop-follower

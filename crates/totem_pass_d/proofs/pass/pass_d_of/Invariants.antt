@@ -1,5 +1,4 @@
-use Rattle.std.proofs.Common.{take}
-use Rattle.totem_pass_d.specs.Findings.{AreFound}
+use Rattle.totem_pass_d.proofs.Common.{take, AreFound}
 use Rattle.totem_pass_d.proofs.pass.pass_d_of.Given as goal
 
 abbrev pub invariant-loop-index : goal.invariant-loop-index

@@ -1,6 +1,6 @@
-use Rattle.std.proofs.Common.{refl}
-use Rattle.std.proofs.lemmas.Option.{slice_get_read}
-use Rattle.totem_pass_d.proofs.WhatIsPending.{IsMissed, some_more, not_missed, one_missed, all_missing}
+use Rattle.totem_pass_d.proofs.Common.{refl, slice_get_read}
+use Rattle.totem_pass_d.proofs.WhatIsPending.{IsMissed, not_missed, one_missed, all_missing}
+use Rattle.totem_search.proofs.Adding.{some_more}
 use Rattle.totem_pass_d.proofs.pendings.add_missing.Goals as goal
 use Rattle.totem_pass_d.proofs.pendings.add_missing.Goals.{then-not-delivers+in_ok-push, else-not-delivers}
 

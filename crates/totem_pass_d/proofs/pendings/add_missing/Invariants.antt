@@ -1,5 +1,6 @@
-use Rattle.totem_pass_d.specs.Pendings.{Adds}
-use Rattle.totem_pass_d.proofs.WhatIsPending.{AtSome, IsMissed}
+use Rattle.totem_search.specs.Adding.{Adds}
+use Rattle.totem_search.proofs.Adding.{AtSome}
+use Rattle.totem_pass_d.proofs.WhatIsPending.{IsMissed}
 use Rattle.totem_pass_d.proofs.pendings.add_missing.Given as goal
 
 abbrev pub invariant-loop-message : goal.invariant-loop-message

@@ -1,6 +1,6 @@
-use Rattle.std.proofs.Common.{refl}
-use Rattle.std.proofs.lemmas.Option.{slice_get_read}
-use Rattle.totem_pass_d.proofs.WhatIsPending.{some_more, IsPendingThere, all_stays}
+use Rattle.totem_pass_d.proofs.Common.{refl, slice_get_read}
+use Rattle.totem_pass_d.proofs.WhatIsPending.{IsPendingThere, all_stays}
+use Rattle.totem_search.proofs.Adding.{some_more}
 use Rattle.totem_pass_d.proofs.pendings.add_pending.Goals as goal
 
 pub loop-stay-preserved : goal.loop-stay-preserved

@@ -1,8 +1,7 @@
-use Rattle.std.proofs.Common.{refl}
-use Rattle.std.proofs.lemmas.Option.{slice_get_read}
+use Rattle.totem_pass_d.proofs.Common.{refl, slice_get_read, IsPendingIn}
 use Rattle.totem_judge_run.proofs.PendingOrder.{are_pending_if_ok, empty_has_none}
-use Rattle.totem_pass_d.specs.Pendings.{IsPendingIn}
-use Rattle.totem_pass_d.proofs.WhatIsPending.{some_more, all_rings}
+use Rattle.totem_pass_d.proofs.WhatIsPending.{all_rings}
+use Rattle.totem_search.proofs.Adding.{some_more}
 use Rattle.totem_pass_d.proofs.pendings.pending_of.Goals as goal
 
 pub loop-ring-preserved : goal.loop-ring-preserved

@@ -1,5 +1,6 @@
-use Rattle.totem_pass_d.specs.Pendings.{Adds, IsPendingIn}
-use Rattle.totem_pass_d.proofs.WhatIsPending.{AtSome}
+use Rattle.totem_search.specs.Adding.{Adds}
+use Rattle.totem_search.proofs.Adding.{AtSome}
+use Rattle.totem_pass_d.specs.Pendings.{IsPendingIn}
 use Rattle.totem_pass_d.proofs.pendings.pending_of.Given as goal
 
 abbrev pub invariant-loop-ring : goal.invariant-loop-ring

@@ -1,5 +1,4 @@
-use Rattle.std.proofs.Common.{refl}
-use Rattle.std.proofs.lemmas.Option.{slice_get_read}
+use Rattle.totem_pass_d.proofs.Common.{refl, slice_get_read}
 use Rattle.totem_pass_d.proofs.Searching.{least_here, none_before_more, none_at_end}
 use Rattle.totem_pass_d.proofs.search.first_found.Goals as goal
 

@@ -1,5 +1,4 @@
-use Rattle.std.proofs.Common.{refl, arith}
-use Rattle.std.proofs.lemmas.Option.{slice_get-get_or}
+use Rattle.totem_pass_d.proofs.Common.{refl, arith, slice_get-get_or}
 use Rattle.totem_pass_d.proofs.Sending.{notes_nothing, notes_one}
 use Rattle.totem_pass_d.proofs.stays.note_sends.Goals.{in-Send+in_ok-insert, in_default}
 use Rattle.totem_pass_d.proofs.stays.note_sends.Goals as goal

@@ -1,5 +1,4 @@
-use Rattle.std.proofs.Common.{refl}
-use Rattle.std.proofs.lemmas.Option.{slice_get_read}
+use Rattle.totem_pass_d.proofs.Common.{refl, slice_get_read}
 use Rattle.totem_pass_d.proofs.Sending.{sends_more}
 use Rattle.totem_pass_d.proofs.stays.sends_of.Goals as goal
 

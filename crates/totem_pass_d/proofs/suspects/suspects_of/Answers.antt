@@ -1,5 +1,4 @@
-use Rattle.std.proofs.Common.{refl}
-use Rattle.std.proofs.lemmas.Option.{slice_get_read}
+use Rattle.totem_pass_d.proofs.Common.{refl, slice_get_read}
 use Rattle.totem_names.specs.contracts.message.MsgIdOrd.TheImpl as message
 use Rattle.totem_pass_d.proofs.CausalityFaults.{pairs_more, pairs_next}
 use Rattle.totem_pass_d.proofs.suspects.suspects_of.Goals as goal

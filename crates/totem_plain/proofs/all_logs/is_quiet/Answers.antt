@@ -1,5 +1,4 @@
-use Rattle.std.proofs.Common.{sym, ◌∙◌, ap}
-use Rattle.totem_evs.specs.LogRecord.{LogRecord}
+use Rattle.totem_plain.proofs.Common.{sym, ◌∙◌, ap, LogRecord}
 use Rattle.totem_plain.proofs.Logs.{no_ending, quiet_told}
 use Rattle.totem_plain.proofs.all_logs.is_quiet.Goals as goal
 

@@ -1,8 +1,4 @@
-use Rattle.std.proofs.Common.{◌≡◌, refl, sym, ◌∙◌, ap}
-use Rattle.std.proofs.lemmas.Option.{slice_get_read}
-use Rattle.totem_evs.specs.LogRecord.{LogRecord}
-use Rattle.totem_evs.specs.RunRecord.{RunRecord}
-use Rattle.totem_search.proofs.Loops.{none_more, none_at}
+use Rattle.totem_plain.proofs.Common.{◌≡◌, refl, sym, ◌∙◌, ap, slice_get_read, LogRecord, RunRecord, none_more, none_at}
 use Rattle.totem_plain.proofs.Logs.{no_log, is_log}
 use Rattle.totem_plain.proofs.all_logs.log_at.Goals as goal
 

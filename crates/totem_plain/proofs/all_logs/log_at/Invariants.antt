@@ -1,5 +1,4 @@
-use Rattle.std.proofs.Common.{◌≡◌}
-use Rattle.totem_search.proofs.Loops.{NoneBelow, HasLogAt}
+use Rattle.totem_plain.proofs.Common.{◌≡◌, NoneBelow, HasLogAt}
 use Rattle.totem_plain.proofs.all_logs.log_at.Given as goal
 
 abbrev pub invariant-loop-log : goal.invariant-loop-log

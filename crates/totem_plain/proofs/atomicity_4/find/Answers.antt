@@ -1,6 +1,7 @@
 use Rattle.totem_evs.specs.declared.spec.SpecNo.TheVariants as spec
 use Rattle.totem_search.proofs.Searching.{finds_in}
-use Rattle.totem_plain.proofs.Partings.{deliveries_begin, atomic}
+use Rattle.totem_search.proofs.Meeting.{atomic}
+use Rattle.totem_plain.proofs.Partings.{deliveries_begin}
 use Rattle.totem_plain.proofs.atomicity_4.find.Goals as goal
 
 pub least_places-requires-clause-begins : goal.least_places-requires-clause-begins

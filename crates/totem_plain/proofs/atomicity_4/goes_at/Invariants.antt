@@ -1,5 +1,4 @@
-use Rattle.totem_plain.specs.Rings.{GoesFrom}
-use Rattle.totem_search.proofs.Loops.{NoneBelow}
+use Rattle.totem_plain.proofs.Common.{GoesFrom, NoneBelow}
 use Rattle.totem_plain.proofs.atomicity_4.goes_at.Given as goal
 
 abbrev pub invariant-loop-from : goal.invariant-loop-from

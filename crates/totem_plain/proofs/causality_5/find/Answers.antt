@@ -1,6 +1,7 @@
 use Rattle.totem_evs.specs.declared.spec.SpecNo.TheVariants as spec
 use Rattle.totem_search.proofs.Searching.{finds_in}
-use Rattle.totem_plain.proofs.Causes.{causes_begin, causal}
+use Rattle.totem_search.proofs.Meeting.{causal}
+use Rattle.totem_plain.proofs.Causes.{causes_begin}
 use Rattle.totem_plain.proofs.causality_5.find.Goals as goal
 
 pub least_places-requires-clause-begins : goal.least_places-requires-clause-begins

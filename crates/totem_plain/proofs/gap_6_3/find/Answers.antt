@@ -1,6 +1,7 @@
 use Rattle.totem_evs.specs.declared.spec.SpecNo.TheVariants as spec
 use Rattle.totem_search.proofs.Searching.{finds_in}
-use Rattle.totem_plain.proofs.Lacks.{gaps_begin, no_gaps}
+use Rattle.totem_search.proofs.Meeting.{no_gaps}
+use Rattle.totem_plain.proofs.Lacks.{gaps_begin}
 use Rattle.totem_plain.proofs.gap_6_3.find.Goals as goal
 
 pub least_places-requires-clause-begins : goal.least_places-requires-clause-begins

@@ -1,6 +1,5 @@
-use Rattle.std.proofs.Common.{refl}
-use Rattle.std.proofs.lemmas.Option.{slice_get_read}
-use Rattle.totem_plain.proofs.Gathering.{some_more, all_added}
+use Rattle.totem_plain.proofs.Common.{refl, slice_get_read}
+use Rattle.totem_search.proofs.Adding.{some_more, all_added}
 use Rattle.totem_plain.proofs.gathered.add_log.Goals as goal
 
 pub loop-entry-preserved : goal.loop-entry-preserved

@@ -1,5 +1,5 @@
-use Rattle.totem_plain.specs.Gathered.{Adds}
-use Rattle.totem_plain.proofs.Gathering.{AtSome}
+use Rattle.totem_search.specs.Adding.{Adds}
+use Rattle.totem_search.proofs.Adding.{AtSome}
 use Rattle.totem_plain.proofs.gathered.add_log.Given as goal
 
 abbrev pub invariant-loop-entry : goal.invariant-loop-entry

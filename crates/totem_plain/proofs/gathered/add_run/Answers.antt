@@ -1,10 +1,6 @@
-use Rattle.std.proofs.Common.{refl, ◌∙◌, ap}
-use Rattle.std.proofs.lemmas.Option.{slice_get_read}
-use Rattle.totem_evs.specs.declared.log.Log.{Log}
-use Rattle.totem_evs.specs.LogRecord.{LogRecord}
-use Rattle.totem_evs.specs.RunRecord.{RunRecord}
-use Rattle.totem_search.specs.Entries.{HasOne}
-use Rattle.totem_plain.proofs.Gathering.{some_more, all_added, log_added}
+use Rattle.totem_plain.proofs.Common.{refl, ◌∙◌, ap, slice_get_read, Log, LogRecord, RunRecord, HasOne}
+use Rattle.totem_search.proofs.Adding.{some_more, all_added}
+use Rattle.totem_plain.proofs.Gathering.{log_added}
 use Rattle.totem_plain.proofs.gathered.add_run.Goals as goal
 
 pub loop-log-preserved : goal.loop-log-preserved

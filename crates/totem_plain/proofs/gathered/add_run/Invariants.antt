@@ -1,7 +1,5 @@
-use Rattle.totem_evs.specs.declared.log.Log.{Log}
-use Rattle.totem_search.specs.Entries.{HasOne}
-use Rattle.totem_plain.specs.Gathered.{Adds}
-use Rattle.totem_plain.proofs.Gathering.{AtSome}
+use Rattle.totem_plain.proofs.Common.{Log, HasOne, Adds}
+use Rattle.totem_search.proofs.Adding.{AtSome}
 use Rattle.totem_plain.proofs.gathered.add_run.Given as goal
 
 abbrev pub invariant-loop-log : goal.invariant-loop-log

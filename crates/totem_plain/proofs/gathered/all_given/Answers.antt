@@ -1,11 +1,6 @@
-use Rattle.std.proofs.Common.{refl, ◌∙◌, ap}
-use Rattle.std.proofs.lemmas.Option.{slice_get_read}
-use Rattle.std.proofs.lemmas.Result.{IfOk-weaker}
-use Rattle.totem_evs.specs.declared.log.Log.{Log}
-use Rattle.totem_evs.specs.LogRecord.{LogRecord}
-use Rattle.totem_evs.specs.RunRecord.{RunRecord}
-use Rattle.totem_search.specs.Entries.{SomeLog}
-use Rattle.totem_plain.proofs.Gathering.{some_more, all_added, all_listed}
+use Rattle.totem_plain.proofs.Common.{refl, ◌∙◌, ap, slice_get_read, IfOk-weaker, Log, LogRecord, RunRecord, SomeLog}
+use Rattle.totem_search.proofs.Adding.{some_more, all_added}
+use Rattle.totem_plain.proofs.Gathering.{all_listed}
 use Rattle.totem_plain.proofs.gathered.all_given.Goals as goal
 
 pub loop-log-preserved : goal.loop-log-preserved

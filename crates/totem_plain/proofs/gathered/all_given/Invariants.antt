@@ -1,7 +1,5 @@
-use Rattle.totem_evs.specs.declared.log.Log.{Log}
-use Rattle.totem_search.specs.Entries.{SomeLog}
-use Rattle.totem_plain.specs.Gathered.{Adds}
-use Rattle.totem_plain.proofs.Gathering.{AtSome}
+use Rattle.totem_plain.proofs.Common.{Log, SomeLog, Adds}
+use Rattle.totem_search.proofs.Adding.{AtSome}
 use Rattle.totem_plain.proofs.gathered.all_given.Given as goal
 
 abbrev pub invariant-loop-log : goal.invariant-loop-log

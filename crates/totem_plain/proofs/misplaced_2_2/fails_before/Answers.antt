@@ -1,5 +1,4 @@
-use Rattle.std.proofs.Common.{arith}
-use Rattle.totem_search.proofs.Loops.{none_more, denied, no_is}
+use Rattle.totem_plain.proofs.Common.{arith, none_more, denied, no_is}
 use Rattle.totem_plain.proofs.misplaced_2_2.fails_before.Goals as goal
 
 pub loop-at-preserved : goal.loop-at-preserved

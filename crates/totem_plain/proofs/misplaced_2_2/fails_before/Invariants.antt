@@ -1,5 +1,4 @@
-use Rattle.totem_plain.specs.Plain.{IsFailureAt}
-use Rattle.totem_search.proofs.Loops.{NoneBelow}
+use Rattle.totem_plain.proofs.Common.{IsFailureAt, NoneBelow}
 use Rattle.totem_plain.proofs.misplaced_2_2.fails_before.Given as goal
 
 abbrev pub invariant-loop-at : goal.invariant-loop-at

@@ -1,6 +1,4 @@
-use Rattle.std.proofs.Common.{refl, arith}
-use Rattle.std.proofs.lemmas.Option.{slice_get_read}
-use Rattle.totem_outcome.proofs.Matching.{as_many, matches_at}
+use Rattle.totem_plain.proofs.Common.{refl, arith, slice_get_read, as_many, matches_at}
 use Rattle.totem_plain.proofs.Numbering.{log_more, each_event, some_event}
 use Rattle.totem_plain.proofs.numbered.each_entry.Goals as goal
 

@@ -1,7 +1,4 @@
-use Rattle.std.proofs.Common.{refl, ap, ◌∙◌, length, arith}
-use Rattle.std.proofs.lemmas.Option.{slice_get_read, slice_get-get_or}
-use Rattle.totem_evs.specs.LogRecord.{LogRecord}
-use Rattle.totem_evs.specs.Certificates.{Numbering}
+use Rattle.totem_plain.proofs.Common.{refl, ap, ◌∙◌, length, arith, slice_get_read, slice_get-get_or, LogRecord, Numbering}
 use Rattle.totem_plain.proofs.Numbering.{entry_more}
 use Rattle.totem_plain.proofs.numbered.each_in.Goals as goal
 

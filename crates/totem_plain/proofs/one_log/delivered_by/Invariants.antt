@@ -1,5 +1,4 @@
-use Rattle.totem_evs.specs.Events.{Delivers}
-use Rattle.totem_search.proofs.Loops.{NoneBelow}
+use Rattle.totem_plain.proofs.Common.{Delivers, NoneBelow}
 use Rattle.totem_plain.proofs.one_log.delivered_by.Given as goal
 
 abbrev pub invariant-loop-at : goal.invariant-loop-at

@@ -1,5 +1,4 @@
-use Rattle.totem_evs.specs.Following.{DeliversIn}
-use Rattle.totem_search.proofs.Loops.{NoneBelow}
+use Rattle.totem_plain.proofs.Common.{DeliversIn, NoneBelow}
 use Rattle.totem_plain.proofs.one_log.delivers_before.Given as goal
 
 abbrev pub invariant-loop-at : goal.invariant-loop-at

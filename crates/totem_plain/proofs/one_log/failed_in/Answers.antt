@@ -1,5 +1,4 @@
-use Rattle.std.proofs.lemmas.Option.{slice_get_within}
-use Rattle.totem_search.proofs.Loops.{none_more, denied, none_yet, no_is}
+use Rattle.totem_plain.proofs.Common.{slice_get_within, none_more, denied, none_yet, no_is}
 use Rattle.totem_plain.proofs.one_log.failed_in.Goals as goal
 
 pub loop-at-preserved : goal.loop-at-preserved

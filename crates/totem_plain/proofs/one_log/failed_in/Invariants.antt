@@ -1,5 +1,4 @@
-use Rattle.totem_plain.specs.Plain.{FailsInAt}
-use Rattle.totem_search.proofs.Loops.{NoneBelow}
+use Rattle.totem_plain.proofs.Common.{FailsInAt, NoneBelow}
 use Rattle.totem_plain.proofs.one_log.failed_in.Given as goal
 
 abbrev pub invariant-loop-at : goal.invariant-loop-at

@@ -1,5 +1,4 @@
-use Rattle.std.proofs.lemmas.Option.{slice_get_within}
-use Rattle.totem_search.proofs.Loops.{none_yet}
+use Rattle.totem_plain.proofs.Common.{slice_get_within, none_yet}
 use Rattle.totem_plain.proofs.one_log.last_change.Goals as goal
 
 pub returns-clause-none : goal.returns-clause-none

@@ -1,6 +1,5 @@
-use Rattle.totem_evs.specs.Events.{IsChange}
+use Rattle.totem_plain.proofs.Common.{IsChange, NoneBelow}
 use Rattle.totem_search.specs.Following.{NoNextChange}
-use Rattle.totem_search.proofs.Loops.{NoneBelow}
 use Rattle.totem_plain.proofs.one_log.last_change.Given as goal
 
 abbrev pub invariant-loop-at : goal.invariant-loop-at

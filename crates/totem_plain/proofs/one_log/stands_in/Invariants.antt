@@ -1,5 +1,4 @@
-use Rattle.totem_plain.specs.Plain.{IsLastChangeBefore}
-use Rattle.totem_search.proofs.Loops.{NoneBelow}
+use Rattle.totem_plain.proofs.Common.{IsLastChangeBefore, NoneBelow}
 use Rattle.totem_plain.proofs.one_log.stands_in.Given as goal
 
 abbrev pub invariant-loop-at : goal.invariant-loop-at

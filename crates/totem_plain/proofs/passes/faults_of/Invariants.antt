@@ -1,5 +1,4 @@
-use Rattle.std.proofs.Common.{take}
-use Rattle.totem_evs.specs.Answers.{ListsRings}
+use Rattle.totem_plain.proofs.Common.{take, ListsRings}
 use Rattle.totem_plain.proofs.passes.faults_of.Given as goal
 
 abbrev pub invariant-loop-index : goal.invariant-loop-index

@@ -1,7 +1,5 @@
-use Rattle.std.proofs.Common.{[]}
+use Rattle.totem_plain.proofs.Common.{[], IfOk-weaker, lists_then}
 use Rattle.totem_evs.specs.declared.spec.SpecNo.TheVariants as spec
-use Rattle.std.proofs.lemmas.Result.{IfOk-weaker}
-use Rattle.totem_search.proofs.Listing.{lists_then}
 use Rattle.totem_plain.proofs.passes.pass_b.Goals as goal
 
 pub returns : goal.returns

@@ -1,5 +1,4 @@
-use Rattle.std.proofs.Common.{◌≢◌, [], rules}
-use Rattle.totem_outcome.proofs.Checking.{broken_first}
+use Rattle.totem_plain.proofs.Common.{◌≢◌, [], rules, broken_first}
 use Rattle.totem_plain.proofs.Judging.{none_listed, answered, accepted}
 use Rattle.totem_plain.proofs.plainly.judged.Goals as goal
 

@@ -1,7 +1,4 @@
-use Rattle.std.proofs.Common.{refl, ◌∙◌, ap}
-use Rattle.std.proofs.lemmas.Option.{slice_get_read}
-use Rattle.totem_evs.specs.LogRecord.{LogRecord}
-use Rattle.totem_evs.specs.RunRecord.{RunRecord}
+use Rattle.totem_judge_run.proofs.Common.{refl, ◌∙◌, ap, slice_get_read, LogRecord, RunRecord}
 use Rattle.totem_search.specs.Entries.{HasOne}
 use Rattle.totem_search.proofs.Loops.{none_more, none_at, none_of_run, at_log, denied, yes_is, no_is}
 use Rattle.totem_search.proofs.entries.some_event.Goals as goal

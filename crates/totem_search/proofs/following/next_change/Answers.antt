@@ -1,5 +1,4 @@
-use Rattle.std.proofs.Common.{arith}
-use Rattle.std.proofs.lemmas.Option.{slice_get_within}
+use Rattle.totem_judge_run.proofs.Common.{arith, slice_get_within}
 use Rattle.totem_search.proofs.Loops.{none_more, denied, none_yet}
 use Rattle.totem_search.proofs.following.next_change.Goals as goal
 

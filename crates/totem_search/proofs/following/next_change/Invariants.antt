@@ -1,5 +1,4 @@
-use Rattle.std.specs.Prelude.{◌<◌}
-use Rattle.totem_evs.specs.Events.{IsChange}
+use Rattle.totem_judge_run.proofs.Common.{◌<◌, IsChange}
 use Rattle.totem_search.proofs.Loops.{NoneBelow}
 use Rattle.totem_search.proofs.following.next_change.Given as goal
 

@@ -1,5 +1,4 @@
-use Rattle.std.proofs.Common.{◌<◌, length, refl, arith}
-use Rattle.std.proofs.lemmas.Option.{slice_get_read}
+use Rattle.totem_judge_run.proofs.Common.{◌<◌, length, refl, arith, slice_get_read}
 use Rattle.totem_search.proofs.Turning.{succession_to_next, no_succession_to_end, next_is_change}
 use Rattle.totem_search.proofs.neighbours.succession_at.Goals as goal
 

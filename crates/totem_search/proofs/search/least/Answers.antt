@@ -1,9 +1,4 @@
-use Rattle.std.proofs.Common.{refl, sym, ◌∙◌, ap, List}
-use Rattle.std.proofs.lemmas.Option.{slice_get_read}
-use Rattle.totem_evs.specs.LogRecord.{LogRecord}
-use Rattle.totem_evs.specs.RunRecord.{RunRecord}
-use Rattle.totem_evs.specs.Events.{log_of}
-use Rattle.totem_evs.proofs.LogOf.{log_of_at}
+use Rattle.totem_judge_run.proofs.Common.{refl, sym, ◌∙◌, ap, List, slice_get_read, LogRecord, RunRecord, log_of, log_of_at}
 use Rattle.totem_search.proofs.Searching.{none_before_more, none_at_end, least_here}
 use Rattle.totem_search.proofs.search.least.Goals as goal
 

@@ -1,5 +1,4 @@
-use Rattle.std.proofs.Common.{refl}
-use Rattle.std.proofs.lemmas.Option.{slice_get_read}
+use Rattle.totem_judge_run.proofs.Common.{refl, slice_get_read}
 use Rattle.totem_search.proofs.Turning.{begins_decided, begins_regular, begins_no_change}
 use Rattle.totem_search.proofs.succession_2_4.begins_transitional.Goals as goal
 

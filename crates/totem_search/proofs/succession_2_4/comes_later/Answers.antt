@@ -1,5 +1,4 @@
-use Rattle.std.proofs.Common.{refl, arith}
-use Rattle.std.proofs.lemmas.Option.{slice_get_read}
+use Rattle.totem_judge_run.proofs.Common.{refl, arith, slice_get_read}
 use Rattle.totem_search.proofs.Turning.{none_between_yet, none_between_more, none_before}
 use Rattle.totem_search.proofs.succession_2_4.comes_later.Goals as goal
 

@@ -1,6 +1,5 @@
-use Rattle.std.proofs.Common.{ap}
+use Rattle.totem_judge_certificate.proofs.Common.{ap, class_barred_by}
 use Rattle.totem_judge_certificate.specs.declared.class.Class.TheVariants.{Change, Delivery}
-use Rattle.totem_judge_certificate.specs.ClassOf.{class_barred_by}
 use Rattle.totem_judge_certificate.proofs.Naming.{barred}
 use Rattle.totem_judge_certificate.proofs.passed.Passed.note.Goals as goal
 

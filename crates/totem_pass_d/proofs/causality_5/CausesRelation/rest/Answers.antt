@@ -1,7 +1,7 @@
-use Rattle.std.proofs.Common.{sym, ◌∙◌}
-use Rattle.totem_search.proofs.Searching.{started}
+use Rattle.totem_pass_d.proofs.Common.{sym, ◌∙◌, started}
 use Rattle.totem_pass_d.proofs.Facts.{facts_of}
-use Rattle.totem_pass_d.proofs.CausalityFaults.{send_here, effects_begin, cause_starts, none_unsuspected}
+use Rattle.totem_search.proofs.Causing.{cause_starts}
+use Rattle.totem_pass_d.proofs.CausalityFaults.{send_here, effects_begin, none_unsuspected}
 use Rattle.totem_pass_d.proofs.causality_5.CausesRelation.rest.Goals as goal
 
 pub returns-then-not-contains : goal.returns-then-not-contains

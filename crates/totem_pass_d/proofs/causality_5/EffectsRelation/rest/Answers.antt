@@ -1,5 +1,4 @@
-use Rattle.std.proofs.Common.{refl}
-use Rattle.totem_search.proofs.Searching.{started}
+use Rattle.totem_pass_d.proofs.Common.{refl, started}
 use Rattle.totem_pass_d.proofs.Facts.{facts_of}
 use Rattle.totem_pass_d.proofs.CausalityFaults.{send_here, not_first_begin, effect_starts}
 use Rattle.totem_pass_d.proofs.causality_5.EffectsRelation.rest.Goals as goal

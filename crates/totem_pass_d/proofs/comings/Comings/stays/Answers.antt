@@ -1,7 +1,4 @@
-use Rattle.std.proofs.Common.{arith, refl, sym, ap, ◌∙◌}
-use Rattle.std.proofs.lemmas.Option.{slice_get_read}
-use Rattle.totem_evs.specs.LogRecord.{LogRecord}
-use Rattle.totem_evs.specs.RunRecord.{RunRecord}
+use Rattle.totem_pass_d.proofs.Common.{arith, refl, sym, ap, ◌∙◌, slice_get_read, LogRecord, RunRecord}
 use Rattle.totem_pass_d.proofs.Coming.{few_entries, no_stay, one_stay, stay_at, from_within, all_stays}
 use Rattle.totem_pass_d.proofs.Sending.{are_sends}
 use Rattle.totem_pass_d.proofs.comings.Comings.stays.Goals.{in-Some+in_ok-stay_from+in_ok-push, in_default}

@@ -1,6 +1,4 @@
-use Rattle.std.proofs.Common.{refl}
-use Rattle.std.proofs.lemmas.Option.{slice_get_read}
-use Rattle.totem_names.proofs.Exact.{exact_ring}
+use Rattle.totem_pass_d.proofs.Common.{refl, slice_get_read, exact_ring}
 use Rattle.totem_table.proofs.Exact.{exact_change}
 use Rattle.totem_pass_d.proofs.Coming.{one_coming, keeps_comings}
 use Rattle.totem_pass_d.proofs.comings.ComingsChangeRegister.enter_change.Goals as goal

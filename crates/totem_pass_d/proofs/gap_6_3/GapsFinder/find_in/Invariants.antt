@@ -1,5 +1,4 @@
-use Rattle.totem_evs.specs.AgreementFaults.{BreaksGapIn}
-use Rattle.totem_pass_d.specs.Search.{IsInside, NoneBelow}
+use Rattle.totem_pass_d.proofs.Common.{BreaksGapIn, IsInside, NoneBelow}
 use Rattle.totem_pass_d.proofs.gap_6_3.GapsFinder.find_in.Given as goal
 
 abbrev pub invariant-loop-at : goal.invariant-loop-at

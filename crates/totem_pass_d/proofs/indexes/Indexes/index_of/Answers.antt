@@ -1,5 +1,4 @@
-use Rattle.std.proofs.Common.{sym, ◌∙◌}
-use Rattle.totem_pass_d.specs.Indexes.{told}
+use Rattle.totem_pass_d.proofs.Common.{sym, ◌∙◌, told}
 use Rattle.totem_pass_d.proofs.Sending.{untold_never}
 use Rattle.totem_pass_d.proofs.indexes.Indexes.index_of.Goals as goal
 

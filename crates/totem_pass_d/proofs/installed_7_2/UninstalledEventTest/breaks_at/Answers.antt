@@ -1,6 +1,5 @@
-use Rattle.std.proofs.Common.{refl, rules, tests}
+use Rattle.totem_pass_d.proofs.Common.{refl, rules, tests, HasCome}
 use Rattle.std.proofs.lemmas.Iterator.{cases_from_all, YieldsList-from_slice}
-use Rattle.totem_pass_d.specs.Acts.{HasCome}
 use Rattle.totem_pass_d.proofs.Facts.{facts_of}
 use Rattle.totem_pass_d.proofs.EventFaults.{where_not, where_all, all_or_not_all, installed_no_delivery, installed_late, installed_unsafe, installed_everywhere, installed_not}
 use Rattle.totem_pass_d.proofs.installed_7_2.UninstalledEventTest.breaks_at.Goals as goal

@@ -1,6 +1,4 @@
-use Rattle.std.proofs.Common.{◌≡◌, ◌∙◌}
-use Rattle.std.proofs.lemmas.Option.{get_or_from_slice_get}
-use Rattle.totem_pass_d.specs.Findings.{AreFindings}
+use Rattle.totem_pass_d.proofs.Common.{◌≡◌, ◌∙◌, get_or_from_slice_get, AreFindings}
 use Rattle.totem_pass_d.proofs.Listing.{none_found}
 use Rattle.totem_pass_d.proofs.jobs.Jobs.findings.Goals as goal
 

@@ -1,7 +1,4 @@
-use Rattle.std.proofs.Common.{refl, subst}
-use Rattle.std.proofs.lemmas.Option.{slice_get_read}
-use Rattle.totem_names.specs.declared.ring.RingId.{RingId}
-use Rattle.totem_judge_traffic.specs.Traffics.{IsTrafficOf}
+use Rattle.totem_pass_d.proofs.Common.{refl, subst, slice_get_read, RingId, IsTrafficOf}
 use Rattle.totem_pass_d.proofs.jobs.Jobs.traffic.Goals as goal
 
 pub returns : goal.returns

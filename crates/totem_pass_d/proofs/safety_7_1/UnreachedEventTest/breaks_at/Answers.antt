@@ -1,6 +1,5 @@
-use Rattle.std.proofs.Common.{ℕ, refl, rules, tests}
+use Rattle.totem_pass_d.proofs.Common.{ℕ, refl, rules, tests, DeliversOrEnds}
 use Rattle.std.proofs.lemmas.Iterator.{cases_from_all, YieldsList-from_slice}
-use Rattle.totem_evs.specs.Following.{DeliversOrEnds}
 use Rattle.totem_pass_d.proofs.Facts.{facts_of}
 use Rattle.totem_pass_d.proofs.EventFaults.{where_not, where_all, all_or_not_all, safety_no_delivery, safety_unsafe, safety_everywhere, safety_not}
 use Rattle.totem_pass_d.proofs.safety_7_1.UnreachedEventTest.breaks_at.Goals as goal

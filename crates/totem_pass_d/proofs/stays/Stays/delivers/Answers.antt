@@ -1,6 +1,4 @@
-use Rattle.std.proofs.Common.{◌≡◌, ℕ, Bool, Option, Some, None, IfSome}
-use Rattle.std.specs.Bool.{OnTrue}
-use Rattle.std.specs.Option.{is_some}
+use Rattle.totem_pass_d.proofs.Common.{◌≡◌, ℕ, Bool, Option, Some, None, IfSome, OnTrue, is_some}
 use Rattle.totem_pass_d.proofs.stays.Stays.delivers.Goals as goal
 
 there : (P : ℕ → Type 0) (found : Option ℕ) (b : Bool) → b ≡ is_some found → IfSome found P → OnTrue b ((k : ℕ) × P k)

@@ -1,5 +1,4 @@
-use Rattle.std.proofs.Common.{◌<◌, length, rules, arith}
-use Rattle.std.proofs.lemmas.Option.{slice_get-get_or}
+use Rattle.totem_pass_d.proofs.Common.{◌<◌, length, rules, arith, slice_get-get_or}
 use Rattle.totem_pass_d.proofs.Facts.{facts_of}
 use Rattle.totem_pass_d.proofs.stays.Stays.entry_in.Goals as goal
 

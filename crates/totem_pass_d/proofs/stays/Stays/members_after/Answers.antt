@@ -1,5 +1,4 @@
-use Rattle.std.proofs.Common.{refl, arith}
-use Rattle.std.proofs.lemmas.Option.{slice_get-get_or}
+use Rattle.totem_pass_d.proofs.Common.{refl, arith, slice_get-get_or}
 use Rattle.totem_pass_d.proofs.Facts.{facts_of}
 use Rattle.totem_pass_d.proofs.Reaching.{members_after}
 use Rattle.totem_pass_d.proofs.stays.Stays.members_after.Goals as goal

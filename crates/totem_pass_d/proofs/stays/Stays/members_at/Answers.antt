@@ -1,5 +1,4 @@
-use Rattle.std.proofs.Common.{arith}
-use Rattle.std.proofs.lemmas.Option.{slice_get-get_or}
+use Rattle.totem_pass_d.proofs.Common.{arith, slice_get-get_or}
 use Rattle.totem_pass_d.proofs.Facts.{facts_of}
 use Rattle.totem_pass_d.proofs.Reaching.{members_before, members_after}
 use Rattle.totem_pass_d.proofs.stays.Stays.members_at.Goals as goal

@@ -1,5 +1,4 @@
-use Rattle.std.proofs.Common.{refl, rules}
-use Rattle.std.proofs.lemmas.Option.{slice_get_read}
+use Rattle.totem_pass_d.proofs.Common.{refl, rules, slice_get_read}
 use Rattle.totem_pass_d.proofs.Searching.{not_one_more, never_comes}
 use Rattle.totem_pass_d.proofs.stays.Stays.stay_of.Goals as goal
 

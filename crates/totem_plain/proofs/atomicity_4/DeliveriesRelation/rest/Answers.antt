@@ -1,7 +1,4 @@
-use Rattle.std.proofs.Common.{refl}
-use Rattle.std.proofs.lemmas.Option.{slice_get_read}
-use Rattle.totem_search.proofs.Loops.{denied}
-use Rattle.totem_search.proofs.Searching.{started}
+use Rattle.totem_plain.proofs.Common.{refl, slice_get_read, denied, started}
 use Rattle.totem_plain.proofs.Partings.{goings_begin, delivery_starts, no_delivery}
 use Rattle.totem_plain.proofs.atomicity_4.DeliveriesRelation.rest.Goals as goal
 

@@ -1,7 +1,6 @@
-use Rattle.std.proofs.Common.{refl}
-use Rattle.std.proofs.lemmas.Option.{slice_get_read}
-use Rattle.totem_search.proofs.Searching.{started}
-use Rattle.totem_plain.proofs.Causes.{effects_begin, cause_starts}
+use Rattle.totem_plain.proofs.Common.{refl, slice_get_read, started}
+use Rattle.totem_search.proofs.Causing.{cause_starts}
+use Rattle.totem_plain.proofs.Causes.{effects_begin}
 use Rattle.totem_plain.proofs.causality_5.CausesRelation.rest.Goals as goal
 
 pub least-requires-clause-begins : goal.least-requires-clause-begins

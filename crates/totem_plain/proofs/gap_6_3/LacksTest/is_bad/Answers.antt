@@ -1,6 +1,4 @@
-use Rattle.std.proofs.Common.{refl}
-use Rattle.std.proofs.lemmas.Option.{slice_get_read}
-use Rattle.totem_search.proofs.Loops.{denied}
+use Rattle.totem_plain.proofs.Common.{refl, slice_get_read, denied}
 use Rattle.totem_plain.proofs.Lacks.{lack_told}
 use Rattle.totem_plain.proofs.gap_6_3.LacksTest.is_bad.Goals as goal
 

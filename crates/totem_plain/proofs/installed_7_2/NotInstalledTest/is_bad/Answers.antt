@@ -1,5 +1,4 @@
-use Rattle.std.proofs.Common.{refl}
-use Rattle.std.proofs.lemmas.Option.{slice_get_read}
+use Rattle.totem_plain.proofs.Common.{refl, slice_get_read}
 use Rattle.totem_plain.proofs.Alone.{installed_told}
 use Rattle.totem_plain.proofs.installed_7_2.NotInstalledTest.is_bad.Goals as goal
 

@@ -1,7 +1,5 @@
-use Rattle.std.proofs.Common.{refl}
-use Rattle.std.proofs.lemmas.Option.{slice_get_read}
-use Rattle.totem_plain.specs.Gathered.{WaitsFor}
-use Rattle.totem_plain.proofs.Gathering.{some_more, all_added}
+use Rattle.totem_plain.proofs.Common.{refl, slice_get_read, WaitsFor}
+use Rattle.totem_search.proofs.Adding.{some_more, all_added}
 use Rattle.totem_plain.proofs.left_open.WaitingGathered.add.Goals as goal
 
 pub loop-other-preserved : goal.loop-other-preserved

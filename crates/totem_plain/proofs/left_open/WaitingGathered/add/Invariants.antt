@@ -1,5 +1,6 @@
-use Rattle.totem_plain.specs.Gathered.{Adds, WaitsFor}
-use Rattle.totem_plain.proofs.Gathering.{AtSome}
+use Rattle.totem_search.specs.Adding.{Adds}
+use Rattle.totem_plain.specs.Gathered.{WaitsFor}
+use Rattle.totem_search.proofs.Adding.{AtSome}
 use Rattle.totem_plain.proofs.left_open.WaitingGathered.add.Given as goal
 
 abbrev pub invariant-loop-other : goal.invariant-loop-other

@@ -1,5 +1,4 @@
-use Rattle.std.proofs.Common.{refl}
-use Rattle.std.proofs.lemmas.Option.{slice_get_read}
+use Rattle.totem_judge_run.proofs.Common.{refl, slice_get_read}
 use Rattle.totem_search.proofs.Pairing.{entries, alone, with_others, none_with}
 use Rattle.totem_search.proofs.Searching.{started}
 use Rattle.totem_search.proofs.pairs.OneOrTwoRelation.rest.Goals as goal

@@ -1,5 +1,4 @@
-use Rattle.std.proofs.Common.{refl}
-use Rattle.std.proofs.lemmas.Option.{slice_get_read}
+use Rattle.totem_judge_run.proofs.Common.{refl, slice_get_read}
 use Rattle.totem_search.proofs.Pairing.{entry_told}
 use Rattle.totem_search.proofs.pairs.PartnersTest.is_bad.Goals as goal
 

@@ -1,5 +1,5 @@
 use Rattle.totem_outcome.specs.Rising.{RisesBefore}
-use Rattle.totem_plain.proofs.certificate.rises.Given as goal
+use Rattle.totem_outcome.proofs.lines.rises.Given as goal
 
 abbrev pub invariant-loop-at : goal.invariant-loop-at
 invariant-loop-at l = RisesBefore l.numbers l.at

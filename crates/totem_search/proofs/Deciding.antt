@@ -1,12 +1,6 @@
 -- Deciding whether a log has an entry of some kind.
-use Rattle.std.proofs.Common.{◌≡◌, ℕ, ◌⊎◌, inl, inr, List, slice_get, Some, refl}
-use Rattle.totem_names.specs.declared.ring.RingId.{RingId}
-use Rattle.totem_names.specs.declared.conf.ConfId.{ConfId}
-use Rattle.totem_names.specs.declared.message.MsgId.{MsgId}
-use Rattle.totem_evs.specs.declared.entry.Entry.{Entry}
-use Rattle.totem_evs.specs.declared.entry.Entry.TheVariants.{Conf, Deliver}
-use Rattle.totem_evs.specs.Events.{ChangesTo, Delivers}
-use Rattle.totem_evs.specs.Following.{Com, HasDelivered}
+use Rattle.totem_judge_run.proofs.Common.{◌≡◌, ℕ, ◌⊎◌, inl, inr, List, slice_get, Some, refl, RingId, ConfId, MsgId, Entry, Conf, Deliver, ChangesTo, Delivers, Com}
+use Rattle.totem_evs.specs.Following.{HasDelivered}
 use Rattle.totem_judge_run.proofs.Decisions.{both_or_not}
 use Rattle.totem_judge_run.proofs.SentOrNot.{first_or_none, same_message_or_not, change_to_or_not, change_of, in_or_not}
 

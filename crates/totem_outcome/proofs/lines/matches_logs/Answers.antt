@@ -1,7 +1,7 @@
-use Rattle.std.proofs.Common.{refl, arith}
+use Rattle.totem_outcome.proofs.Common.{refl, arith}
 use Rattle.std.proofs.lemmas.Option.{slice_get_read}
 use Rattle.totem_outcome.proofs.Matching.{one_more, all_before, all_match, not_of_one}
-use Rattle.totem_judge_certificate.proofs.counts.matches_logs.Goals as goal
+use Rattle.totem_outcome.proofs.lines.matches_logs.Goals as goal
 
 pub returns-then-not-is_line_of : goal.returns-then-not-is_line_of
 returns-then-not-is_line_of c =

@@ -1,5 +1,0 @@
-use Rattle.totem_outcome.specs.Rising.{RisesBefore}
-use Rattle.totem_judge_certificate.proofs.rising.rises.Given as goal
-
-abbrev pub invariant-loop-at : goal.invariant-loop-at
-invariant-loop-at l = RisesBefore l.numbers l.at

@@ -1,5 +1,0 @@
-use Rattle.totem_outcome.proofs.Matching.{LinesBefore}
-use Rattle.totem_plain.proofs.certificate.matches.Given as goal
-
-abbrev pub invariant-loop-at : goal.invariant-loop-at
-invariant-loop-at l = LinesBefore l.logs l.lines l.at
