@@ -1,8 +1,8 @@
 -- How many entries of each kind a run has (docs/SPECIFICATIONS.md, "Counts").
 use Rattle.std.specs.Prelude.{◌≡◌, ◌≤◌, ◌+◌, ℕ, List, length, filter, Bool, true, false}
 use Rattle.std.specs.List.{flat_map}
-use Rattle.totem_names.specs.declared.conf.ConfId.TheVariants.{Regular, Transitional}
-use Rattle.totem_names.specs.declared.message.Service.TheVariants.{Agreed, Safe}
+use Rattle.totem_names.specs.declared.conf.ConfId.TheVariants.{Transitional}
+use Rattle.totem_names.specs.declared.message.Service.TheVariants.{Safe}
 use Rattle.totem_evs.specs.declared.entry.Entry.{Entry}
 use Rattle.totem_evs.specs.declared.entry.Entry.TheVariants.{Conf, Send, Deliver, Fail}
 use Rattle.totem_evs.specs.declared.log.Log.{Log}
@@ -10,43 +10,29 @@ use Rattle.totem_explain.specs.declared.size.Size.{Size}
 
 abbrev pub is_change : Entry → Bool
 is_change (Conf x members) = true
-is_change (Send m x service) = false
-is_change (Deliver m x) = false
-is_change (Fail x) = false
+is_change entry = false
 
 abbrev pub is_send : Entry → Bool
-is_send (Conf x members) = false
 is_send (Send m x service) = true
-is_send (Deliver m x) = false
-is_send (Fail x) = false
+is_send entry = false
 
 -- a send that says that its message is safe
 abbrev pub is_safe_send : Entry → Bool
-is_safe_send (Conf x members) = false
-is_safe_send (Send m x Agreed) = false
 is_safe_send (Send m x Safe) = true
-is_safe_send (Deliver m x) = false
-is_safe_send (Fail x) = false
+is_safe_send entry = false
 
 abbrev pub is_delivery : Entry → Bool
-is_delivery (Conf x members) = false
-is_delivery (Send m x service) = false
 is_delivery (Deliver m x) = true
-is_delivery (Fail x) = false
+is_delivery entry = false
 
 -- a delivery in a transitional configuration
 abbrev pub is_transitional_delivery : Entry → Bool
-is_transitional_delivery (Conf x members) = false
-is_transitional_delivery (Send m x service) = false
-is_transitional_delivery (Deliver m (Regular c)) = false
 is_transitional_delivery (Deliver m (Transitional least next)) = true
-is_transitional_delivery (Fail x) = false
+is_transitional_delivery entry = false
 
 abbrev pub is_failure : Entry → Bool
-is_failure (Conf x members) = false
-is_failure (Send m x service) = false
-is_failure (Deliver m x) = false
 is_failure (Fail x) = true
+is_failure entry = false
 
 -- each number is that of the entries of its kind among these
 pub record IsSizeOf (entries : List Entry) (size : Size) : Type 0 where

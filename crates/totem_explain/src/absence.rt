@@ -1,10 +1,10 @@
 //! Events that a log lacks where a fault is that they are absent, and where they were due.
 use crate::fate::{Fate, course_of, next_of};
-use crate::lookup::{change_before, delivery_in, entry_at, log_of, message_at};
+use crate::lookup::{change_before, delivery_in, entry_at, log_of, message_at, place_of};
 use crate::members::{Member, parted, told_together};
 use std::alloc::{AllocError, Global};
 use totem_evs::{Entry, Fault, Run, SpecNo};
-use totem_names::{ConfId, MsgId, Place, Proc, Version};
+use totem_names::{ConfId, MsgId, Place, Version};
 
 /// An event that a log lacks.
 #[derive(Clone, Copy, Debug, PartialEq, Eq)]
@@ -34,18 +34,6 @@ impl Lacked {
     }
 }
 
-/// Returns the place behind the last entry of a process's log.
-fn end_of(run: &Run, proc: Proc) -> Place {
-    let length = match log_of(run, proc) {
-        Some(log) => u32::try_from(log.entries.as_slice().len()).unwrap_or(u32::MAX),
-        None => 0,
-    };
-    Place {
-        proc,
-        at: length.saturating_add(1),
-    }
-}
-
 /// An event that members of a configuration lack, which nothing excuses.
 #[derive(Drop)]
 pub struct Lack {
@@ -70,17 +58,13 @@ impl Lack {
     pub fn absences(&self, alloc: Global, run: &Run) -> Result<Vec<Absence>, AllocError> {
         let mut list = Vec::new(alloc);
         for member in &self.members {
-            if log_of(run, member.proc).is_none() {
-                continue;
+            if let Some(log) = log_of(run, member.proc) {
+                let end = place_of(log, log.entries.as_slice().len());
+                list.push(Absence {
+                    event: self.event,
+                    due: member.course.place.unwrap_or(end),
+                })?;
             }
-            let due = match member.course.place {
-                Some(place) => place,
-                None => end_of(run, member.proc),
-            };
-            list.push(Absence {
-                event: self.event,
-                due,
-            })?;
         }
         Ok(list)
     }
@@ -94,15 +78,12 @@ fn own_delivery(alloc: Global, run: &Run, send: Place) -> Result<Option<Lack>, A
     ) else {
         return Ok(None);
     };
-    let mut members = Vec::new(alloc);
-    members.push(Member {
-        proc: send.proc,
-        course: next_of(log, conf, send.at),
-    })?;
+    let course = next_of(log, conf, send.at);
+    let proc = send.proc;
     Ok(Some(Lack {
         event: Lacked::Delivery(*message),
         missed: format!(in alloc; "did not deliver {message} in {conf} or what follows it")?,
-        members,
+        members: vec![in alloc; Member { proc, course }]?,
     }))
 }
 

@@ -18,16 +18,6 @@ const INDENT: usize = 2;
 /// How many spaces are between two columns at least.
 const BETWEEN: usize = 4;
 
-/// Adds the numbers of the entries of a log from one to another, counted from 1, if it has them.
-fn add_entries(shown: &mut Vec<u32>, log: &Log, from: u32, to: u32) -> Result<(), AllocError> {
-    for at in from.max(1)..=to {
-        if entry_of(log, at).is_some() {
-            shown.push(at)?;
-        }
-    }
-    Ok(())
-}
-
 /// What the columns are about.
 #[derive(Clone, Copy)]
 pub struct Focus<'a> {
@@ -59,27 +49,17 @@ impl Focus<'_> {
         Ok(marks)
     }
 
-    /// Returns the numbers of a log's entries that are shown.
+    /// Returns the numbers of a log's entries that are shown, and of some that it may not have.
     fn shown_of(&self, alloc: Global, log: &Log, marks: &[u32]) -> Result<Vec<u32>, AllocError> {
         let mut shown = Vec::new(alloc);
         for absence in self.absences {
             let Place { proc, at } = absence.due;
             if proc == log.proc {
-                add_entries(
-                    &mut shown,
-                    log,
-                    at.saturating_sub(AROUND),
-                    at.saturating_add(1),
-                )?;
+                shown.extend(at.saturating_sub(AROUND)..=at.saturating_add(1))?;
             }
         }
         for at in marks {
-            add_entries(
-                &mut shown,
-                log,
-                at.saturating_sub(AROUND),
-                at.saturating_add(AROUND),
-            )?;
+            shown.extend(at.saturating_sub(AROUND)..=at.saturating_add(AROUND))?;
         }
         shown.sort()?;
         shown.dedup();

@@ -72,7 +72,7 @@ impl Counts {
             counts.add_message(one);
             if let Some(site) = sites.list.get_mut(one.site as usize) {
                 let late = traffic.late.get(index);
-                counts.add_at(one, late.map_or(Late::none(), |late| *late), site);
+                counts.add_at(one, late.copied().unwrap_or_default(), site);
                 if site.add_past(one.delivered) {
                     lacked = lacked.or(Some(index));
                 }

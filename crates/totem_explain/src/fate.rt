@@ -50,25 +50,11 @@ impl Number {
         }
     }
 
-    /// Returns the form of `be` for this number.
-    fn is(self) -> &'static str {
+    /// Returns the form of a word for this number.
+    pub fn form(self, one: &'static str, several: &'static str) -> &'static str {
         match self {
-            Number::One => "is",
-            Number::Several => "are",
-        }
-    }
-
-    fn has(self) -> &'static str {
-        match self {
-            Number::One => "has",
-            Number::Several => "have",
-        }
-    }
-
-    pub fn it(self) -> &'static str {
-        match self {
-            Number::One => "it",
-            Number::Several => "they",
+            Number::One => one,
+            Number::Several => several,
         }
     }
 }
@@ -80,7 +66,7 @@ fn ended(
     ending: Ending,
     number: Number,
 ) -> Result<String, AllocError> {
-    let is = number.is();
+    let is = number.form("is", "are");
     match ending {
         Ending::Standing => format!(in alloc; "{is} still in {conf}"),
         Ending::Failed => format!(in alloc; "failed in {conf}"),
@@ -110,7 +96,7 @@ impl Fate {
     pub fn told(&self, alloc: Global, number: Number) -> Result<String, AllocError> {
         match self {
             Fate::WithoutLog => {
-                let has = number.has();
+                let has = number.form("has", "have");
                 format!(in alloc; "{has} no log")
             }
             Fate::NeverCame(conf, instead) => {
@@ -125,9 +111,18 @@ impl Fate {
 
 impl Course {
     /// Nothing more was recorded.
-    fn ended(fate: Fate) -> Course {
+    pub fn ended(fate: Fate) -> Course {
         Course { fate, place: None }
     }
+}
+
+/// Returns what a process did after entry `at` of its log, or `None` if it did not change again.
+pub fn went_on(log: &Log, at: u32) -> Option<Course> {
+    let (place, next) = change_behind(log, at)?;
+    Some(Course {
+        fate: Fate::WentOn(next),
+        place: Some(place),
+    })
 }
 
 /// Returns the course after the following transitional configuration, to which entry `at` changes.

@@ -6,7 +6,7 @@ use totem_evs::{Ending, Entry, Log};
 use totem_names::{ConfId, MsgId, Place, Proc};
 
 /// Entries that are left out: how many, and to how many configurations they change.
-#[derive(Clone, Copy, Debug, PartialEq, Eq)]
+#[derive(Clone, Copy, Debug, Default, PartialEq, Eq)]
 pub struct Gap {
     pub entries: u32,
     pub changes: u32,
@@ -83,11 +83,6 @@ pub struct Lane {
     pub placed: usize,
 }
 
-const NO_GAP: Gap = Gap {
-    entries: 0,
-    changes: 0,
-};
-
 /// A log of which some entries have been read, and what is shown of them.
 #[derive(Drop)]
 struct Reading {
@@ -116,7 +111,7 @@ impl Reading {
             return Ok(());
         }
         self.add(What::LeftOut(self.left_out))?;
-        self.left_out = NO_GAP;
+        self.left_out = Gap::default();
         Ok(())
     }
 
@@ -150,7 +145,7 @@ impl Reading {
 #[derive(Clone, Copy)]
 pub struct Excerpt<'a> {
     pub log: &'a Log,
-    /// The numbers of the entries that are shown, counted from 1, in ascending order.
+    /// The numbers of the entries that are shown, counted from 1, in ascending order. Those that the log does not have are left out.
     pub entries: &'a [u32],
     /// The events that logs lack. Shown are those of this log that were due before an entry that is shown, or at its end.
     pub absences: &'a [Absence],
@@ -185,7 +180,7 @@ impl Lane {
             spots: Vec::new(alloc),
             read: 0,
             conf: None,
-            left_out: NO_GAP,
+            left_out: Gap::default(),
         };
         let log = excerpt.log;
         let entries = log.entries.as_slice();

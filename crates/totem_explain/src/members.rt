@@ -1,7 +1,8 @@
 //! Members of a configuration that did not do what the others rely on, each with what happened to it.
 use crate::event::place_name;
-use crate::fate::{Course, Fate, Number, instead_of};
-use crate::lookup::{change_behind, change_in, entry_at, last_change, log_of, place_of};
+use crate::fate::{Course, Fate, Number, instead_of, went_on};
+use crate::groups::add_to_group;
+use crate::lookup::{change_in, entry_at, last_change, log_of, place_of};
 use std::alloc::{AllocError, Global};
 use totem_evs::{Ending, Entry, Log, Run};
 use totem_names::{ConfId, Place, Proc, Version};
@@ -15,32 +16,14 @@ pub struct Member {
 
 /// Returns the first failure of a log.
 fn failure_in(log: &Log) -> Option<Course> {
-    for (index, entry) in log.entries.as_slice().iter().enumerate() {
-        if let Entry::Fail(conf) = entry {
-            return Some(Course {
-                fate: Fate::Ended(*conf, Ending::Failed),
-                place: Some(place_of(log, index)),
-            });
-        }
-    }
-    None
-}
-
-/// Returns what a process did after this place, at which it changed to the configuration, or `None` if it did not change again.
-fn behind(log: &Log, came: Place) -> Option<Course> {
-    let (place, next) = change_behind(log, came.at)?;
-    Some(Course {
-        fate: Fate::WentOn(next),
-        place: Some(place),
+    let mut entries = log.entries.as_slice().iter().enumerate();
+    entries.find_map(|(index, entry)| match entry {
+        Entry::Fail(conf) => Some(Course {
+            fate: Fate::Ended(*conf, Ending::Failed),
+            place: Some(place_of(log, index)),
+        }),
+        _ => None,
     })
-}
-
-/// Returns whether the last change of a log is to the configuration.
-fn ends_in(log: &Log, conf: &ConfId) -> bool {
-    match last_change(log) {
-        Some((last, _)) => last.is(conf),
-        None => false,
-    }
 }
 
 /// Returns what a process did instead of ending in the configuration, or `None` if it ended there or may still come.
@@ -48,11 +31,13 @@ fn parted_by(log: &Log, conf: &ConfId) -> Option<Course> {
     if let Some(failure) = failure_in(log) {
         return Some(failure);
     }
-    if ends_in(log, conf) {
+    if let Some((last, _)) = last_change(log)
+        && last.is(conf)
+    {
         return None;
     }
     match change_in(log, conf) {
-        Some(came) => behind(log, came),
+        Some(came) => went_on(log, came.at),
         None if log.ending == Ending::Quiet => Some(instead_of(log, conf)),
         None => None,
     }
@@ -67,10 +52,7 @@ pub fn parted(alloc: Global, run: &Run, change: Place) -> Result<Vec<Member>, Al
     for proc in members.as_slice() {
         let course = match log_of(run, *proc) {
             Some(log) => parted_by(log, conf),
-            None => Some(Course {
-                fate: Fate::WithoutLog,
-                place: None,
-            }),
+            None => Some(Course::ended(Fate::WithoutLog)),
         };
         if let Some(course) = course {
             list.push(Member {
@@ -82,28 +64,18 @@ pub fn parted(alloc: Global, run: &Run, change: Place) -> Result<Vec<Member>, Al
     Ok(list)
 }
 
-/// Adds the next of several names, as in `2, 3 and 4`.
-fn push_name(text: &mut String, name: &str, index: usize, count: usize) -> Result<(), AllocError> {
-    if index > 0 {
-        let is_last = index.saturating_add(1) == count;
-        text.push_str(if is_last { " and " } else { ", " })?;
-    }
-    text.push_str(name)
-}
-
 /// Returns these processes as they stand in a sentence, as in `Process 2` or `Processes 2, 3 and 4`.
 pub fn named(alloc: Global, version: Version, procs: &[Proc]) -> Result<String, AllocError> {
-    let mut text = String::from_str(
-        alloc,
-        match Number::of(procs.len()) {
-            Number::One => "Process ",
-            Number::Several => "Processes ",
-        },
-    )?;
+    let process = Number::of(procs.len()).form("Process ", "Processes ");
+    let mut text = String::from_str(alloc, process)?;
+    let last = procs.len().saturating_sub(1);
     for (index, proc) in procs.iter().enumerate() {
         let proc = proc.written(version);
-        let name = format!(in alloc; "{proc}")?;
-        push_name(&mut text, name.as_str(), index, procs.len())?;
+        match index {
+            0 => write!(text, "{proc}")?,
+            _ if index == last => write!(text, " and {proc}")?,
+            _ => write!(text, ", {proc}")?,
+        }
     }
     Ok(text)
 }
@@ -121,35 +93,6 @@ pub fn bracketed(alloc: Global, version: Version, places: &[Place]) -> Result<St
     Ok(text)
 }
 
-/// Returns the line about the members that share this fate. `missed`, if any, says first what all of them did not do.
-fn line_of_fate(
-    alloc: Global,
-    version: Version,
-    missed: &str,
-    list: &[Member],
-    fate: &Fate,
-) -> Result<String, AllocError> {
-    let mut procs = Vec::new(alloc);
-    let mut places = Vec::new(alloc);
-    for member in list {
-        if member.course.fate == *fate {
-            procs.push(member.proc)?;
-            if let Some(place) = member.course.place {
-                places.push(place)?;
-            }
-        }
-    }
-    let number = Number::of(procs.len());
-    let procs = named(alloc, version, procs.as_slice())?;
-    let places = bracketed(alloc, version, places.as_slice())?;
-    let told = fate.told(alloc, number)?;
-    if missed.is_empty() {
-        return format!(in alloc; "  {procs} {told}{places}.\n");
-    }
-    let it = number.it();
-    format!(in alloc; "  {procs} {missed}: {it} {told}{places}.\n")
-}
-
 /// Returns what happened to these members, with those that share a fate in one line. `missed`, if any, says first what all of them did
 /// not do.
 pub fn told_together(
@@ -158,15 +101,22 @@ pub fn told_together(
     missed: &str,
     list: &[Member],
 ) -> Result<String, AllocError> {
+    let mut groups = Vec::new(alloc);
+    for Member { proc, course } in list {
+        add_to_group(alloc, &mut groups, course.fate, *proc, course.place)?;
+    }
     let mut text = String::new(alloc);
-    for (index, member) in list.iter().enumerate() {
-        let fate = member.course.fate;
-        let mut before = list.iter().take(index);
-        if before.any(|other| other.course.fate == fate) {
-            continue;
+    for group in &groups {
+        let number = Number::of(group.procs.len());
+        let procs = named(alloc, version, group.procs.as_slice())?;
+        let places = bracketed(alloc, version, group.places.as_slice())?;
+        let told = group.shared.told(alloc, number)?;
+        if missed.is_empty() {
+            write!(text, "  {procs} {told}{places}.\n")?;
+        } else {
+            let it = number.form("it", "they");
+            write!(text, "  {procs} {missed}: {it} {told}{places}.\n")?;
         }
-        let line = line_of_fate(alloc, version, missed, list, &fate)?;
-        text.push_str(line.as_str())?;
     }
     Ok(text)
 }

@@ -1,12 +1,12 @@
 //! What became of one message in a run (docs/PROGRAM.md, "One message").
 use crate::event::{event_of, place_name};
-use crate::fate::course_of;
+use crate::fate::{Number, course_of};
 use crate::fitted::fitted;
-use crate::lookup::{change_in, entry_at, log_of, place_of, send_in};
+use crate::lookup::{change_in, entry_at, place_of, send_in};
 use crate::members::{Member, named, told_together};
 use std::alloc::{AllocError, Global};
 use totem_evs::{Entry, Log, Run};
-use totem_names::{ConfId, MsgId, Place, Proc};
+use totem_names::{ConfId, MsgId, Proc};
 
 /// What became of a message, in whole lines.
 #[derive(Debug, Drop)]
@@ -57,24 +57,19 @@ impl Trace {
 
 /// Returns the configuration in which a message was sent; if no log sends it, the regular one of the ring after which it is named.
 fn origin_of(run: &Run, message: MsgId) -> ConfId {
-    for log in run.logs.as_slice() {
-        if let Some((_, conf)) = send_in(log, message) {
-            return conf;
-        }
-    }
-    ConfId::Regular(message.ring)
+    let mut logs = run.logs.as_slice().iter();
+    let send = logs.find_map(|log| send_in(log, message));
+    send.map_or(ConfId::Regular(message.ring), |(_, conf)| conf)
 }
 
 /// Returns the members of a configuration as the first log has them that changes to it, or `None` if none does.
 fn members_of<'r>(run: &'r Run, conf: &ConfId) -> Option<&'r [Proc]> {
-    for log in run.logs.as_slice() {
-        if let Some(place) = change_in(log, conf) {
-            if let Some(Entry::Conf(_, members)) = entry_at(run, place) {
-                return Some(members.as_slice());
-            }
-        }
+    let mut logs = run.logs.as_slice().iter();
+    let place = logs.find_map(|log| change_in(log, conf))?;
+    match entry_at(run, place)? {
+        Entry::Conf(_, members) => Some(members.as_slice()),
+        _ => None,
     }
-    None
 }
 
 /// Returns where the processes were that did not deliver a message of this configuration.
@@ -106,11 +101,7 @@ fn elsewhere(
     let mut text = told_together(alloc, run.version, "", members.as_slice())?;
     if !others.is_empty() {
         let procs = named(alloc, run.version, others.as_slice())?;
-        let was = if others.len() == 1 {
-            "was no member"
-        } else {
-            "were no members"
-        };
+        let was = Number::of(others.len()).form("was no member", "were no members");
         write!(text, "  {procs} {was} of {conf}.\n")?;
     }
     Ok(text)

@@ -126,20 +126,19 @@ fn heading(
     counts: &Counts,
 ) -> Result<String, AllocError> {
     let summary = counts.size.summary(alloc, run)?;
-    let unseen = match faults.first() {
-        Some(fault) => unseen_behind(fault.spec),
-        None => "",
-    };
+    let unseen = stopped_by(faults).map_or("", unseen_behind);
+    let mut text = format!(in alloc;
+        "No: the run breaks extended virtual synchrony.\n{summary}{unseen}"
+    )?;
     let first = IN_FULL;
     let count = faults.len();
-    if count <= first {
-        return format!(in alloc;
-            "No: the run breaks extended virtual synchrony.\n{summary}{unseen}"
-        );
+    if count > first {
+        write!(
+            text,
+            "Of {count} faults the first {first} are explained in full.\n"
+        )?;
     }
-    format!(in alloc;
-        "No: the run breaks extended virtual synchrony.\n{summary}{unseen}Of {count} faults the first {first} are explained in full.\n"
-    )
+    Ok(text)
 }
 
 /// Returns what a run with these faults put to the test, after an empty line.
@@ -150,10 +149,7 @@ fn closing(alloc: Global, faults: &[Fault], counts: &Counts) -> Result<String, A
 
 /// Returns the specification at which an audit with these faults stopped.
 pub fn stopped_by(faults: &[Fault]) -> Option<SpecNo> {
-    match faults.first() {
-        Some(fault) => Some(fault.spec),
-        None => None,
-    }
+    faults.first().map(|fault| fault.spec)
 }
 
 /// Explains the no of a run: how much was judged, each of these faults in order, and what the run put to the test, which are its counts.

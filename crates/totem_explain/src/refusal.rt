@@ -70,14 +70,15 @@ const MISTAKEN: [(&[u8], &str); 9] = [
 const CARRIAGE_RETURN: &str =
     "The line ends with a carriage return and a line feed. Here lines end with a line feed alone: `tr -d '\\r' < FILE` leaves the others out.\n";
 
+/// Returns what a table has for a line with this beginning, or `None` if it has nothing.
+fn looked_up(table: &[(&'static [u8], &'static str)], line: &[u8]) -> Option<&'static str> {
+    let (_, words) = table.iter().find(|(front, _)| line.starts_with(front))?;
+    Some(*words)
+}
+
 /// Returns what to do about a text that is no run, by its first line; nothing if that is not known.
 fn hint_of(line: &[u8]) -> &'static str {
-    for (front, hint) in &MISTAKEN {
-        if line.starts_with(front) {
-            return *hint;
-        }
-    }
-    ""
+    looked_up(&MISTAKEN, line).unwrap_or("")
 }
 
 /// Returns what to do about the text that is refused at this place, if it is taken for a run by mistake.
@@ -101,24 +102,15 @@ fn hint(
 
 /// Returns what may follow this beginning of a line.
 fn behind(line: &[u8]) -> &'static str {
-    for (front, wanted) in &BEHIND {
-        if line.starts_with(front) {
-            return *wanted;
-        }
-    }
-    "A line is `log`, `conf`, `send`, `dlv` or `fail` with what follows it, or `open`, `failed`, `quiet` (from version 3 on) or `end` alone."
-}
-
-fn is_digit(byte: &u8) -> bool {
-    byte.is_ascii_digit()
+    looked_up(&BEHIND, line).unwrap_or(
+        "A line is `log`, `conf`, `send`, `dlv` or `fail` with what follows it, or `open`, `failed`, `quiet` (from version 3 on) or `end` alone.",
+    )
 }
 
 /// Returns the bytes before the number at the end, or `None` if there is no number.
 fn before_number(bytes: &[u8]) -> Option<&[u8]> {
-    let front = match bytes.iter().rposition(|byte| !is_digit(byte)) {
-        Some(at) => bytes.get(..at.saturating_add(1))?,
-        None => return None,
-    };
+    let last = bytes.iter().rposition(|byte| !byte.is_ascii_digit())?;
+    let front = bytes.get(..last.saturating_add(1))?;
     if front.len() < bytes.len() {
         Some(front)
     } else {
@@ -130,12 +122,10 @@ fn before_number(bytes: &[u8]) -> Option<&[u8]> {
 /// lives, these are the bytes that follow a process.
 fn lacks_life(line: &[u8], refused: u8) -> bool {
     let is_behind = refused == b' ' || refused == b'\n';
-    match before_number(line) {
-        Some(front) => is_behind
-            && front.ends_with(b" ")
-            && (front.starts_with(b"conf ") || front == b"log ".as_slice()),
-        None => false,
-    }
+    is_behind
+        && before_number(line).is_some_and(|front| {
+            front.ends_with(b" ") && (front.starts_with(b"conf ") || front == b"log ".as_slice())
+        })
 }
 
 /// Returns what is expected where a text is refused, after this beginning of the line; nothing if the text itself was not refused.
@@ -233,9 +223,7 @@ fn shown(alloc: Global, place: &TextPlace<'_>) -> Result<String, AllocError> {
     let line = place.line;
     let column = place.column;
     let drawing = drawing(alloc, place)?;
-    let mut text = format!(in alloc; "line {line}, column {column}:\n  ")?;
-    text.push_str(drawing.as_str())?;
-    Ok(text)
+    format!(in alloc; "line {line}, column {column}:\n  {drawing}")
 }
 
 /// Returns whether the fault is in the byte that was read last.

@@ -45,17 +45,12 @@ pub fn same_as(
     earlier: &[Fault],
     fault: &Fault,
 ) -> Result<String, AllocError> {
-    let Some(this) = missing_in(run, fault) else {
+    let this = missing_in(run, fault);
+    let mut earlier = earlier.iter();
+    let same = earlier.find(|one| this.is_some() && missing_in(run, one) == this);
+    let Some(one) = same else {
         return Ok(String::new(alloc));
     };
-    match earlier
-        .iter()
-        .find(|one| missing_in(run, one) == Some(this))
-    {
-        Some(one) => {
-            let line = line_of(alloc, run.version, one)?;
-            format!(in alloc; "  It is the same missing delivery as above, at `{line}`.\n")
-        }
-        None => Ok(String::new(alloc)),
-    }
+    let line = line_of(alloc, run.version, one)?;
+    format!(in alloc; "  It is the same missing delivery as above, at `{line}`.\n")
 }

@@ -2,7 +2,7 @@
 use crate::messages::Messages;
 use crate::sites::{Sites, Stay, is_regular};
 use std::alloc::{AllocError, Global};
-use totem_evs::{Ending, Entry, Log, Run};
+use totem_evs::{Entry, Log, Run};
 use totem_names::{MsgId, Service};
 
 /// A message that was sent. There are many, so it is small.
@@ -22,7 +22,7 @@ pub struct Sent {
 const NOBODY: u8 = 32;
 
 /// The deliveries of a message in transitional configurations.
-#[derive(Clone, Copy)]
+#[derive(Clone, Copy, Default)]
 pub struct Late {
     pub logs: u32,
     /// The other members there.
@@ -30,10 +30,6 @@ pub struct Late {
 }
 
 impl Late {
-    pub fn none() -> Late {
-        Late { logs: 0, others: 0 }
-    }
-
     /// Notes a delivery. Returns the logs of those before it.
     fn deliver(&mut self, stay: &Stay) -> u32 {
         let before = self.logs;
@@ -113,7 +109,7 @@ impl Traffic {
         let count = names.len();
         let mut traffic = Traffic {
             sent: vec![in alloc; Sent::none(); count]?,
-            late: vec![in alloc; Late::none(); if is_late { count } else { 0 }]?,
+            late: vec![in alloc; Late::default(); if is_late { count } else { 0 }]?,
             failed: 0,
             pairs: 0,
             larger: 0,

@@ -1,17 +1,11 @@
 //! 1.4: why a message may not be sent or delivered once more, and what other processes did with it.
+use crate::groups::{Group, add_to_group};
 use crate::lookup::{delivery_in, entry_at, entry_of, log_of, place_of};
 use crate::members::{bracketed, named};
 use crate::unsent::push_sends;
 use std::alloc::{AllocError, Global};
 use totem_evs::{Entry, Log, Run};
-use totem_names::{ConfId, MsgId, Place, Proc, Version};
-
-/// What a log delivers, and the process of the log.
-#[derive(Clone, Copy)]
-struct Delivered {
-    proc: Proc,
-    message: MsgId,
-}
+use totem_names::{ConfId, MsgId, Place, Proc};
 
 /// Returns the message that an entry of a log delivers, or `None` if it does something else.
 fn delivered_by(log: &Log, at: u32) -> Option<MsgId> {
@@ -29,40 +23,25 @@ fn between(log: &Log, before: MsgId, after: MsgId) -> Option<MsgId> {
     if next == after { Some(message) } else { None }
 }
 
-/// Returns what other logs deliver between two messages, of which a log delivers this one instead.
+/// Returns the messages that other logs deliver between two others, where the log of a process delivers this one.
 fn others_between(
     alloc: Global,
     run: &Run,
-    here: Delivered,
+    proc: Proc,
+    message: MsgId,
     before: MsgId,
     after: MsgId,
-) -> Result<Vec<Delivered>, AllocError> {
-    let mut list = Vec::new(alloc);
+) -> Result<Vec<Group<MsgId>>, AllocError> {
+    let mut others = Vec::new(alloc);
     for log in run.logs.as_slice() {
-        if log.proc == here.proc {
-            continue;
-        }
-        if let Some(message) = between(log, before, after) {
-            if message != here.message {
-                list.push(Delivered {
-                    proc: log.proc,
-                    message,
-                })?;
+        match between(log, before, after) {
+            Some(other) if log.proc != proc && other != message => {
+                add_to_group(alloc, &mut others, other, log.proc, None)?;
             }
+            _ => {}
         }
     }
-    Ok(list)
-}
-
-/// Returns the processes that deliver this message, of a list.
-fn who(alloc: Global, list: &[Delivered], message: MsgId) -> Result<Vec<Proc>, AllocError> {
-    let mut procs = Vec::new(alloc);
-    for one in list {
-        if one.message == message {
-            procs.push(one.proc)?;
-        }
-    }
-    Ok(procs)
+    Ok(others)
 }
 
 /// Adds what other processes deliver where a log delivers a message twice, between the same two messages.
@@ -82,17 +61,10 @@ fn push_instead(
     ) else {
         return Ok(());
     };
-    let proc = place.proc;
-    let here = proc.written(run.version);
-    let others = others_between(alloc, run, Delivered { proc, message }, before, after)?;
-    for (index, one) in others.iter().enumerate() {
-        let mut earlier = others.iter().take(index);
-        if earlier.any(|other| other.message == one.message) {
-            continue;
-        }
-        let procs = who(alloc, others.as_slice(), one.message)?;
-        let procs = named(alloc, run.version, procs.as_slice())?;
-        let instead = one.message;
+    let here = log.proc.written(run.version);
+    for other in &others_between(alloc, run, log.proc, message, before, after)? {
+        let procs = named(alloc, run.version, other.procs.as_slice())?;
+        let instead = other.shared;
         write!(
             text,
             "  {procs} delivered {instead} between {before} and {after}, where {here} delivered {message}.\n"
@@ -101,56 +73,10 @@ fn push_instead(
     Ok(())
 }
 
-/// A configuration in which other processes deliver a message, and where they do.
-#[derive(Drop)]
-struct Elsewhere {
-    conf: ConfId,
-    procs: Vec<Proc>,
-    places: Vec<Place>,
-}
-
-fn add_once(procs: &mut Vec<Proc>, proc: Proc) -> Result<(), AllocError> {
-    if !procs.contains(&proc) {
-        procs.push(proc)?;
-    }
-    Ok(())
-}
-
-impl Elsewhere {
-    /// Adds a place of this configuration.
-    fn add(&mut self, place: Place) -> Result<(), AllocError> {
-        add_once(&mut self.procs, place.proc)?;
-        self.places.push(place)?;
-        Ok(())
-    }
-}
-
-/// Adds a place at which a message is delivered in this configuration.
-fn add_elsewhere(
-    alloc: Global,
-    list: &mut Vec<Elsewhere>,
-    conf: &ConfId,
-    place: Place,
-) -> Result<(), AllocError> {
-    for one in list.iter_mut() {
-        if one.conf.is(conf) {
-            return one.add(place);
-        }
-    }
-    let mut one = Elsewhere {
-        conf: *conf,
-        procs: Vec::new(alloc),
-        places: Vec::new(alloc),
-    };
-    one.add(place)?;
-    list.push(one)?;
-    Ok(())
-}
-
 /// Adds where a log delivers a message. Returns whether it does.
 fn add_deliveries(
     alloc: Global,
-    list: &mut Vec<Elsewhere>,
+    list: &mut Vec<Group<ConfId>>,
     log: &Log,
     message: MsgId,
 ) -> Result<bool, AllocError> {
@@ -158,7 +84,7 @@ fn add_deliveries(
     for (index, entry) in log.entries.as_slice().iter().enumerate() {
         if let Entry::Deliver(delivered, conf) = entry {
             if *delivered == message {
-                add_elsewhere(alloc, list, conf, place_of(log, index))?;
+                add_to_group(alloc, list, *conf, log.proc, Some(place_of(log, index)))?;
                 is_any = true;
             }
         }
@@ -181,8 +107,9 @@ fn push_others(
             without.push(log.proc)?;
         }
     }
-    for one in list.iter() {
-        let conf = one.conf;
+    for one in list.iter_mut() {
+        let conf = one.shared;
+        one.procs.dedup();
         let procs = named(alloc, run.version, one.procs.as_slice())?;
         let places = bracketed(alloc, run.version, one.places.as_slice())?;
         write!(text, "  {procs} delivered it in {conf}{places}.\n")?;

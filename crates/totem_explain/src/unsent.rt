@@ -33,10 +33,7 @@ fn origin(log: &Log, at: u32) -> u32 {
     };
     match conf {
         ConfId::Regular(_) => at,
-        ConfId::Transitional { .. } => match change_in(log, &conf) {
-            Some(place) => place.at,
-            None => at,
-        },
+        ConfId::Transitional { .. } => change_in(log, &conf).map_or(at, |place| place.at),
     }
 }
 

@@ -2,7 +2,8 @@
 //! "The membership").
 use crate::event::spaced;
 use crate::fitted::fitted;
-use crate::lookup::{entry_of, log_of};
+use crate::groups::add_to_group;
+use crate::lookup::log_of;
 use crate::survey::Survey;
 use crate::visits::{Visit, Visits};
 use std::alloc::{AllocError, Global};
@@ -20,19 +21,13 @@ fn members_of<'r>(run: &'r Run, visit: &Visit) -> &'r [Proc] {
     }
 }
 
-/// Returns whether two processes came to a configuration by the same way.
-fn came_together(one: &Visit, other: &Visit) -> bool {
-    one.from == other.from && one.through == other.through
-}
-
-/// Returns whether two processes' logs end in the same way and place.
-fn ended_together(one: &Visit, other: &Visit) -> bool {
-    one.ending == other.ending && one.ends_in == other.ends_in
-}
-
-/// Returns by which way a process came to a configuration.
-fn way_of(alloc: Global, visit: &Visit) -> Result<String, AllocError> {
-    match (visit.from, visit.through) {
+/// Returns by which way a process came to a configuration: from which regular one, and by which transitional one.
+fn way_told(
+    alloc: Global,
+    from: Option<ConfId>,
+    through: Option<ConfId>,
+) -> Result<String, AllocError> {
+    match (from, through) {
         (Some(from), Some(through)) => format!(in alloc; "from {from} by {through}"),
         (Some(from), None) => format!(in alloc; "from {from}"),
         (None, Some(through)) => format!(in alloc; "by {through}"),
@@ -40,27 +35,32 @@ fn way_of(alloc: Global, visit: &Visit) -> Result<String, AllocError> {
     }
 }
 
-/// Returns how and where a log ends, or `None` if it goes on to another configuration.
-fn end_of(alloc: Global, visit: &Visit) -> Result<Option<String>, AllocError> {
-    let word = match visit.ending {
-        None => return Ok(None),
-        Some(Ending::Standing) => "open",
-        Some(Ending::Failed) => "failed",
-        Some(Ending::Quiet) => "quiet",
+/// Returns how and where a log ends: in which transitional configuration, if in one.
+fn end_told(alloc: Global, ending: Ending, ends_in: Option<ConfId>) -> Result<String, AllocError> {
+    let word = match ending {
+        Ending::Standing => "open",
+        Ending::Failed => "failed",
+        Ending::Quiet => "quiet",
     };
-    Ok(Some(match visit.ends_in {
-        Some(conf) => format!(in alloc; "{word} in {conf}")?,
-        None => format!(in alloc; "{word} here")?,
-    }))
+    match ends_in {
+        Some(conf) => format!(in alloc; "{word} in {conf}"),
+        None => format!(in alloc; "{word} here"),
+    }
 }
 
-/// Returns a line about these processes, or nothing if there are none.
-fn line_of(alloc: Global, run: &Run, what: &str, procs: &[Proc]) -> Result<String, AllocError> {
+/// Adds a line about these processes, or nothing if there are none.
+fn push_line(
+    alloc: Global,
+    text: &mut String,
+    run: &Run,
+    what: &str,
+    procs: &[Proc],
+) -> Result<(), AllocError> {
     if procs.is_empty() {
-        return Ok(String::new(alloc));
+        return Ok(());
     }
     let procs = spaced(alloc, run.version, procs)?;
-    format!(in alloc; "  {what}:{procs}\n")
+    write!(text, "  {what}:{procs}\n")
 }
 
 /// Adds a line for each way by which processes came to a configuration.
@@ -70,19 +70,20 @@ fn push_ways(
     run: &Run,
     visits: &[Visit],
 ) -> Result<(), AllocError> {
-    for (index, visit) in visits.iter().enumerate() {
-        let mut before = visits.iter().take(index);
-        if before.any(|other| came_together(other, visit)) {
-            continue;
-        }
-        let mut procs = Vec::new(alloc);
-        for other in visits {
-            if came_together(other, visit) {
-                procs.push(other.proc)?;
-            }
-        }
-        let way = way_of(alloc, visit)?;
-        text.push_str(line_of(alloc, run, way.as_str(), procs.as_slice())?.as_str())?;
+    let mut ways = Vec::new(alloc);
+    for visit in visits {
+        add_to_group(
+            alloc,
+            &mut ways,
+            (visit.from, visit.through),
+            visit.proc,
+            None,
+        )?;
+    }
+    for way in &ways {
+        let (from, through) = way.shared;
+        let told = way_told(alloc, from, through)?;
+        push_line(alloc, text, run, told.as_str(), way.procs.as_slice())?;
     }
     Ok(())
 }
@@ -94,21 +95,16 @@ fn push_ends(
     run: &Run,
     visits: &[Visit],
 ) -> Result<(), AllocError> {
-    for (index, visit) in visits.iter().enumerate() {
-        let mut before = visits.iter().take(index);
-        if before.any(|other| ended_together(other, visit)) {
-            continue;
+    let mut ends = Vec::new(alloc);
+    for visit in visits {
+        if let Some(ending) = visit.ending {
+            add_to_group(alloc, &mut ends, (ending, visit.ends_in), visit.proc, None)?;
         }
-        let Some(end) = end_of(alloc, visit)? else {
-            continue;
-        };
-        let mut procs = Vec::new(alloc);
-        for other in visits {
-            if ended_together(other, visit) {
-                procs.push(other.proc)?;
-            }
-        }
-        text.push_str(line_of(alloc, run, end.as_str(), procs.as_slice())?.as_str())?;
+    }
+    for end in &ends {
+        let (ending, ends_in) = end.shared;
+        let told = end_told(alloc, ending, ends_in)?;
+        push_line(alloc, text, run, told.as_str(), end.procs.as_slice())?;
     }
     Ok(())
 }
@@ -158,7 +154,7 @@ fn push_view(
     write!(text, "\n{conf}, members{names}\n")?;
     push_ways(alloc, text, run, visits)?;
     let absent = absent(alloc, members, visits)?;
-    text.push_str(line_of(alloc, run, "never came", absent.as_slice())?.as_str())?;
+    push_line(alloc, text, run, "never came", absent.as_slice())?;
     text.push_str(traffic_of(alloc, visits)?.as_str())?;
     push_ends(alloc, text, run, visits)
 }

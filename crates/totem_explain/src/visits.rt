@@ -111,9 +111,8 @@ impl Stays {
 #[derive(Clone, Copy)]
 struct Goal {
     conf: ConfId,
-    /// How many visits it has, and how many of these are next in their logs.
-    visits: u32,
-    next: u32,
+    /// How many of its visits are not next in their logs yet.
+    waiting: u32,
     /// Whether it is in the order.
     is_placed: bool,
 }
@@ -124,8 +123,7 @@ fn goals_of(alloc: Global, list: &[Visit]) -> Result<Vec<Goal>, AllocError> {
     for visit in list {
         goals.push(Goal {
             conf: visit.conf,
-            visits: 1,
-            next: 0,
+            waiting: 1,
             is_placed: false,
         })?;
     }
@@ -133,35 +131,110 @@ fn goals_of(alloc: Global, list: &[Visit]) -> Result<Vec<Goal>, AllocError> {
     goals.dedup_by(|next, kept| {
         let is_same = next.conf.is(&kept.conf);
         if is_same {
-            kept.visits = kept.visits.saturating_add(1);
+            kept.waiting = kept.waiting.saturating_add(1);
         }
         is_same
     });
     Ok(goals)
 }
 
-/// The visits of one log that are not in the order yet: those from one index to another.
-#[derive(Clone, Copy)]
-struct Head {
-    next: usize,
-    end: usize,
+/// Returns the index of a configuration among these.
+fn goal_at(goals: &[Goal], conf: &ConfId) -> usize {
+    goals.partition_point(|goal| goal.conf.is_below(conf))
 }
 
-/// The visits of all logs, and how far the order of the configurations is.
+/// Returns the visits after those whose configurations are in the order.
+fn after_placed<'v>(goals: &[Goal], visits: &'v [Visit]) -> &'v [Visit] {
+    let next = visits.iter().position(|visit| {
+        let goal = goals.get(goal_at(goals, &visit.conf));
+        !goal.is_some_and(|goal| goal.is_placed)
+    });
+    visits.get(next.unwrap_or(visits.len())..).unwrap_or(&[])
+}
+
+/// Counts the first of these visits as the next one of its log.
+fn arrive(goals: &mut [Goal], visits: &[Visit]) {
+    if let Some(visit) = visits.first() {
+        let at = goal_at(goals, &visit.conf);
+        if let Some(goal) = goals.get_mut(at) {
+            goal.waiting = goal.waiting.saturating_sub(1);
+        }
+    }
+}
+
+/// How far the order of the configurations is.
+#[derive(Drop)]
+struct Order<'v> {
+    goals: Vec<Goal>,
+    /// The visits of each log that are not in the order yet.
+    heads: Vec<&'v [Visit]>,
+}
+
+impl Order<'_> {
+    /// Returns the least configuration that is next in all logs that come to it; if there is none, the least that is next in some log.
+    fn choice(&self) -> Option<ConfId> {
+        let goals = self.goals.as_slice();
+        let next = self.heads.iter().filter_map(|head| head.first());
+        let goals = next.filter_map(|visit| goals.get(goal_at(goals, &visit.conf)));
+        let least = goals.min_by_key(|goal| (goal.waiting > 0, goal.conf))?;
+        Some(least.conf)
+    }
+
+    /// Puts a configuration into the order, so that the logs in which it is next go on.
+    fn place(&mut self, conf: &ConfId) {
+        let at = goal_at(self.goals.as_slice(), conf);
+        if let Some(goal) = self.goals.get_mut(at) {
+            goal.is_placed = true;
+        }
+        for head in self.heads.iter_mut() {
+            let rest = after_placed(self.goals.as_slice(), *head);
+            if rest.len() < head.len() {
+                *head = rest;
+                arrive(self.goals.as_mut_slice(), rest);
+            }
+        }
+    }
+}
+
+/// Returns the visits of a process, of those of all logs, which stand log by log.
+pub fn visits_by<'v>(list: &'v [Visit], proc: Proc) -> &'v [Visit] {
+    let from = list.iter().position(|visit| visit.proc == proc);
+    let rest = list.get(from.unwrap_or(list.len())..).unwrap_or(&[]);
+    let count = rest.iter().position(|visit| visit.proc != proc);
+    rest.get(..count.unwrap_or(rest.len())).unwrap_or(rest)
+}
+
+/// Returns the configurations of these visits in an order that fits all logs.
+fn order_of(alloc: Global, list: &[Visit]) -> Result<Vec<ConfId>, AllocError> {
+    let mut goals = goals_of(alloc, list)?;
+    let mut heads = Vec::new(alloc);
+    let mut last = None;
+    for visit in list {
+        if last != Some(visit.proc) {
+            let visits = visits_by(list, visit.proc);
+            arrive(goals.as_mut_slice(), visits);
+            heads.push(visits)?;
+        }
+        last = Some(visit.proc);
+    }
+    let mut order = Vec::new(alloc);
+    let count = goals.len();
+    let mut known = Order { goals, heads };
+    for _ in 0..count {
+        let Some(conf) = known.choice() else {
+            break;
+        };
+        order.push(conf)?;
+        known.place(&conf);
+    }
+    Ok(order)
+}
+
+/// The visits of all processes of a run.
 #[derive(Drop)]
 pub struct Visits {
     /// Log by log.
     pub list: Vec<Visit>,
-    goals: Vec<Goal>,
-    heads: Vec<Head>,
-}
-
-/// Returns the lesser of two configurations, or the only one.
-fn lesser(one: &Option<ConfId>, other: &ConfId) -> ConfId {
-    match one {
-        Some(one) if one.is_below(other) => *one,
-        _ => *other,
-    }
 }
 
 impl Visits {
@@ -172,132 +245,15 @@ impl Visits {
             first: 0,
             through: None,
         };
-        let mut heads = Vec::new(alloc);
         for log in run.logs.as_slice() {
-            let next = stays.list.len();
             stays.add_log(log)?;
-            heads.push(Head {
-                next,
-                end: stays.list.len(),
-            })?;
         }
-        let goals = goals_of(alloc, stays.list.as_slice())?;
-        Ok(Visits {
-            list: stays.list,
-            goals,
-            heads,
-        })
-    }
-
-    fn goal_at(&self, conf: &ConfId) -> usize {
-        self.goals.partition_point(|goal| goal.conf.is_below(conf))
-    }
-
-    /// Returns the configuration that is next in a log, or `None` if all are in the order.
-    fn conf_of(&self, head: &Head) -> Option<ConfId> {
-        if head.next >= head.end {
-            return None;
-        }
-        Some(self.list.get(head.next)?.conf)
-    }
-
-    fn is_placed(&self, conf: &ConfId) -> bool {
-        let goal = self.goals.get(self.goal_at(conf));
-        goal.is_some_and(|goal| goal.is_placed)
-    }
-
-    fn is_ready(&self, conf: &ConfId) -> bool {
-        let goal = self.goals.get(self.goal_at(conf));
-        goal.is_some_and(|goal| goal.next >= goal.visits)
-    }
-
-    /// Counts a configuration as the next one of a log.
-    fn arrive(&mut self, conf: &ConfId) {
-        let at = self.goal_at(conf);
-        if let Some(goal) = self.goals.get_mut(at) {
-            goal.next = goal.next.saturating_add(1);
-        }
-    }
-
-    /// Returns the least configuration that is next in all logs that come to it; if there is none, the least that is next in some log.
-    fn choice(&self) -> Option<ConfId> {
-        let mut ready: Option<ConfId> = None;
-        let mut least: Option<ConfId> = None;
-        for head in self.heads.as_slice() {
-            let Some(conf) = self.conf_of(head) else {
-                continue;
-            };
-            if self.is_ready(&conf) {
-                ready = Some(lesser(&ready, &conf));
-            }
-            least = Some(lesser(&least, &conf));
-        }
-        ready.or(least)
-    }
-
-    /// Returns the head of a log after the configurations that are in the order.
-    fn after_placed(&self, head: &Head) -> Head {
-        let mut next = head.next;
-        for _ in head.next..head.end {
-            match self.conf_of(&Head {
-                next,
-                end: head.end,
-            }) {
-                Some(conf) if self.is_placed(&conf) => next = next.saturating_add(1),
-                _ => break,
-            }
-        }
-        Head {
-            next,
-            end: head.end,
-        }
-    }
-
-    /// Puts a configuration into the order, so that the logs in which it is next go on.
-    fn place(&mut self, conf: &ConfId) {
-        let at = self.goal_at(conf);
-        if let Some(goal) = self.goals.get_mut(at) {
-            goal.is_placed = true;
-        }
-        for index in 0..self.heads.len() {
-            self.go_on(index);
-        }
-    }
-
-    /// Lets a log go on to its next configuration that is not in the order yet.
-    fn go_on(&mut self, index: usize) {
-        let Some(head) = self.heads.get(index).copied() else {
-            return;
-        };
-        let next = self.after_placed(&head);
-        if next.next == head.next {
-            return;
-        }
-        if let Some(conf) = self.conf_of(&next) {
-            self.arrive(&conf);
-        }
-        if let Some(head) = self.heads.get_mut(index) {
-            *head = next;
-        }
+        Ok(Visits { list: stays.list })
     }
 
     /// Returns the regular configurations in an order that fits all logs. Where there is none, since events come before themselves, a
     /// configuration is as early as in one of the logs.
     pub fn order(&mut self, alloc: Global) -> Result<Vec<ConfId>, AllocError> {
-        for index in 0..self.heads.len() {
-            let head = self.heads.get(index).copied();
-            if let Some(conf) = head.and_then(|head| self.conf_of(&head)) {
-                self.arrive(&conf);
-            }
-        }
-        let mut order = Vec::new(alloc);
-        for _ in 0..self.goals.len() {
-            let Some(conf) = self.choice() else {
-                break;
-            };
-            order.push(conf)?;
-            self.place(&conf);
-        }
-        Ok(order)
+        order_of(alloc, self.list.as_slice())
     }
 }

@@ -33,37 +33,33 @@ impl Group {
         self.count = self.count.saturating_add(1);
     }
 
-    fn push(&self, alloc: Global, version: Version, text: &mut String) -> Result<(), AllocError> {
+    fn push(&self, version: Version, text: &mut String) -> Result<(), AllocError> {
         let proc = self.first.proc.written(version);
         let first = self.first.msg;
         let last = self.last;
-        let count = self.count;
-        let line = match count {
-            1 => format!(in alloc; "  process {proc} may still deliver {first}\n")?,
-            _ => format!(in alloc;
+        match self.count {
+            1 => write!(text, "  process {proc} may still deliver {first}\n"),
+            count => write!(
+                text,
                 "  process {proc} may still deliver {count} messages, {first} to {last}\n"
-            )?,
-        };
-        text.push_str(line.as_str())
+            ),
+        }
     }
 }
 
 /// Returns a line for each process and ring with pending deliveries.
 fn pending_lines(alloc: Global, version: Version, list: &[Pending]) -> Result<String, AllocError> {
-    let mut text = String::new(alloc);
-    let Some(first) = list.first() else {
-        return Ok(text);
-    };
-    let mut group = Group::of(*first);
-    for pending in list.iter().skip(1) {
-        if group.has(pending) {
-            group.add(pending);
-        } else {
-            group.push(alloc, version, &mut text)?;
-            group = Group::of(*pending);
+    let mut groups: Vec<Group> = Vec::new(alloc);
+    for pending in list {
+        match groups.last_mut() {
+            Some(group) if group.has(pending) => group.add(pending),
+            _ => groups.push(Group::of(*pending))?,
         }
     }
-    group.push(alloc, version, &mut text)?;
+    let mut text = String::new(alloc);
+    for group in &groups {
+        group.push(version, &mut text)?;
+    }
     Ok(text)
 }
 

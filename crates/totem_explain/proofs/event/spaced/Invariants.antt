@@ -1,7 +1,5 @@
-use Rattle.std.proofs.Common.{◌≡◌, take}
+use Rattle.totem_evs.proofs.Common.{◌≡◌, take, process_text, members_text}
 use Rattle.std.specs.String.{string_bytes}
-use Rattle.totem_names.specs.Processes.{process_text}
-use Rattle.totem_evs.specs.RunText.{members_text}
 use Rattle.totem_explain.proofs.event.spaced.Given as goal
 
 abbrev pub invariant-loop-proc : goal.invariant-loop-proc

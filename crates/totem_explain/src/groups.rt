@@ -1,0 +1,38 @@
+//! Processes put together by what they share, in the order in which it first comes up.
+use std::alloc::{AllocError, Global};
+use totem_names::{Place, Proc};
+
+/// The processes that share something, and the places at which it came about.
+#[derive(Drop)]
+pub struct Group<S> {
+    pub shared: S,
+    pub procs: Vec<Proc>,
+    pub places: Vec<Place>,
+}
+
+/// Adds a process to those that share this, with the place if there is one.
+pub fn add_to_group<S: PartialEq + Copy>(
+    alloc: Global,
+    groups: &mut Vec<Group<S>>,
+    shared: S,
+    proc: Proc,
+    place: Option<Place>,
+) -> Result<(), AllocError> {
+    let known = groups.iter().position(|group| group.shared == shared);
+    if known.is_none() {
+        groups.push(Group {
+            shared,
+            procs: Vec::new(alloc),
+            places: Vec::new(alloc),
+        })?;
+    }
+    let group = match known {
+        Some(at) => groups.get_mut(at),
+        None => groups.last_mut(),
+    };
+    if let Some(group) = group {
+        group.procs.push(proc)?;
+        group.places.extend(place)?;
+    }
+    Ok(())
+}
