@@ -107,7 +107,7 @@ fn push_name(
     let conf = band.conf;
     let name = format!(in alloc; "{conf}")?;
     let above = Point {
-        x: frame.x(band.from).saturating_add(frame.step / 2),
+        x: frame.middle(band.from),
         y: y.saturating_sub(20),
     };
     push_label(text, above, name.as_str())

@@ -2,7 +2,7 @@
 use crate::subject::Subject;
 use std::alloc::{AllocError, Global};
 use totem_evs::{Entry, Log, Run};
-use totem_explain::{Absence, Excerpt, Lacked, Lane, entry_at};
+use totem_explain::{Absence, Excerpt, Lacked, Lane, entry_at, message_of};
 use totem_names::{MsgId, Place};
 
 /// A run with at most this many entries is drawn whole.
@@ -35,14 +35,6 @@ fn length(run: &Run) -> usize {
         length = length.saturating_add(log.entries.as_slice().len());
     }
     length
-}
-
-/// Returns the message that an entry sends or delivers.
-fn message_of(entry: &Entry) -> Option<MsgId> {
-    match entry {
-        Entry::Send(message, _, _) | Entry::Deliver(message, _) => Some(*message),
-        Entry::Conf(..) | Entry::Fail(_) => None,
-    }
 }
 
 fn add_message(messages: &mut Vec<MsgId>, message: MsgId) -> Result<(), AllocError> {

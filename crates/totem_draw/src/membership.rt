@@ -1,12 +1,13 @@
 //! The membership of a run as a picture: bands of configurations, without messages (docs/PROGRAM.md, "The membership").
 use crate::bands::{Band, Bands, Row};
 use crate::frame::{Frame, LINE, step_for};
-use crate::picture::{opening, push_text, push_wrapped};
-use crate::shapes::{Point, push_label, push_words};
+use crate::picture::{close, opening};
+use crate::shapes::{Point, push_label};
+use crate::words::wrapped;
 use std::alloc::{AllocError, Global};
 use totem_evs::{Log, Run};
-use totem_explain::{Visit, Visits};
-use totem_names::{ConfId, Proc};
+use totem_explain::{Visit, Visits, visits_by};
+use totem_names::ConfId;
 
 /// How many configurations are drawn at most: the last ones.
 const MOST: usize = 200;
@@ -65,23 +66,8 @@ fn columns_of(alloc: Global, order: &[ConfId]) -> Result<Vec<Column>, AllocError
 /// Returns the column of a configuration, if it is drawn.
 fn slot_of(columns: &[Column], conf: &ConfId) -> Option<u32> {
     let index = columns.partition_point(|column| column.conf.is_below(conf));
-    let column = columns.get(index)?;
-    if column.conf.is(conf) {
-        Some(column.slot)
-    } else {
-        None
-    }
-}
-
-/// Returns the visits of configurations that are drawn.
-fn drawn_of(alloc: Global, list: &[Visit], columns: &[Column]) -> Result<Vec<Visit>, AllocError> {
-    let mut drawn = Vec::new(alloc);
-    for visit in list {
-        if slot_of(columns, &visit.conf).is_some() {
-            drawn.push(*visit)?;
-        }
-    }
-    Ok(drawn)
+    let column = columns.get(index).filter(|column| column.conf.is(conf))?;
+    Some(column.slot)
 }
 
 /// Returns the row of a log, each of whose bands extends to the next one.
@@ -113,34 +99,6 @@ fn row_of(
     })
 }
 
-/// Returns the visits of a process, of those of all logs, which stand log by log.
-fn visits_of<'v>(list: &'v [Visit], proc: Proc) -> &'v [Visit] {
-    let from = list.iter().position(|visit| visit.proc == proc);
-    let rest = list.get(from.unwrap_or(list.len())..).unwrap_or(&[]);
-    let count = rest.iter().position(|visit| visit.proc != proc);
-    rest.get(..count.unwrap_or(rest.len())).unwrap_or(rest)
-}
-
-/// Adds the counts below the bands of a process.
-fn push_counts(
-    alloc: Global,
-    text: &mut String,
-    frame: &Frame,
-    y: u32,
-    visits: &[Visit],
-    columns: &[Column],
-) -> Result<(), AllocError> {
-    for visit in visits {
-        let slot = slot_of(columns, &visit.conf).unwrap_or(0);
-        let below = Point {
-            x: frame.middle(slot),
-            y: y.saturating_add(26),
-        };
-        push_label(text, below, count_of(alloc, visit)?.as_str())?;
-    }
-    Ok(())
-}
-
 /// Returns the bands of all logs.
 fn bands_of(
     alloc: Global,
@@ -151,24 +109,26 @@ fn bands_of(
 ) -> Result<Bands, AllocError> {
     let mut rows = Vec::new(alloc);
     for log in run.logs.as_slice() {
-        let visits = visits_of(list, log.proc);
+        let visits = visits_by(list, log.proc);
         rows.push(row_of(alloc, log, visits, columns, slots)?)?;
     }
     Bands::of(alloc, rows)
 }
 
-/// Adds the counts of all logs.
-fn push_all_counts(
+/// Adds the counts below the bands of these visits.
+fn push_counts(
     alloc: Global,
     text: &mut String,
-    run: &Run,
     frame: &Frame,
+    bands: &Bands,
     list: &[Visit],
-    columns: &[Column],
 ) -> Result<(), AllocError> {
-    for (number, log) in run.logs.as_slice().iter().enumerate() {
-        let visits = visits_of(list, log.proc);
-        push_counts(alloc, text, frame, frame.y(number), visits, columns)?;
+    for (number, row) in bands.rows.iter().enumerate() {
+        let y = frame.y(number).saturating_add(26);
+        for (band, visit) in row.bands.iter().zip(visits_by(list, row.proc)) {
+            let x = frame.middle(band.from);
+            push_label(text, Point { x, y }, count_of(alloc, visit)?.as_str())?;
+        }
     }
     Ok(())
 }
@@ -185,39 +145,33 @@ fn push_lanes(
     let bands = bands_of(alloc, run, list, columns, frame.slots)?;
     bands.push(alloc, text, run.version, frame)?;
     bands.push_names(alloc, text, frame)?;
-    push_all_counts(alloc, text, run, frame, list, columns)
+    push_counts(alloc, text, frame, &bands, list)
 }
 
 /// Draws the membership of a run as a picture in SVG: its last 200 regular configurations.
 pub fn draw_views(alloc: Global, run: &Run) -> Result<String, AllocError> {
     let mut visits = Visits::of(alloc, run)?;
     let order = visits.order(alloc)?;
+    let mut list = visits.list;
     let title = title_of(alloc, order.len())?;
     let last = order.as_slice().get(order.len().saturating_sub(MOST)..);
     let columns = columns_of(alloc, last.unwrap_or(&[]))?;
-    let list = drawn_of(alloc, visits.list.as_slice(), columns.as_slice())?;
-    let mut below = Vec::new(alloc);
-    push_wrapped(alloc, &mut below, LEGEND)?;
+    list.retain(|visit| slot_of(columns.as_slice(), &visit.conf).is_some());
+    let above = wrapped(alloc, title.as_str())?;
+    let below = wrapped(alloc, LEGEND)?;
     let frame = Frame {
         top: LINE.saturating_mul(2),
         lanes: run.logs.as_slice().len(),
         slots: u32::try_from(columns.len()).unwrap_or(u32::MAX),
         step: step_for(most_letters(alloc, list.as_slice())?),
     };
-    let lines = u32::try_from(below.len()).unwrap_or(u32::MAX);
-    let height = frame.line_below(lines);
     let mut text = opening(
         alloc,
-        frame.width(),
-        height,
+        &frame,
         title.as_str(),
+        above.as_slice(),
         below.as_slice(),
     )?;
-    let at = Point {
-        x: 16,
-        y: LINE.saturating_add(4),
-    };
-    push_words(&mut text, at, title.as_str())?;
     push_lanes(
         alloc,
         &mut text,
@@ -226,7 +180,6 @@ pub fn draw_views(alloc: Global, run: &Run) -> Result<String, AllocError> {
         list.as_slice(),
         columns.as_slice(),
     )?;
-    push_text(&mut text, frame.line_below(0), below.as_slice())?;
-    text.push_str("</svg>\n")?;
+    close(&mut text, &frame, below.as_slice())?;
     Ok(text)
 }

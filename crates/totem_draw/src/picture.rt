@@ -18,7 +18,7 @@ const LEGEND: &str =
     "From left to right as each process saw it. A dot is a send, a ring a delivery, a bar a change of the configuration, whose band follows (dashed: transitional), a cross a failure, a dashed ring an event that is missing, a dashed line to a ring behind the lane a pending delivery.";
 
 /// Adds lines of text, one below the other. The height is that of the first one's baseline.
-pub fn push_text(text: &mut String, from: u32, lines: &[String]) -> Result<(), AllocError> {
+fn push_text(text: &mut String, from: u32, lines: &[String]) -> Result<(), AllocError> {
     let mut y = from;
     for line in lines {
         push_words(text, Point { x: 16, y }, line.as_str())?;
@@ -44,14 +44,16 @@ fn push_lanes(
     push_events(alloc, text, frame, lanes, subject)
 }
 
-/// Returns the beginning of the picture, which names and describes it for people who cannot see it.
+/// Returns the beginning of the picture, which names and describes it for people who cannot see it, with the text above the lanes.
 pub fn opening(
     alloc: Global,
-    width: u32,
-    height: u32,
+    frame: &Frame,
     title: &str,
+    above: &[String],
     below: &[String],
 ) -> Result<String, AllocError> {
+    let width = frame.width();
+    let height = frame.line_below(u32::try_from(below.len()).unwrap_or(u32::MAX));
     let mut text = format!(in alloc;
         "<svg xmlns='http://www.w3.org/2000/svg' viewBox='0 0 {width} {height}' width='{width}' height='{height}' role='img' aria-labelledby='title description' font-family='sans-serif' font-size='12'>\n<title id='title'>{title}</title>\n<desc id='description'>"
     )?;
@@ -59,15 +61,20 @@ pub fn opening(
         write!(text, "{line}\n")?;
     }
     text.push_str("</desc>\n<rect width='100%' height='100%' fill='#ffffff'/>\n")?;
+    push_text(&mut text, LINE.saturating_add(4), above)?;
     Ok(text)
 }
 
+/// Adds the text below the lanes, and the end of the picture.
+pub fn close(text: &mut String, frame: &Frame, below: &[String]) -> Result<(), AllocError> {
+    push_text(text, frame.line_below(0), below)?;
+    text.push_str("</svg>\n")
+}
+
 /// Adds lines of text, those that are too long in several.
-pub fn push_wrapped(alloc: Global, list: &mut Vec<String>, text: &str) -> Result<(), AllocError> {
+fn push_wrapped(alloc: Global, list: &mut Vec<String>, text: &str) -> Result<(), AllocError> {
     for line in text.lines() {
-        for part in wrapped(alloc, line)? {
-            list.push(part)?;
-        }
+        list.extend(wrapped(alloc, line)?)?;
     }
     Ok(())
 }
@@ -86,14 +93,15 @@ fn draw(alloc: Global, subject: &Subject<'_>) -> Result<String, AllocError> {
         slots,
         step: step_for(most_letters(alloc, lanes.as_slice())?),
     };
-    let lines = u32::try_from(below.len()).unwrap_or(u32::MAX);
-    let height = frame.line_below(lines);
-    let title = subject.title;
-    let mut text = opening(alloc, frame.width(), height, title, below.as_slice())?;
-    push_text(&mut text, LINE.saturating_add(4), above.as_slice())?;
+    let mut text = opening(
+        alloc,
+        &frame,
+        subject.title,
+        above.as_slice(),
+        below.as_slice(),
+    )?;
     push_lanes(alloc, &mut text, &frame, lanes.as_slice(), subject)?;
-    push_text(&mut text, frame.line_below(0), below.as_slice())?;
-    text.push_str("</svg>\n")?;
+    close(&mut text, &frame, below.as_slice())?;
     Ok(text)
 }
 
