@@ -74,7 +74,9 @@ pub fn close(text: &mut String, frame: &Frame, below: &[String]) -> Result<(), A
 /// Adds lines of text, those that are too long in several.
 fn push_wrapped(alloc: Global, list: &mut Vec<String>, text: &str) -> Result<(), AllocError> {
     for line in text.lines() {
-        list.extend(wrapped(alloc, line)?)?;
+        for part in wrapped(alloc, line)? {
+            list.push(part)?;
+        }
     }
     Ok(())
 }

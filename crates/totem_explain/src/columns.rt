@@ -28,6 +28,14 @@ pub struct Focus<'a> {
     pub absences: &'a [Absence],
 }
 
+/// Adds these numbers, from the first one to the last.
+fn push_range(numbers: &mut Vec<u32>, from: u32, to: u32) -> Result<(), AllocError> {
+    for number in from..=to {
+        numbers.push(number)?;
+    }
+    Ok(())
+}
+
 impl Focus<'_> {
     /// Returns whether a log has one of the places, or lacks one of the events.
     fn has(&self, log: &Log) -> bool {
@@ -55,11 +63,15 @@ impl Focus<'_> {
         for absence in self.absences {
             let Place { proc, at } = absence.due;
             if proc == log.proc {
-                shown.extend(at.saturating_sub(AROUND)..=at.saturating_add(1))?;
+                push_range(&mut shown, at.saturating_sub(AROUND), at.saturating_add(1))?;
             }
         }
         for at in marks {
-            shown.extend(at.saturating_sub(AROUND)..=at.saturating_add(AROUND))?;
+            push_range(
+                &mut shown,
+                at.saturating_sub(AROUND),
+                at.saturating_add(AROUND),
+            )?;
         }
         shown.sort()?;
         shown.dedup();

@@ -32,7 +32,9 @@ pub fn add_to_group<S: PartialEq + Copy>(
     };
     if let Some(group) = group {
         group.procs.push(proc)?;
-        group.places.extend(place)?;
+        if let Some(place) = place {
+            group.places.push(place)?;
+        }
     }
     Ok(())
 }
