@@ -26,12 +26,11 @@ pub enum Line {
     Close(Ending),
 }
 
-// Reads members up to the end of the line.
-fn read_members<S: Source>(
+/// Reads members up to the end of the line.
+pub fn read_members<S: Source>(
     alloc: Global,
     source: &mut S,
     version: Version,
-    repeats: &mut Repeats,
 ) -> Result<Members, ReadError>
     ensures { Reads (seen S.remaining S.failures source.old)
         (seen S.remaining S.failures source.new) result (members_at version 32 0) }
@@ -47,7 +46,7 @@ fn read_members<S: Source>(
         life_fits(Version::Three, proc);
         procs.push(proc)?;
         if byte == b'\n' {
-            return Ok(repeats.share_members(alloc, procs)?);
+            return Ok(Members::from_vec(alloc, procs)?);
         }
         if byte != b' ' {
             return Err(ReadError::Text(TextFault::Word));
@@ -55,6 +54,22 @@ fn read_members<S: Source>(
         last = id;
     }
     Err(ReadError::Text(TextFault::TooMany))
+}
+
+// Reads the members of a change, all at once if they are at hand.
+fn read_roll<S: Source>(
+    alloc: Global,
+    source: &mut S,
+    version: Version,
+    repeats: &mut Repeats,
+) -> Result<Members, ReadError>
+    ensures { Reads (seen S.remaining S.failures source.old)
+        (seen S.remaining S.failures source.new) result (members_at version 32 0) }
+{
+    if let Some(members) = repeats.take_members(alloc, source, version)? {
+        return Ok(members);
+    }
+    read_members(alloc, source, version)
 }
 
 #[tactic(auto, using(crate::proofs::ReaderSteps::reader_steps), unfolding(crate::specs::RunGrammar::change_at))]
@@ -74,7 +89,7 @@ fn read_change<S: Source>(
     }
     word(source, b"onf ", TextFault::Word)?;
     let conf = read_conf(source, b' ')?;
-    let members = read_members(alloc, source, version, repeats)?;
+    let members = read_roll(alloc, source, version, repeats)?;
     Ok(Line::Entry(Entry::Conf(conf, members)))
 }
 

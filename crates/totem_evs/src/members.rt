@@ -3,7 +3,7 @@ ghost use Rattle.std.specs.Arc.{arc_value};
 ghost use Rattle.totem_names.specs.Lists.{Refuses};
 ghost use Rattle.totem_evs.specs.Members.{IsMembers, IsBelow};
 
-use std::alloc::AllocError;
+use std::alloc::{AllocError, Global};
 use std::marker::Model;
 use std::sync::Arc;
 use totem_names::{Proc, Refused, are_same, rising_fault};
@@ -53,6 +53,14 @@ impl Members {
         Members { procs }
     }
 
+    /// Makes the members from a vector of processes that are known to keep the rules.
+    pub(crate) fn from_vec(alloc: Global, procs: Vec<Proc>) -> Result<Members, AllocError>
+        requires { IsMembers procs.items }
+        ensures { IfOk result (λ m. m ≡ procs.items) }
+    {
+        Ok(Members::of(Arc::new(alloc, procs)?))
+    }
+
     pub fn as_slice(&self) -> &[Proc]
         ensures value { result.now ≡ self.now }
         ensures members { IsMembers self.now }
@@ -63,7 +71,12 @@ impl Members {
     pub fn contains(&self, proc: Proc) -> bool
         ensures { IsTrue result ↔ Contains self.now proc }
     {
-        self.procs.contains(&proc)
+        for member in self.as_slice() {
+            if *member == proc {
+                return true;
+            }
+        }
+        false
     }
 
     /// Returns whether the two are the same members: `==` in a form that contracts can use.

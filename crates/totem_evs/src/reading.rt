@@ -67,7 +67,7 @@ impl Gathered {
                 self.proc = Some(proc);
                 self.entries = Vec::new(alloc);
             }
-            Part::Entry(entry) => self.add_entry(entry)?,
+            Part::Entry(entry) => self.entries.push(entry)?,
             Part::Close(ending) => {
                 let entries = mem::replace(&mut self.entries, Vec::new(alloc));
                 if let Some(proc) = self.proc {

@@ -1,21 +1,21 @@
 //! Lines of sends and deliveries that differ from the one before only in the number of their message, as most lines of a log do. They are
-//! read at once, by what they begin with. Changes mostly repeat the members of the change before, and then share one list with it.
-ghost use Rattle.std.specs.Prelude.{◌≡◌, ◌<◌, ◌≤◌, [], Ok, Bool, IfNone, IfOk, IfSome, false, length, take};
+//! read at once, by what they begin with. Changes mostly repeat the members of the change before: then their text is not read again, and both
+//! share one list.
+ghost use Rattle.std.specs.Prelude.{◌≡◌, ◌<◌, ◌≤◌, [], Ok, Bool, IfNone, IfOk, IfSome, false, true, length, take};
 ghost use Rattle.std.specs.Io.KnownBytes.{Keeps};
 ghost use Rattle.totem_names.specs.Sources.{Comes, Reads, Settles, seen};
 ghost use Rattle.totem_names.specs.declared.version.Version.{Version};
 ghost use Rattle.totem_evs.specs.declared.lines.Line.TheVariants as lines;
-ghost use Rattle.totem_evs.specs.Members.{IsMembers};
 ghost use Rattle.totem_evs.specs.Missing.{members_of};
-ghost use Rattle.totem_evs.specs.RunGrammar.{line_at};
+ghost use Rattle.totem_evs.specs.RunGrammar.{line_at, members_at};
 ghost use Rattle.totem_evs.specs.LineStarts.{BeginsWith, start_at, send_start, delivery_start, entry_of};
 
 use crate::entry::Entry;
+use crate::lines::read_members;
 use crate::members::Members;
 use std::alloc::{AllocError, Global};
-use std::sync::Arc;
 use totem_names::{
-    ConfId, FromRead, MsgId, Proc, ReadError, RingId, Service, Source, TextFault, are_same, next,
+    ConfId, FromRead, MsgId, ReadError, RingId, Service, Source, TextFault, Version, next,
     number_within, read_conf, read_ring, read_service, word,
 };
 
@@ -166,13 +166,65 @@ impl Repeat {
     }
 }
 
-/// The starts with which the lines of a run repeat, by the kind of line, and the members of the last change.
+/// The members of a change, with their text up to the end of the line.
+#[derive(Drop)]
+struct Roll {
+    version: Version,
+    members: Members,
+    text: Vec<u8>,
+    ghost spelled: { Settles (members_at version 32 0) text.items members },
+}
+
+impl Roll {
+    /// Returns the members whose text comes first in these bytes, or `None` if none does.
+    fn of(alloc: Global, bytes: &[u8], version: Version) -> Result<Option<Roll>, AllocError> {
+        let Some(at) = bytes.iter().position(|byte| *byte == b'\n') else {
+            return Ok(None);
+        };
+        let Some(line) = bytes.get(..=at) else {
+            return Ok(None);
+        };
+        let mut source = FromRead::new(line);
+        let members = match read_members(alloc, &mut source, version) {
+            Ok(members) => members,
+            Err(ReadError::Memory) => return Err(AllocError),
+            Err(_) => return Ok(None),
+        };
+        let Ok(None) = source.byte() else {
+            return Ok(None);
+        };
+        let mut text = Vec::new(alloc);
+        text.extend_from_slice(line)?;
+        Ok(Some(Roll {
+            version,
+            members,
+            text,
+        }))
+    }
+
+    /// Takes the text of the members if it comes next and is at hand. Otherwise takes nothing.
+    fn take<S: Source>(&self, source: &mut S, version: Version) -> bool
+        ensures taken { result ≡ true → Comes (seen S.remaining S.failures source.old)
+            (seen S.remaining S.failures source.new) (members_at version 32 0) (λ more. Ok (self.now.members, more)) }
+        ensures kept { result ≡ false → Keeps (S.remaining source.old) (S.remaining source.new) }
+        ensures failures { S.failures source.new ≡ S.failures source.old }
+    {
+        let text = self.text.as_slice();
+        let begins = source.at_hand().starts_with(text);
+        if version != self.version || !begins {
+            return false;
+        }
+        source.skip(text.len())
+    }
+}
+
+/// The starts with which the lines of a run repeat, by the kind of line, and the members of the last change whose text was at hand.
 #[derive(Drop)]
 pub struct Repeats {
     deliveries: Repeat,
     agreed: Repeat,
     safe: Repeat,
-    members: Option<Members>,
+    roll: Option<Roll>,
 }
 
 impl Repeats {
@@ -182,24 +234,42 @@ impl Repeats {
             deliveries: Repeat::new(alloc),
             agreed: Repeat::new(alloc),
             safe: Repeat::new(alloc),
-            members: None,
+            roll: None,
         }
     }
 
-    /// Makes the members of a change from processes that are known to keep the rules. If they are those of the last change, both share
-    /// one list.
-    pub fn share_members(&mut self, alloc: Global, procs: Vec<Proc>) -> Result<Members, AllocError>
-        requires { IsMembers procs.items }
-        ensures { IfOk result (λ m. m ≡ procs.items) }
-    {
-        if let Some(last) = &self.members
-            && are_same(last.as_slice(), &procs)
-        {
-            return last.try_clone();
+    // Returns whether these bytes begin with the text of the last members.
+    fn knows(&self, bytes: &[u8], version: Version) -> bool {
+        match &self.roll {
+            Some(roll) => roll.version == version && bytes.starts_with(roll.text.as_slice()),
+            None => false,
         }
-        let members = Members::of(Arc::new(alloc, procs)?);
-        self.members = Some(members.try_clone()?);
-        Ok(members)
+    }
+
+    /// Takes the members that come next if all of their text is at hand. Otherwise takes nothing. If their text is that of the members before,
+    /// both share one list.
+    pub fn take_members<S: Source>(
+        &mut self,
+        alloc: Global,
+        source: &mut S,
+        version: Version,
+    ) -> Result<Option<Members>, AllocError>
+        ensures taken { IfOk result (λ found. IfSome found (λ m. Comes (seen S.remaining S.failures source.old)
+            (seen S.remaining S.failures source.new) (members_at version 32 0) (λ more. Ok (m, more)))) }
+        ensures kept { IfOk result (λ found. IfNone found (Keeps (S.remaining source.old) (S.remaining source.new))) }
+        ensures failures { S.failures source.new ≡ S.failures source.old }
+    {
+        let known = self.knows(source.at_hand(), version);
+        if !known {
+            self.roll = Roll::of(alloc, source.at_hand(), version)?;
+        }
+        let Some(roll) = &self.roll else {
+            return Ok(None);
+        };
+        if !roll.take(source, version) {
+            return Ok(None);
+        }
+        Ok(Some(roll.members.try_clone()?))
     }
 
     // Returns the start that the line with which these bytes begin may have.

@@ -34,10 +34,23 @@ const LEFT_OUT: usize = 16;
 
 const LEFT_OUT_EACH: usize = 3;
 
-/// The next events of all logs that share a number: the first log that has one, and the set of all that do, also as bits.
+/// How many numbers of the certificate are looked at together.
+const WINDOW: usize = 256;
+
+/// The events that share a number: bit i of `bits` stands for the log at index i, and `at` is the index of the event in the first log.
+#[derive(Clone, Copy)]
+struct Shared {
+    bits: u32,
+    at: usize,
+}
+
+const NOTHING: Shared = Shared { bits: 0, at: 0 };
+
+/// The events that share a number, with the first log that has one, and the index of its entry there.
 #[derive(Clone, Copy)]
 struct Next {
     log: u32,
+    at: usize,
     number: u32,
     bits: u32,
     logs: LogSet,
@@ -61,101 +74,99 @@ struct Gatherer {
     behind: LogSet,
 }
 
-/// Where the walk is in a log.
+/// Where the walk is in a log: the entries from `from` to `to` have the numbers of the window.
 #[derive(Clone, Copy)]
 struct Cursor<'a> {
     entries: &'a [Entry],
     numbers: &'a [u32],
-    /// How many entries have been passed.
-    passed: usize,
-    /// The number of the next entry, or `NONE`.
-    next: u32,
+    from: usize,
+    to: usize,
 }
 
 /// The walk along the numbers of a certificate.
 #[derive(Drop)]
 struct Walk<'a> {
     cursors: Vec<Cursor<'a>>,
-    /// The number that was passed last.
-    last: u32,
+    /// The events with the numbers from `first` on.
+    window: Vec<Shared>,
+    first: u32,
 }
 
-/// No entry has this number.
-const NONE: u32 = 0;
+/// Enters the entries of a log whose numbers are in the window. Returns where the others begin.
+fn enter_log(window: &mut [Shared], first: u32, bit: u32, numbers: &[u32], from: usize) -> usize {
+    for at in from..numbers.len() {
+        let slot = numbers[at].wrapping_sub(first) as usize;
+        if slot >= window.len() {
+            return at;
+        }
+        if window[slot].bits == 0 {
+            window[slot].at = at;
+        }
+        window[slot].bits |= bit;
+    }
+    numbers.len()
+}
 
-/// Returns the number of the entry at this index, or `NONE` if there is no such entry.
-fn number_at(numbers: &[u32], at: usize) -> u32 {
-    numbers.get(at).copied().unwrap_or(NONE)
+impl<'a> Cursor<'a> {
+    /// Returns the index of the entry with this number of the window.
+    fn index_of(&self, number: u32) -> Option<usize> {
+        let numbers = self.numbers.get(self.from..self.to)?;
+        let index = numbers.binary_search(&number).ok()?;
+        Some(self.from.saturating_add(index))
+    }
 }
 
 impl<'a> Walk<'a> {
     fn new(alloc: Global, logs: &'a [Log], lines: &'a [Line]) -> Result<Walk<'a>, AllocError> {
         let mut cursors = Vec::with_capacity(alloc, lines.len())?;
         for (log, line) in logs.iter().zip(lines) {
-            let numbers = line.numbers.as_slice();
             cursors.push(Cursor {
                 entries: log.entries.as_slice(),
-                numbers,
-                passed: 0,
-                next: number_at(numbers, 0),
+                numbers: line.numbers.as_slice(),
+                from: 0,
+                to: 0,
             })?;
         }
         Ok(Walk {
             cursors,
-            last: NONE,
+            window: vec![in alloc; NOTHING; WINDOW]?,
+            first: 0,
         })
     }
 
-    /// Returns the logs whose next entries have this number: bit i stands for the log at index i.
-    fn bits_at(&self, number: u32) -> u32 {
-        let mut bits = 0u32;
-        for cursor in self.cursors.iter().rev() {
-            bits = (bits << 1) | u32::from(cursor.next == number);
-        }
-        bits
-    }
-
-    /// Moves past the next entries of these logs.
-    fn pass_all(&mut self, bits: u32) {
-        let mut left = bits;
-        for _ in 0..bits.count_ones() {
-            let log = left.trailing_zeros() as usize;
-            left &= left.wrapping_sub(1);
-            if log < self.cursors.len() {
-                let cursor = &mut self.cursors[log];
-                cursor.passed = cursor.passed.saturating_add(1);
-                cursor.next = number_at(cursor.numbers, cursor.passed);
-            }
-        }
-    }
-
-    /// Returns the least number that is left, or `None` if there is none.
+    /// Returns the least number behind the window, or `None` if there is none.
     fn least(&self) -> Option<u32> {
-        let mut least = None;
+        let mut least: Option<u32> = None;
         for cursor in self.cursors.iter() {
-            if cursor.next != NONE {
-                least = Some(least.unwrap_or(u32::MAX).min(cursor.next));
+            if let Some(number) = cursor.numbers.get(cursor.to).copied() {
+                least = Some(least.unwrap_or(u32::MAX).min(number));
             }
         }
         least
     }
 
-    /// Moves past the next events, those with the least number that is left. Returns `None` if there are none. Most numbers follow each
-    /// other.
-    fn go_on(&mut self) -> Option<Next> {
-        let mut number = self.last.saturating_add(1);
-        let mut bits = self.bits_at(number);
-        if bits == 0 {
-            number = self.least()?;
-            bits = self.bits_at(number);
+    /// Moves the window on to this number.
+    fn go_on(&mut self, first: u32) {
+        self.first = first;
+        for shared in &mut self.window {
+            *shared = NOTHING;
         }
-        self.pass_all(bits);
-        self.last = number;
+        let mut bit = 1u32;
+        for cursor in &mut self.cursors {
+            cursor.from = cursor.to;
+            cursor.to = enter_log(&mut self.window, first, bit, cursor.numbers, cursor.to);
+            bit = bit.wrapping_shl(1);
+        }
+    }
+
+    /// Returns the events at this index of the window, or `None` if there are none.
+    fn next_at(&self, slot: usize, shared: Shared) -> Option<Next> {
+        let Shared { bits, at } = shared;
         let logs = LogSet::from_bits(bits);
-        let log = logs.least()?;
         Some(Next {
-            log,
-            number,
+            log: logs.least()?,
+            at,
+            number: self.first.saturating_add(index_of(slot)),
             bits,
             logs,
         })
@@ -257,8 +268,10 @@ impl Gatherer {
         for _ in 0..next.bits.count_ones() {
             let log = left.trailing_zeros() as usize;
             left &= left.wrapping_sub(1);
-            if log < walk.cursors.len() {
-                self.move_on(log, walk.cursors[log].passed.saturating_sub(1));
+            if let Some(cursor) = walk.cursors.get(log)
+                && let Some(at) = cursor.index_of(next.number)
+            {
+                self.move_on(log, at);
             }
         }
     }
@@ -272,7 +285,6 @@ impl Gatherer {
         next: &Next,
         walk: &Walk<'_>,
     ) -> Result<(), AllocError> {
-        self.move_all(next, walk);
         let count = next.bits.count_ones();
         let mut gathered = Gathered::new(alloc, ring, next.number, count as usize, messages)?;
         let mut left = next.bits;
@@ -280,19 +292,24 @@ impl Gatherer {
             let log = left.trailing_zeros();
             let index = log as usize;
             left &= left.wrapping_sub(1);
-            if log < 32 && index < walk.cursors.len() && index < self.standing.len() {
-                let from = walk.cursors[index].passed.saturating_sub(1);
-                let end = walk.cursors[index].entries.len();
+            if log < 32
+                && let Some(cursor) = walk.cursors.get(index)
+                && let Some(from) = cursor.index_of(next.number)
+            {
+                self.move_on(index, from);
+                let end = cursor.entries.len();
                 gathered.stays.push(Stay {
                     log,
                     from,
                     turn: end,
                     end,
                 })?;
-                self.standing[index] = Standing {
-                    configuration: self.list.len(),
-                    stay,
-                };
+                if let Some(standing) = self.standing.get_mut(index) {
+                    *standing = Standing {
+                        configuration: self.list.len(),
+                        stay,
+                    };
+                }
             }
         }
         self.behind = self.behind.minus(next.logs);
@@ -369,17 +386,17 @@ impl Gatherer {
         Ok(())
     }
 
-    /// Enters the events that the walk has just passed. `entry` is that of the first log.
-    fn enter(
-        &mut self,
-        alloc: Global,
-        entry: &Entry,
-        next: &Next,
-        walk: &Walk<'_>,
-    ) -> Result<(), AllocError> {
+    /// Enters events that share a number, as the entry of the first log says what they are.
+    fn enter(&mut self, alloc: Global, next: &Next, walk: &Walk<'_>) -> Result<(), AllocError> {
+        let Some(cursor) = walk.cursors.get(next.log as usize) else {
+            return Ok(());
+        };
+        let Some(entry) = cursor.entries.get(next.at) else {
+            return Ok(());
+        };
         match entry {
             Entry::Conf(ConfId::Regular(ring), _) => {
-                let messages = messages_from(walk, next.log as usize);
+                let messages = messages_from(cursor, next);
                 self.change(alloc, *ring, messages, next, walk)
             }
             Entry::Conf(ConfId::Transitional { .. }, _) => {
@@ -404,21 +421,15 @@ fn stay_length(entries: &[Entry]) -> usize {
     entries.len()
 }
 
-/// Returns about how many messages are sent until this log changes to a regular configuration again, and at most how many entries it has
-/// until then. The walk has passed the entry before that. Most messages take two numbers, for the send and for the deliveries.
-fn messages_from(walk: &Walk<'_>, log: usize) -> usize {
-    let Some(cursor) = walk.cursors.get(log) else {
-        return 0;
-    };
-    let Some(entries) = cursor.entries.get(cursor.passed..) else {
+/// Returns about how many messages are sent until the first log changes to a regular configuration again, and at most how many entries it
+/// has until then. Most messages take two numbers, for the send and for the deliveries.
+fn messages_from(cursor: &Cursor<'_>, next: &Next) -> usize {
+    let Some(entries) = cursor.entries.get(next.at.saturating_add(1)..) else {
         return 0;
     };
     let length = stay_length(entries);
-    let last = number_at(
-        cursor.numbers,
-        cursor.passed.saturating_add(length).saturating_sub(1),
-    );
-    let events = last.saturating_sub(walk.last) as usize;
+    let last = cursor.numbers.get(next.at.saturating_add(length)).copied();
+    let events = last.unwrap_or(0).saturating_sub(next.number) as usize;
     (events / 2).min(length)
 }
 
@@ -438,16 +449,15 @@ pub fn gather(alloc: Global, logs: &[Log], lines: &[Line]) -> Result<Vec<Gathere
     let mut gatherer = Gatherer::new(alloc)?;
     let mut walk = Walk::new(alloc, logs, lines)?;
     for _ in 0..entries_of(logs) {
-        let Some(next) = walk.go_on() else {
+        let Some(first) = walk.least() else {
             break;
         };
-        let Some(cursor) = walk.cursors.get(next.log as usize) else {
-            break;
-        };
-        let Some(entry) = cursor.entries.get(cursor.passed.saturating_sub(1)) else {
-            break;
-        };
-        gatherer.enter(alloc, entry, &next, &walk)?;
+        walk.go_on(first);
+        for (slot, shared) in walk.window.iter().enumerate() {
+            if let Some(next) = walk.next_at(slot, *shared) {
+                gatherer.enter(alloc, &next, &walk)?;
+            }
+        }
     }
     Ok(gatherer.list)
 }

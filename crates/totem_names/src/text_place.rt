@@ -38,14 +38,6 @@ fn is_end(byte: &u8) -> bool {
     *byte == b'\n'
 }
 
-/// Returns the bytes after the last end of a line, or `None` if no line ends.
-fn behind_last_end(bytes: &[u8]) -> Option<&[u8]> {
-    bytes
-        .iter()
-        .rposition(|byte| is_end(byte))
-        .and_then(|at| bytes.get(at.saturating_add(1)..))
-}
-
 /// Returns how many lines end among these bytes.
 fn ends_in(bytes: &[u8]) -> u64 {
     let mut count = 0u64;
@@ -57,6 +49,20 @@ fn ends_in(bytes: &[u8]) -> u64 {
         count = count.wrapping_add(u64::from(few));
     }
     count
+}
+
+/// Returns the bytes after the last end of a line, or `None` if no line ends.
+fn behind_last_end(bytes: &[u8]) -> Option<&[u8]> {
+    let mut behind = bytes.len();
+    for part in bytes.rchunks(PART) {
+        let from = behind.saturating_sub(part.len());
+        if ends_in(part) > 0 {
+            let at = part.iter().rposition(|byte| is_end(byte))?;
+            return bytes.get(from.saturating_add(at).saturating_add(1)..);
+        }
+        behind = from;
+    }
+    None
 }
 
 impl Passed {

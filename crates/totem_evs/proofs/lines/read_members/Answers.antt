@@ -20,8 +20,8 @@ loop-init g c = rw c.in_ok-procs.ensures.items (record {
   rising = rising_none 0;
 })
 
-pub share_members-requires : goal.share_members-requires
-share_members-requires g c =
+pub from_vec-requires : goal.from_vec-requires
+from_vec-requires g c =
     let above = rw (c.from-id.ensures, c.number.ensures.value, c.id.ensures) at c.if-id-last.false in
     rw c.in_ok-push.ensures.items
     (rising_members _ _ (rising_more _ _ _ c.loop.invariant.rising above (c.life_fits.ensures (λ h. absurd cc)))
@@ -30,7 +30,7 @@ share_members-requires g c =
 pub returns-then-byte-eq10 : goal.returns-then-byte-eq10
 returns-then-byte-eq10 g c =
     let above = rw (c.from-id.ensures, c.number.ensures.value, c.id.ensures) at c.if-id-last.false in
-    rw (c.in_ok-share_members.ensures, c.in_ok-push.ensures.items)
+    rw (c.in_ok-from_vec.ensures, c.in_ok-push.ensures.items)
     (picks _ _ _ _ _ _ _ (is_above _ _ _ _ _ _ _ (called _ _ _ _ _ _ _ (same_left _ _ _ _ _ c.loop.invariant.so_far (members_step c.args.version c.loop.procs.items (32 - c.loop.counter) (32 - (c.loop.counter + 1)) c.loop.last (omega arith))) c.in_ok-proc.ensures.read) above) c.if-byte-eq10.true)
 
 pub returns-then-byte-ne32 : goal.returns-then-byte-ne32
