@@ -69,7 +69,8 @@ fn read_roll<S: Source>(
     if let Some(members) = repeats.take_members(alloc, source, version)? {
         return Ok(members);
     }
-    read_members(alloc, source, version)
+    let members = read_members(alloc, source, version)?;
+    Ok(repeats.share(members)?)
 }
 
 #[tactic(auto, using(crate::proofs::ReaderSteps::reader_steps), unfolding(crate::specs::RunGrammar::change_at))]

@@ -218,13 +218,15 @@ impl Roll {
     }
 }
 
-/// The starts with which the lines of a run repeat, by the kind of line, and the members of the last change whose text was at hand.
+/// The starts with which the lines of a run repeat, by the kind of line, and the members of the last change whose text was at hand, and of
+/// the last one whose text was not.
 #[derive(Drop)]
 pub struct Repeats {
     deliveries: Repeat,
     agreed: Repeat,
     safe: Repeat,
     roll: Option<Roll>,
+    members: Option<Members>,
 }
 
 impl Repeats {
@@ -235,6 +237,7 @@ impl Repeats {
             agreed: Repeat::new(alloc),
             safe: Repeat::new(alloc),
             roll: None,
+            members: None,
         }
     }
 
@@ -270,6 +273,19 @@ impl Repeats {
             return Ok(None);
         }
         Ok(Some(roll.members.try_clone()?))
+    }
+
+    /// Returns the members of a change whose text was not at hand. If the last such change had the same ones, both share one list.
+    pub fn share(&mut self, members: Members) -> Result<Members, AllocError>
+        ensures { IfOk result (λ m. m ≡ members) }
+    {
+        if let Some(last) = &self.members
+            && last.is(&members)
+        {
+            return last.try_clone();
+        }
+        self.members = Some(members.try_clone()?);
+        Ok(members)
     }
 
     // Returns the start that the line with which these bytes begin may have.

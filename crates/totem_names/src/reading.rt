@@ -113,6 +113,7 @@ pub fn number_within(bytes: &[u8], max: u32) -> Option<(u32, u8, usize)>
 }
 
 // Takes the number and the byte after it if both are at hand. Otherwise it takes nothing.
+#[inline(always)]
 fn number_at_hand<S: Source>(source: &mut S, max: u32) -> Option<(u32, u8)>
     requires { 9 ≤ max }
     ensures taken { let old = seen S.remaining S.failures source.old in
@@ -163,6 +164,7 @@ fn number_by_bytes<S: Source>(source: &mut S, max: u32) -> Result<(u32, u8), Rea
 
 /// Reads a number from 1 to `max`, without leading zeros, and returns it with the byte after it. The fault is `Number`
 /// at the first byte with which no such number can continue.
+#[inline(always)]
 pub fn number<S: Source>(source: &mut S, max: u32) -> Result<(u32, u8), ReadError>
     requires { 9 ≤ max }
     ensures read { Reads (seen S.remaining S.failures source.old)
