@@ -168,6 +168,7 @@ fn advance(
 }
 
 /// Gives the head of the k-th log its number.
+#[inline(always)]
 pub fn number_head(
     run: &Run,
     table: &Table,

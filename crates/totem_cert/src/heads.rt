@@ -21,6 +21,7 @@ pub enum Head {
 }
 
 /// Returns what the head of the k-th log is.
+#[inline(always)]
 pub fn head_of(run: &Run, table: &Table, lines: &[OpenLine], k: usize, log: &Log) -> Head
     requires table { IsTable run.now.logs table.now }
     requires fits { Fits run.now.logs lines.now }

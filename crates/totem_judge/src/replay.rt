@@ -126,6 +126,7 @@ fn is_delivery_of(
 }
 
 /// Returns whether the lists have what the entries of the stay send and deliver, and nothing else that its log sends or delivers.
+#[inline(never)]
 #[tactic(auto, using(crate::proofs::Steps::listed_all, crate::proofs::Steps::sent_all))]
 fn are_as_listed(entries: &[Entry], numbers: &[u32], gathered: &Gathered, stay: &Stay) -> bool
     requires some { stay.now.from < stay.now.end }

@@ -12,7 +12,7 @@ use Rattle.totem_judge_certificate.specs.ClassOf.{class_of, class_barred_by}
 
 -- the deliveries of the message were passed: it is one of those that were delivered in ascending order, or one of the others
 abbrev pub HasDelivery : Passed → MsgId → Type 0
-HasDelivery passed m = Contains passed.ascending.messages.items m ⊎ (sorted.contains message.cmp-value.it passed.others m ≡ true)
+HasDelivery passed m = Contains passed.ascending.messages.items m ⊎ (Contains passed.late.messages.items m ⊎ (sorted.contains message.cmp-value.it passed.others m ≡ true))
 
 -- the class was passed
 abbrev pub Has : Passed → Class → Type 0

@@ -15,7 +15,9 @@ pub struct Passed {
     changes: BTreeSet<ConfId>,
     /// The messages that were delivered in ascending order: nearly all, where the network did not partition.
     ascending: Ascending,
-    /// The other messages that were delivered.
+    /// Of the other messages, those that were delivered in ascending order: nearly all, where it did.
+    late: Ascending,
+    /// All further messages that were delivered.
     others: BTreeSet<MsgId>,
 }
 
@@ -27,6 +29,7 @@ impl Passed {
         Passed {
             changes: BTreeSet::new(alloc),
             ascending: Ascending::none(alloc),
+            late: Ascending::none(alloc),
             others: BTreeSet::new(alloc),
         }
     }
@@ -34,7 +37,9 @@ impl Passed {
     fn has_delivery(&self, message: &MsgId) -> bool
         ensures { IsTrue result ↔ HasDelivery self.now message.now }
     {
-        self.ascending.contains(message) || self.others.contains(message)
+        self.ascending.contains(message)
+            || self.late.contains(message)
+            || self.others.contains(message)
     }
 
     fn add_delivery(&mut self, message: &MsgId) -> Result<(), AllocError>
@@ -42,6 +47,8 @@ impl Passed {
     {
         if self.ascending.is_next(message) {
             self.ascending.push(message)?;
+        } else if self.late.is_next(message) {
+            self.late.push(message)?;
         } else {
             self.others.insert(*message)?;
         }

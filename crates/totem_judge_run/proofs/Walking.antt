@@ -1,5 +1,5 @@
 -- One walk along a log, entry after entry.
-use Rattle.totem_judge_run.proofs.Common.{◌≡◌, ◌↔◌, ◌≤◌, ◌+◌, ◌++◌, ◌∷◌, [], ℕ, suc, List, length, take, slice_get, Option, Some, Bool, false, IsTrue, refl, sym, ap, ◌∙◌, arith, option_to_list, append_assoc, AllWithin, take_all, slice_get_within, get_or_from_slice_get, All-from_all_within, AllWithin-more, at_read, filter_map-append, ConfId, MsgId, Entry, Conf, Send, Deliver, Fail, Log, IsFailure, AreRight, Enters, IsLastBefore, Keeps, AddsSend, IsNoSendBetween, message_in, messages_in}
+use Rattle.totem_judge_run.proofs.Common.{◌≡◌, ◌↔◌, ◌≤◌, ◌+◌, ◌++◌, ◌∷◌, [], ℕ, suc, List, length, take, slice_get, Option, Some, Bool, false, IsTrue, refl, sym, ap, ◌∙◌, arith, option_to_list, append_assoc, append-nil, AllWithin, take_all, slice_get_within, get_or_from_slice_get, All-from_all_within, AllWithin-more, at_read, filter_map-append, ConfId, MsgId, Entry, Conf, Send, Deliver, Fail, Log, IsFailure, AreRight, Enters, IsLastBefore, Keeps, AddsSend, IsNoSendBetween, message_in, messages_in}
 use Rattle.std.proofs.Math.Seq.{take-suc}
 use Rattle.totem_judge_run.specs.declared.first_changes.FirstChanges.{FirstChanges}
 use Rattle.totem_judge_run.specs.declared.once_1_4.Once.TheVariants as once
@@ -46,6 +46,13 @@ so_far_more log at e sent sending more old new firsts standing failed before the
   kept = record { each = λ x f is. enters.kept.each x f (so.kept.each x f is) };
   last = last_more log.entries at before e there so.last;
 }
+
+-- past a delivery nothing else has to be noted
+pub delivered : (log : Log) (at : ℕ) (m : MsgId) (x : ConfId) (sent sending : List MsgId) (old new : FirstChanges) (standing : Option ConfId) (before : Option ℕ)
+    → slice_get log.entries at ≡ Some (Deliver m x) → Fits standing (Deliver m x) → SoFar log at sent sending old new standing false before → SoFar log (at + 1) sent sending old new standing false before
+delivered log at m x sent sending old new standing before there fits so =
+    so_far_more log at (Deliver m x) sent sending sending old new new standing false before there fits (λ h. absurd cc, λ h. absurd h) (record { adds = sym (append-nil sending); regular = tt })
+    (record { right = λ y ms change. absurd cc; kept = record { each = λ y f is. is } }) so
 
 pub walked : (log : Log) (at : ℕ) (sent sending : List MsgId) (old new : FirstChanges) (standing : Option ConfId) (failed : Bool) (before : Option ℕ) → length log.entries ≤ at
     → SoFar log at sent sending old new standing failed before → IsWalked sent sending old new log

@@ -41,6 +41,9 @@ fn walk<'a>(
         if failed || !good {
             return Ok(false);
         }
+        if let Entry::Deliver(_, _) = entry {
+            continue;
+        }
         if !add_send(sent, entry)? || !enter(firsts, log, at, before)? {
             return Ok(false);
         }
