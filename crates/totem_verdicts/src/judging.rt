@@ -2,7 +2,7 @@
 ghost use Rattle.std.specs.Prelude.{◌≡◌, []};
 ghost use Rattle.totem_names.specs.Sources.{seen};
 ghost use Rattle.totem_names.specs.Writing.{held};
-ghost use Rattle.totem_verdicts.specs.Endings.{Concludes, GivesExplanation, GivesTrace, Judges, Points, Traces, bare};
+ghost use Rattle.totem_verdicts.specs.Endings.{Concludes, GivesExplanation, Judges, Points, Traces, bare};
 
 use crate::audit_stream::report_io;
 use crate::check_stream::check_by;
@@ -71,26 +71,6 @@ fn end<E: Sink>(outcome: Outcome, no_fault: &str, lacking: &str, errors: &mut E)
 }
 
 /// Writes an explanation of the run, and returns the status.
-fn explained<T: Threads + Wait + Sync, R: Source, W: Sink, E: Sink>(
-    rt: &T,
-    alloc: Global,
-    workers: Workers,
-    explanation: Explanation,
-    lacking: &mut Lacking,
-    input: &mut R,
-    output: &mut W,
-    errors: &mut E,
-) -> u8
-    ensures { GivesExplanation explanation (seen R.remaining R.failures input.old) (seen R.remaining R.failures input.new)
-        (held W.contents W.failures [] output.old) (held W.contents W.failures [] output.new)
-        (bare E.contents E.failures errors.old) (bare E.contents E.failures errors.new) result }
-{
-    match explain_io(rt, alloc, input, output, workers, explanation, lacking) {
-        Ok(outcome) => end(outcome, lacking.no_fault(), lacking.line(), errors),
-        Err(fault) => point(alloc, &fault, input, errors),
-    }
-}
-
 fn explain<T: Threads + Wait + Sync, R: Source, W: Sink, E: Sink>(
     rt: &T,
     alloc: Global,
@@ -106,40 +86,14 @@ fn explain<T: Threads + Wait + Sync, R: Source, W: Sink, E: Sink>(
         (bare E.contents E.failures errors.old) (bare E.contents E.failures errors.new) result }
 {
     let mut lacking = Lacking::of(alloc, required);
-    explained(
-        rt,
-        alloc,
-        workers,
-        explanation,
-        &mut lacking,
-        input,
-        output,
-        errors,
-    )
-}
-
-/// Says what became of a message, and returns the status: 6 if no log names it.
-fn trace<R: Source, W: Sink, E: Sink>(
-    alloc: Global,
-    message: MsgId,
-    columns: usize,
-    input: &mut R,
-    output: &mut W,
-    errors: &mut E,
-) -> u8
-    ensures { GivesTrace (seen R.remaining R.failures input.old) (seen R.remaining R.failures input.new)
-        (held W.contents W.failures [] output.old) (held W.contents W.failures [] output.new)
-        (bare E.contents E.failures errors.old) (bare E.contents E.failures errors.new) result }
-{
-    match trace_io(alloc, input, output, message, columns) {
-        Ok(true) => 0,
-        Ok(false) => 6,
+    match explain_io(rt, alloc, input, output, workers, explanation, &mut lacking) {
+        Ok(outcome) => end(outcome, lacking.no_fault(), lacking.line(), errors),
         Err(fault) => point(alloc, &fault, input, errors),
     }
 }
 
-/// Says what became of a message, unless what the arguments have is no name of one, and returns the status.
-fn traced<R: Source, W: Sink, E: Sink>(
+/// Says what became of a message, unless what the arguments have is no name of one. Returns the status: 6 if no log names the message.
+fn trace<R: Source, W: Sink, E: Sink>(
     alloc: Global,
     message: Option<MsgId>,
     columns: usize,
@@ -152,7 +106,11 @@ fn traced<R: Source, W: Sink, E: Sink>(
         (bare E.contents E.failures errors.old) (bare E.contents E.failures errors.new) result }
 {
     match message {
-        Some(message) => trace(alloc, message, columns, input, output, errors),
+        Some(message) => match trace_io(alloc, input, output, message, columns) {
+            Ok(true) => 0,
+            Ok(false) => 6,
+            Err(fault) => point(alloc, &fault, input, errors),
+        },
         None => {
             tell(errors, NO_MESSAGE.as_bytes());
             64
@@ -193,7 +151,7 @@ pub fn judge_io<T: Threads + Wait + Sync, R: Source, W: Sink, E: Sink>(
             errors,
         ),
         Asked::Message { message, columns } => {
-            traced(alloc, message, columns, input, output, errors)
+            trace(alloc, message, columns, input, output, errors)
         }
         Asked::Audit { workers, form } => {
             match report_io(rt, alloc, input, output, as_many(workers), form) {

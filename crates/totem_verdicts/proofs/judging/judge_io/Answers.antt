@@ -19,4 +19,4 @@ pub returns-in-Explain : goal.returns-in-Explain
 returns-in-Explain g c = rw c.in-Explain.is c.explain.ensures
 
 pub returns-in-Message : goal.returns-in-Message
-returns-in-Message g c = rw c.in-Message.is c.traced.ensures
+returns-in-Message g c = rw c.in-Message.is c.trace.ensures
