@@ -46,14 +46,14 @@ struct Shared {
 
 const NOTHING: Shared = Shared { bits: 0, at: 0 };
 
-/// The events that share a number, with the first log that has one, and the index of its entry there.
+/// The events that share a number, in `count` logs; in the first of these, `log`, the index of the event is `at`.
 #[derive(Clone, Copy)]
 struct Next {
+    number: u32,
+    logs: LogSet,
+    count: u32,
     log: u32,
     at: usize,
-    number: u32,
-    bits: u32,
-    logs: LogSet,
 }
 
 /// Where a log stands: the index of the configuration, and that of its stay there.
@@ -161,14 +161,13 @@ impl<'a> Walk<'a> {
 
     /// Returns the events at this index of the window, or `None` if there are none.
     fn next_at(&self, slot: usize, shared: Shared) -> Option<Next> {
-        let Shared { bits, at } = shared;
-        let logs = LogSet::from_bits(bits);
+        let logs = LogSet::from_bits(shared.bits);
         Some(Next {
-            log: logs.least()?,
-            at,
             number: self.first.saturating_add(index_of(slot)),
-            bits,
             logs,
+            count: shared.bits.count_ones(),
+            log: logs.least()?,
+            at: shared.at,
         })
     }
 }
@@ -246,37 +245,28 @@ impl Gatherer {
 
     /// Enters that this log changes at this index, in the stay that it is in.
     fn move_on(&mut self, log: usize, at: usize) {
-        if log < self.standing.len() {
-            let Standing {
-                configuration,
-                stay,
-            } = self.standing[log];
-            if configuration < self.list.len() && stay < self.list[configuration].stays.len() {
-                let stay = &mut self.list[configuration].stays[stay];
-                if stay.turn == stay.end {
-                    stay.turn = at;
-                } else {
-                    stay.end = at;
-                }
+        if let Some(standing) = self.standing.get(log)
+            && let Some(gathered) = self.list.get_mut(standing.configuration)
+            && let Some(stay) = gathered.stays.get_mut(standing.stay)
+        {
+            if stay.turn == stay.end {
+                stay.turn = at;
+            } else {
+                stay.end = at;
             }
         }
     }
 
-    /// Enters the changes of these logs, in the stays that they are in.
-    fn move_all(&mut self, next: &Next, walk: &Walk<'_>) {
-        let mut left = next.bits;
-        for _ in 0..next.bits.count_ones() {
-            let log = left.trailing_zeros() as usize;
-            left &= left.wrapping_sub(1);
-            if let Some(cursor) = walk.cursors.get(log)
-                && let Some(at) = cursor.index_of(next.number)
-            {
+    /// Enters the changes that have this number, in the stays that their logs are in.
+    fn move_all(&mut self, number: u32, walk: &Walk<'_>) {
+        for (log, cursor) in walk.cursors.iter().enumerate() {
+            if let Some(at) = cursor.index_of(number) {
                 self.move_on(log, at);
             }
         }
     }
 
-    /// Enters the changes of these logs to a regular configuration, in which about this many messages are sent.
+    /// Enters the changes that have this number, all to one regular configuration, in which about this many messages are sent.
     fn change(
         &mut self,
         alloc: Global,
@@ -285,18 +275,19 @@ impl Gatherer {
         next: &Next,
         walk: &Walk<'_>,
     ) -> Result<(), AllocError> {
-        let count = next.bits.count_ones();
-        let mut gathered = Gathered::new(alloc, ring, next.number, count as usize, messages)?;
-        let mut left = next.bits;
-        for stay in 0..count as usize {
-            let log = left.trailing_zeros();
-            let index = log as usize;
-            left &= left.wrapping_sub(1);
+        let mut gathered = Gathered::new(alloc, ring, next.number, next.count as usize, messages)?;
+        for (index, cursor) in walk.cursors.iter().enumerate() {
+            let log = index_of(index);
             if log < 32
-                && let Some(cursor) = walk.cursors.get(index)
                 && let Some(from) = cursor.index_of(next.number)
             {
                 self.move_on(index, from);
+                if let Some(standing) = self.standing.get_mut(index) {
+                    *standing = Standing {
+                        configuration: self.list.len(),
+                        stay: gathered.stays.len(),
+                    };
+                }
                 let end = cursor.entries.len();
                 gathered.stays.push(Stay {
                     log,
@@ -304,12 +295,6 @@ impl Gatherer {
                     turn: end,
                     end,
                 })?;
-                if let Some(standing) = self.standing.get_mut(index) {
-                    *standing = Standing {
-                        configuration: self.list.len(),
-                        stay,
-                    };
-                }
             }
         }
         self.behind = self.behind.minus(next.logs);
@@ -318,25 +303,23 @@ impl Gatherer {
         Ok(())
     }
 
-    /// Returns the index of the configuration that this log is in.
-    fn configuration_of(&self, log: u32) -> Option<usize> {
-        let standing = self.standing.get(log as usize).copied()?;
-        if standing.configuration < self.list.len() {
-            Some(standing.configuration)
-        } else {
-            None
+    /// Returns the index of the configuration that this log is in, or `usize::MAX` if there is none.
+    fn configuration_of(&self, log: u32) -> usize {
+        match self.standing.get(log as usize) {
+            Some(standing) => standing.configuration,
+            None => usize::MAX,
         }
     }
 
     fn send(&mut self, message: MsgId, service: Service, next: &Next) -> Result<(), AllocError> {
         let sender = next.log;
-        let Some(configuration) = self.configuration_of(sender) else {
+        let configuration = self.configuration_of(sender);
+        let Some(gathered) = self.list.get_mut(configuration) else {
             return Ok(());
         };
-        if sender >= 32 || configuration >= self.list.len() {
+        if sender >= 32 {
             return Ok(());
         }
-        let gathered = &mut self.list[configuration];
         let index = index_of(gathered.sent.len());
         gathered.sent.push(Sent {
             message,
@@ -358,31 +341,23 @@ impl Gatherer {
     }
 
     fn deliver(&mut self, message: MsgId, next: &Next) -> Result<(), AllocError> {
-        let Some(configuration) = self.configuration_of(next.log) else {
-            return Ok(());
-        };
-        if configuration >= self.list.len() {
-            return Ok(());
+        let configuration = self.configuration_of(next.log);
+        if let Some(gathered) = self.list.get_mut(configuration)
+            && let Some(index) = self.spots.get(&message, gathered.ring, configuration)
+            && let Some(sent) = gathered.sent.get_mut(index as usize)
+            && let Some(origin) = gathered.origins.get_mut(index as usize)
+        {
+            sent.by = next.logs;
+            origin.got = Some(index_of(gathered.got.len()));
+            gathered.got.push(Got {
+                sent: index,
+                sender: sent.sender,
+                safe: origin.is_safe(),
+                regular: next.logs.minus(self.behind),
+                transitional: next.logs.intersection(self.behind),
+            })?;
+            gathered.got_numbers.push(next.number)?;
         }
-        let gathered = &mut self.list[configuration];
-        let Some(sent) = self.spots.get(&message, gathered.ring, configuration) else {
-            return Ok(());
-        };
-        let index = sent as usize;
-        if index >= gathered.sent.len() || index >= gathered.origins.len() {
-            return Ok(());
-        }
-        let got = index_of(gathered.got.len());
-        gathered.sent[index].by = next.logs;
-        gathered.origins[index].got = Some(got);
-        gathered.got.push(Got {
-            sent,
-            sender: gathered.sent[index].sender,
-            safe: gathered.origins[index].is_safe(),
-            regular: next.logs.minus(self.behind),
-            transitional: next.logs.intersection(self.behind),
-        })?;
-        gathered.got_numbers.push(next.number)?;
         Ok(())
     }
 
@@ -400,7 +375,7 @@ impl Gatherer {
                 self.change(alloc, *ring, messages, next, walk)
             }
             Entry::Conf(ConfId::Transitional { .. }, _) => {
-                self.move_all(next, walk);
+                self.move_all(next.number, walk);
                 self.behind = self.behind.union(next.logs);
                 Ok(())
             }
