@@ -27,8 +27,7 @@ head_entry run lines k log entries head x log_at head_is entries_is at = record 
 -- the class of a head
 pub next_class : (read messages : ℕ) (entries : List Entry) (given_row row : List ℕ) (head given : ℕ) (x : Entry) (class : Option ℕ) → class ≡ shared_by read (slice_get entries head) (get_or given_row head 0) → slice_get entries head ≡ Some x
     → read ≡ messages → given_row ≡ row → head ≡ given → class ≡ class_in messages x (get_or row given 0)
-next_class read messages entries given_row row head given x class is at read_is row_is head_is =
-    let here : class ≡ class_in read x (get_or given_row head 0) = rw at at is in rw (← read_is, ← row_is, ← head_is) here
+next_class read messages entries given_row row head given x class is at read_is row_is head_is = grind arith
 
 pub head_is : (run : List Log) (table : Table) (lines : List Numbering) (k c : ℕ) (h : Head) (y : Entry) → IsHead run table lines k h → IsEntryAt run k (given_at lines k) y → class_at table k (given_at lines k) y ≡ Some c → h ≡ Class c
 head_is run table lines k c End y is b in_c = absurd (let lt = is (given_at lines k) y b in omega arith)
@@ -73,9 +72,7 @@ no_end run table lines k rising is head = no_event run table lines k head.log ri
 
 module _ (run : List Log) (table : Table) (rising : Rising run) (is_table : IsTable run table) (lines : List Numbering) (fits : Fits run lines) (counts : List ℕ) (counted : Counts run table lines counts) (k : ℕ) where
   pub head_within : (h : Head) → IsHead run table lines k h → IsWithin h (length counts)
-  head_within End is = tt
-  head_within Alone is = tt
-  head_within (Class c) (x, a, in_c) = let lt = class_within run table is_table k (given_at lines k) c x a in_c in let long = counted.long in omega arith
+  head_within h is = grind (arith, class_within)
 
   pub head_ready : (h : Head) (log : Log) (r : Bool) → IsHead run table lines k h → slice_get run k ≡ Some log → (IsTrue r ↔ IsUnkept counts h) → IsTrue r ↔ IsReady run lines (place log.proc (given_at lines k))
   head_ready End log r is log_at decides = (λ t. absurd (decides.0 t), λ ready. absurd (no_event run table lines k log rising is log_at ready.event))

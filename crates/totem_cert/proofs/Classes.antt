@@ -1,5 +1,5 @@
 -- The classes of entries, by their numbers in a table.
-use Rattle.totem_cert.proofs.Common.{◌≡◌, ℕ, suc, ◌+◌, ◌<◌, inl, inr, List, length, slice_get, Some, None, refl, ◌∙◌, ap, arith, common_steps, slice_get_within, ConfId, MsgId, Place, Entry, Conf, Send, Deliver, Log, log_of, AreOfOneClass, AreSendAndDelivery, InClass, Rising, Table, place, class_in, class_at, class_fed}
+use Rattle.totem_cert.proofs.Common.{◌≡◌, ℕ, ◌+◌, ◌<◌, inl, inr, List, length, Some, None, refl, ◌∙◌, ap, arith, common_steps, slice_get_within, ConfId, MsgId, Place, Entry, Conf, Send, Deliver, Log, AreOfOneClass, AreSendAndDelivery, InClass, Rising, Table, place, class_in, class_at, class_fed}
 use Rattle.totem_table.specs.Tables.{IsTable, IsEntryAt, NamedBy, number_at}
 use Rattle.totem_table.proofs.Single.{messages_tell, confs_tell}
 use Rattle.totem_cert.proofs.Classmates.{event_of}
@@ -82,11 +82,4 @@ module _ (run : List Log) (table : Table) (rising : Rising run) (is : IsTable ru
     in_class also = inr (alike_class x y run (place a.log.proc i) (place b.log.proc j) (in_same run table is k i l j c x y a b in_c also) (entry_event run k i x rising a) (entry_event run l j y rising b))
 
     pub class_from : InClass run (place a.log.proc i) (place b.log.proc j) → class_at table l j y ≡ Some c
-    class_from (inr same) = same_in run table is k i l j c x y a b in_c (class_alike run (place a.log.proc i) (place b.log.proc j) x y same (entry_event run k i x rising a) (entry_event run l j y rising b))
-    class_from (inl (_, same)) =
-        let proc : a.log.proc ≡ b.log.proc = ap (λ (e : Place). e.proc) same in
-        let at : i ≡ j = (let h : suc i ≡ suc j = ap (λ (e : Place). e.at) same in omega arith) in
-        let q = entry_event run k i x rising a in
-        let p : slice_get (log_of run a.log.proc) i ≡ Some y = rw (proc, at) (entry_event run l j y rising b) in
-        let one : y ≡ x = cc in
-        same_in run table is k i l j c x y a b in_c (rw one (alike_itself (length table.messages.items) (number_at table k i) c x in_c))
+    class_from same = grind (arith, same_in run table is k i l j c x y a b in_c, class_alike run (place a.log.proc i) (place b.log.proc j) x y, entry_event run k i x rising a, entry_event run l j y rising b, alike_itself (length table.messages.items) (number_at table k i) c x in_c)

@@ -52,19 +52,14 @@ same_list : (xs ys : List Step) → length xs ≡ length ys → ((i : ℕ) (v w 
 same_list [] [] e h = refl
 same_list [] (y ∷ ys) e h = absurd (omega arith)
 same_list (x ∷ xs) [] e h = absurd (omega arith)
-same_list (x ∷ xs) (y ∷ ys) e h =
-    let one : x ≡ y = h 0 x y refl refl in
-    let rest : xs ≡ ys = same_list xs ys (omega arith) (λ i v w at_v at_w. h (suc i) v w at_v at_w) in
-    ap (λ z. z ∷ xs) one ∙ ap (λ zs. y ∷ zs) rest
+same_list (x ∷ xs) (y ∷ ys) e h = let rest = same_list xs ys (omega arith) (λ i v w at_v at_w. h (suc i) v w at_v at_w) in let one = h 0 x y refl refl in cc
 
 -- two walks from one event that return are equal
 pub one_walk : (run : List Log) (start : Place) (xs ys : List Step) (i j : ℕ) (v w : Step) → ComesBack run start xs i v → ComesBack run start ys j w → xs ≡ ys
 one_walk run start xs ys i j v w a b = elim (less_or_not (length xs) (length ys)) [
   | inl under ↦ absurd (not_shorter run start xs ys a.walk b.walk i v a under)
-  | inr rest ↦ elim rest [
-    | inl over ↦ absurd (not_shorter run start ys xs b.walk a.walk j w b over)
-    | inr e ↦ same_list xs ys e (same_steps run start xs ys a.walk b.walk)
-  ]
+  | inr (inl over) ↦ absurd (not_shorter run start ys xs b.walk a.walk j w b over)
+  | inr (inr e) ↦ same_list xs ys e (same_steps run start xs ys a.walk b.walk)
 ]
 
 -- and they return to the same class, at the same step

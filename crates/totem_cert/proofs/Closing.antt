@@ -1,5 +1,5 @@
 -- The closed list breaks the specification that it names.
-use Rattle.totem_cert.proofs.Common.{◌≡◌, ℕ, zero, suc, ◌+◌, ◌-◌, ◌⊎◌, inl, inr, List, [], ◌∷◌, ◌++◌, length, drop, slice_get, Some, refl, sym, ◌∙◌, ap, arith, length-drop, common_steps, append-nil, slice_get_within, get_or_from_slice_get, Place, Log, SpecNo, IsEvent, Strict, Breaks, Step, HoldsUp, unless, forward, AreTwinDeliveries, IsBrokenBy, IsClosedList, InClass}
+use Rattle.totem_cert.proofs.Common.{◌≡◌, ℕ, suc, ◌+◌, ◌-◌, ◌⊎◌, inl, inr, List, [], ◌∷◌, ◌++◌, length, drop, slice_get, Some, refl, sym, ◌∙◌, ap, arith, length-drop, common_steps, append-nil, slice_get_cases, slice_get_within, get_or_from_slice_get, Place, Log, SpecNo, IsEvent, Strict, Breaks, Step, HoldsUp, unless, forward, AreTwinDeliveries, IsBrokenBy, IsClosedList, InClass}
 use Rattle.std.proofs.Math.Seq.{drop-cons}
 use Rattle.totem_evs.specs.Places.{Chain, Somewhere, IsClosed, IsStep, IsOrderStep}
 use Rattle.totem_cert.proofs.Classmates.{class_sym, event_of}
@@ -12,23 +12,19 @@ Path Leads (x ∷ xs) z = Chain Leads x xs z
 
 path_append : (Leads : Place → Place → Type 0) (xs ys : List Place) (y z : Place) → Path Leads xs y → Chain Leads y ys z → Path Leads (xs ++ (y ∷ ys)) z
 path_append Leads [] ys y z a b = b
-path_append Leads (x ∷ []) ys y z a b = (a, b)
-path_append Leads (x ∷ w ∷ xs) ys y z a b = (a.0, path_append Leads (w ∷ xs) ys y z a.1 b)
+path_append Leads (x ∷ xs) ys y z a b = grind (arith, path_append Leads xs ys y z)
 
 chain_split : (Leads : Place → Place → Type 0) (x : Place) (xs ys : List Place) (y z : Place) → Chain Leads x (xs ++ (y ∷ ys)) z → Chain Leads x xs y × Chain Leads y ys z
 chain_split Leads x [] ys y z h = h
 chain_split Leads x (w ∷ xs) ys y z h = let rest = chain_split Leads w xs ys y z h.1 in ((h.0, rest.0), rest.1)
 
 some_split : (Leads : Place → Place → Type 0) (x : Place) (xs ys : List Place) (y z : Place) → Somewhere Leads x (xs ++ (y ∷ ys)) z → Somewhere Leads x xs y ⊎ Somewhere Leads y ys z
-some_split Leads x [] ys y z (inl h) = inl h
-some_split Leads x [] ys y z (inr h) = inr h
-some_split Leads x (w ∷ xs) ys y z (inl h) = inl (inl h)
-some_split Leads x (w ∷ xs) ys y z (inr h) = elim (some_split Leads w xs ys y z h) [ inl a ↦ inl (inr a) | inr b ↦ inr b ]
+some_split Leads x [] ys y z h = h
+some_split Leads x (w ∷ xs) ys y z h = grind (arith, some_split Leads w xs ys y z)
 
 some_left : (Leads : Place → Place → Type 0) (x : Place) (xs ys : List Place) (y z : Place) → Somewhere Leads x xs y → Somewhere Leads x (xs ++ (y ∷ ys)) z
 some_left Leads x [] ys y z h = inl h
-some_left Leads x (w ∷ xs) ys y z (inl h) = inl h
-some_left Leads x (w ∷ xs) ys y z (inr h) = inr (some_left Leads w xs ys y z h)
+some_left Leads x (w ∷ xs) ys y z h = grind (arith, some_left Leads w xs ys y z)
 
 some_right : (Leads : Place → Place → Type 0) (x : Place) (xs ys : List Place) (y z : Place) → Somewhere Leads y ys z → Somewhere Leads x (xs ++ (y ∷ ys)) z
 some_right Leads x [] ys y z h = inr h
@@ -86,10 +82,7 @@ round_closed run v vs l at linked =
     rw head.1 closed
 
 pub get_drop : {A : Type 0} (xs : List A) (k i : ℕ) → slice_get (drop k xs) i ≡ slice_get xs (k + i)
-get_drop [] zero i = refl
-get_drop [] (suc k) i = refl
-get_drop (x ∷ xs) zero i = let h : 0 + i ≡ i = omega arith in rw h refl
-get_drop (x ∷ xs) (suc k) i = let h : suc k + i ≡ suc (k + i) = omega arith in rw h (get_drop xs k i)
+get_drop xs k i = grind (arith, common_steps, slice_get_cases)
 
 pub drop_here : (xs : List Step) (i : ℕ) (v : Step) → slice_get xs i ≡ Some v → drop i xs ≡ v ∷ drop (suc i) xs
 drop_here xs i v at = drop-cons xs i v (slice_get_within xs i v at) ∙ ap (λ (u : Step). u ∷ drop (suc i) xs) (get_or_from_slice_get xs i v v at)
@@ -104,10 +97,8 @@ holds_strict run f e event holds = grind (arith, common_steps)
 
 -- if no message has two different deliveries in it, each step is one of the first kind
 no_twins : (run : List Log) (e : Place) (es : List Place) (z : Place) → Chain (IsOrderStep run) e es z → (Somewhere (AreTwinDeliveries run) e es z → ⊥) → Chain (IsStep run) e es z
-no_twins run e [] z (inl s) never = s
-no_twins run e [] z (inr d) never = absurd (never d)
-no_twins run e (f ∷ fs) z (inl s, rest) never = (s, no_twins run f fs z rest (λ h. never (inr h)))
-no_twins run e (f ∷ fs) z (inr d, rest) never = absurd (never (inl d))
+no_twins run e [] z h never = grind arith
+no_twins run e (f ∷ fs) z h never = grind (arith, no_twins run f fs z)
 
 broken : (run : List Log) (k : SpecNo) (places : List Place) → IsClosed run (IsOrderStep run) places → IsBrokenBy run k places → Breaks run k places
 broken run k places h m = grind (arith, no_twins)

@@ -3,7 +3,7 @@ pub use Rattle.std.proofs.Common.{◌∙◌, arith, ◌≡◌, ap, length, ◌<�
 pub use Rattle.totem_evs.proofs.Common.{Place, slice_get_within, Numbering, number_at, RunRecord, get_or_from_slice_get, numbers_of, IsEvent, slice_get-get_or, MsgId, log_of, Strict, number_in, append-nil, Certified, IsBelow, Matches, entry_at, ConfId, length_push, take_all, Contains-append_cases, Contains-append_left, Contains-append_right, at_place, Breaks, IsLog, IsLogIn, IsRunIn, SendsAt, IsProcessIn, Version, Three}
 pub use Rattle.totem_table.proofs.Common.{Log, common_steps, Entry, slice_get_read, IsEntryAt, LogRecord, IsTable, less_or_not, log_of_at, before_push, stands_last, kind_of, Equal, log_of_cases, kinds_in}
 pub use Rattle.std.proofs.Math.ListN.{length-map}
-pub use Rattle.std.proofs.Math.Nat.{eq-zero-or-pos, eq-or-lt_of_le}
+pub use Rattle.std.proofs.Math.Nat.{eq-zero-or-pos, eq-or-lt_of_le, lt_of_not-le}
 pub use Rattle.std.proofs.lemmas.Bool.{cases_eq, le-leb, leb-true, lt-ltb, ltb-true}
 pub use Rattle.std.proofs.lemmas.List.{length-set, get_or_past, map-id}
 pub use Rattle.std.proofs.lemmas.Option.{slice_get-map, slice_get_past, slice_get_cases}

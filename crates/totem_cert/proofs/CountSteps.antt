@@ -110,8 +110,7 @@ pub counts_few : (run : List Log) (table : Table) (lines : List Numbering) (coun
 counts_few run table lines counts k short le to = grind (arith, less_or_not, kept_most, sum_millions, get_or_past)
 
 empty_given : (run : List Log) (k : ℕ) → given_at (map empty_line run) k ≡ 0
-empty_given [] zero = refl
-empty_given [] (suc k) = refl
+empty_given [] k = grind arith
 empty_given (log ∷ logs) zero = refl
 empty_given (log ∷ logs) (suc k) = empty_given logs k
 

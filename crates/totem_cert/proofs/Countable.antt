@@ -1,8 +1,8 @@
 -- Which classes are ready, found from the counts of what keeps them back.
-use Rattle.totem_cert.proofs.Common.{◌≡◌, ℕ, zero, suc, ◌+◌, ◌<◌, ◌≤◌, ◌⊎◌, inl, inr, List, [], ◌∷◌, length, get_or, slice_get, Option, Some, None, Bool, IsTrue, ◌↔◌, refl, sym, ◌∙◌, ap, arith, common_steps, eq-zero-or-pos, slice_get_within, Place, Entry, Log, Numbering, Rising, Table, place, Fits, IsFree, IsReady, given_at, class_at, class_in, class_fed, one, kept_behind, kept_in, kept_at, kept_by, Counts}
+use Rattle.totem_cert.proofs.Common.{◌≡◌, ℕ, zero, suc, ◌+◌, ◌<◌, ◌≤◌, ◌⊎◌, inl, inr, List, [], ◌∷◌, length, get_or, slice_get, Option, Some, None, Bool, IsTrue, ◌↔◌, refl, sym, ◌∙◌, ap, arith, common_steps, eq-zero-or-pos, lt_of_not-le, slice_get_within, Place, Entry, Log, Numbering, Rising, Table, place, Fits, IsFree, IsReady, given_at, class_at, class_in, class_fed, one, kept_behind, kept_in, kept_at, kept_by, Counts}
 use Rattle.totem_table.specs.Tables.{IsTable, IsEntryAt, number_at}
 use Rattle.totem_cert.proofs.CountingOne.{one_cases}
-use Rattle.totem_cert.proofs.Lists.{at_index, up_to_or_past}
+use Rattle.totem_cert.proofs.Lists.{at_index, unless_past}
 use Rattle.totem_cert.proofs.LineFacts.{log_index}
 use Rattle.totem_cert.proofs.LogHeads.{free_ready, ready_free}
 use Rattle.totem_cert.proofs.Classes.{alone_fed, alone_itself, in_class, class_from, feeds_in, in_feeds}
@@ -24,9 +24,8 @@ Keeps messages c given i y n = ((class_fed y n ≡ Some c) × (given ≤ i)) ⊎
 behind_there : (messages c i : ℕ) (es : List Entry) (ns : List ℕ) (y : Entry) → length es ≡ length ns → slice_get es i ≡ Some y → (class_fed y (get_or ns i 0) ≡ Some c) ⊎ (class_in messages y (get_or ns i 0) ≡ Some c) → 0 < kept_behind messages es ns c
 behind_there messages c i [] ns y long at is = absurd cc
 behind_there messages c i (x ∷ xs) [] y long at is = absurd (omega arith)
-behind_there messages c zero (x ∷ xs) (n ∷ ns) y long at (inl is) = let same : x ≡ y = cc in let one_is : one (class_fed x n) c ≡ 1 = rw (same, is) (one_self c) in omega arith
-behind_there messages c zero (x ∷ xs) (n ∷ ns) y long at (inr is) = let same : x ≡ y = cc in let one_is : one (class_in messages x n) c ≡ 1 = rw (same, is) (one_self c) in omega arith
-behind_there messages c (suc i) (x ∷ xs) (n ∷ ns) y long at is = let rest = behind_there messages c i xs ns y (omega arith) at is in omega arith
+behind_there messages c zero (x ∷ xs) (n ∷ ns) y long at is = grind (arith, one_self)
+behind_there messages c (suc i) (x ∷ xs) (n ∷ ns) y long at is = grind (arith, behind_there messages c i xs ns y)
 
 behind_some : (messages c : ℕ) (es : List Entry) (ns : List ℕ) → 0 < kept_behind messages es ns c → (i : ℕ) × (y : Entry) × (slice_get es i ≡ Some y) × ((class_fed y (get_or ns i 0) ≡ Some c) ⊎ (class_in messages y (get_or ns i 0) ≡ Some c))
 behind_some messages c [] ns some = absurd (omega arith)
@@ -39,14 +38,10 @@ behind_some messages c (x ∷ xs) (n ∷ ns) some = elim (either (one (class_fed
 kept_there : (messages c given i : ℕ) (es : List Entry) (ns : List ℕ) (y : Entry) → length es ≡ length ns → slice_get es i ≡ Some y → Keeps messages c given i y (get_or ns i 0) → 0 < kept_in messages given es ns c
 kept_there messages c given i [] ns y long at keeps = absurd cc
 kept_there messages c given i (x ∷ xs) [] y long at keeps = absurd (omega arith)
-kept_there messages c zero zero (x ∷ xs) (n ∷ ns) y long at (inl (fed, _)) = let same : x ≡ y = cc in let one_is : one (class_fed x n) c ≡ 1 = rw (same, fed) (one_self c) in omega arith
-kept_there messages c zero zero (x ∷ xs) (n ∷ ns) y long at (inr (_, lt)) = absurd (omega arith)
-kept_there messages c zero (suc i) (x ∷ xs) (n ∷ ns) y long at keeps =
-    let rest = behind_there messages c i xs ns y (omega arith) at (elim keeps [ inl k ↦ inl k.0 | inr k ↦ inr k.0 ]) in omega arith
-kept_there messages c (suc given) zero (x ∷ xs) (n ∷ ns) y long at (inl (_, le)) = absurd (omega arith)
-kept_there messages c (suc given) zero (x ∷ xs) (n ∷ ns) y long at (inr (_, lt)) = absurd (omega arith)
-kept_there messages c (suc given) (suc i) (x ∷ xs) (n ∷ ns) y long at (inl (is, le)) = kept_there messages c given i xs ns y (omega arith) at (inl (is, omega arith))
-kept_there messages c (suc given) (suc i) (x ∷ xs) (n ∷ ns) y long at (inr (is, lt)) = kept_there messages c given i xs ns y (omega arith) at (inr (is, omega arith))
+kept_there messages c zero zero (x ∷ xs) (n ∷ ns) y long at keeps = grind (arith, one_self)
+kept_there messages c zero (suc i) (x ∷ xs) (n ∷ ns) y long at keeps = grind (arith, behind_there messages c i xs ns y)
+kept_there messages c (suc given) zero (x ∷ xs) (n ∷ ns) y long at keeps = grind arith
+kept_there messages c (suc given) (suc i) (x ∷ xs) (n ∷ ns) y long at keeps = grind (arith, kept_there messages c given i xs ns y)
 
 kept_some : (messages c given : ℕ) (es : List Entry) (ns : List ℕ) → 0 < kept_in messages given es ns c → (i : ℕ) × (y : Entry) × (slice_get es i ≡ Some y) × Keeps messages c given i y (get_or ns i 0)
 kept_some messages c given [] ns some = absurd (omega arith)
@@ -72,23 +67,12 @@ module _ (run : List Log) (table : Table) (rising : Rising run) (is : IsTable ru
 
     none_kept : kept_by run table lines c ≡ 0 → IsFree run lines (place a.log.proc i) x
     none_kept none = record {
-      mates = λ l j y b shares. elim (up_to_or_past j (given_at lines l)) [
-        | inl le ↦ le
-        | inr lt ↦ absurd (never none l j y b (inr (class_from run table rising is k i x a c in_c l j y b shares, lt)))
-      ];
-      sends = λ l j y b feeds. elim (up_to_or_past (given_at lines l) j) [
-        | inl le ↦ absurd (never none l j y b (inl (feeds_in run table is k i l j c y x a b in_c feeds, le)))
-        | inr lt ↦ lt
-      ];
+      mates = λ l j y b shares. unless_past j (given_at lines l) (λ lt. never none l j y b (inr (class_from run table rising is k i x a c in_c l j y b shares, lt)));
+      sends = λ l j y b feeds. lt_of_not-le (λ le. never none l j y b (inl (feeds_in run table is k i l j c y x a b in_c feeds, le)));
     }
 
     some_kept : 0 < kept_by run table lines c → (l j : ℕ) × (y : Entry) × IsEntryAt run l j y × Keeps (length table.messages.items) c (given_at lines l) j y (number_at table l j)
-    some_kept some =
-        let (l, within, at_l) = sum_some (length run) (λ k. kept_at run table (given_at lines k) c k) some in
-        let (log, log_at) = at_index run l within in
-        let in_l : 0 < kept_in (length table.messages.items) (given_at lines l) log.entries (get_or table.rows.items l []) c = rw log_at at at_l in
-        let (j, y, y_at, keeps) = kept_some (length table.messages.items) c (given_at lines l) log.entries (get_or table.rows.items l []) in_l in
-        (l, j, y, record { log = log; is_log = log_at; is_entry = y_at }, keeps)
+    some_kept some = grind (arith, sum_some, at_index, kept_some)
 
     pub ready_counted : (counts : List ℕ) (r : Bool) → given_at lines k ≤ i → Counts run table lines counts → c < length counts → (IsTrue r ↔ (get_or counts c 0 ≡ 0)) → IsTrue r ↔ IsReady run lines (place a.log.proc i)
     ready_counted counts r past counted within decides = (

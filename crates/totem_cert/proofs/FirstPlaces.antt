@@ -60,10 +60,7 @@ module _ (run : List Log) (table : Table) (lines : List Numbering) (wanted : Wan
   }
     where
       wanted_here : (c l j : ℕ) → l ≡ k → j ≡ i → IsWanted run table lines wanted c l j → class_wanted wanted (length table.messages.items) (given_at lines k) i x (number_at table k i) ≡ Some c
-      wanted_here c l j eq also w =
-          let log : w.at.log ≡ at.log = (let a : slice_get run k ≡ Some w.at.log = rw eq at w.at.is_log in let b = at.is_log in cc) in
-          let entry : w.entry ≡ x = (let a : slice_get at.log.entries i ≡ Some w.entry = rw (log, also) at w.at.is_entry in let b = at.is_entry in cc) in
-          rw (eq, also, entry) at w.class
+      wanted_here c l j eq also w = grind arith
 
   -- one more log
   pub firsts_log : (firsts : List (Option Place)) (k i : ℕ) (log : Log) → slice_get run k ≡ Some log → length log.entries ≤ i → AreFirstsTo run table lines wanted firsts k i → AreFirstsTo run table lines wanted firsts (k + 1) 0
@@ -74,14 +71,7 @@ module _ (run : List Log) (table : Table) (lines : List Numbering) (wanted : Wan
   }
     where
       earlier : (c l j : ℕ) → IsPast (k + 1) 0 l j → IsWanted run table lines wanted c l j → IsPast k i l j
-      earlier c l j (inr both) w = absurd (omega (arith, both.1))
-      earlier c l j (inl lt) w = elim (cases_eq l k) [
-        | inl same ↦
-            let one : w.at.log ≡ log = (let a : slice_get run k ≡ Some w.at.log = rw same at w.at.is_log in cc) in
-            let within : j < length log.entries = rw one at (slice_get_within w.at.log.entries j w.entry w.at.is_entry) in
-            inr (same, omega arith)
-        | inr other ↦ inl (omega (arith, other))
-      ]
+      earlier c l j past w = grind (arith, cases_eq, slice_get_within)
 
   pub unwanted : (firsts : List (Option Place)) (c l j : ℕ) → AreFirsts run table lines wanted firsts → slice_get firsts c ≡ Some None → IsWanted run table lines wanted c l j → ⊥
   unwanted firsts c l j are at w = are.none c l j at (inl (slice_get_within run l w.at.log w.at.is_log)) w

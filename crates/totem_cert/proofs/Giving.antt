@@ -1,5 +1,5 @@
 -- The next class gets its number.
-use Rattle.totem_cert.proofs.Common.{◌≡◌, ◌≢◌, ℕ, zero, suc, ◌+◌, ◌<◌, ◌≤◌, ◌⊎◌, below_more, inl, inr, List, [], ◌∷◌, ◌++◌, length, set, slice_get, Some, None, Bool, true, false, refl, sym, ◌∙◌, ap, arith, length-append, ◌==◌, slice_get_within, length-set, Place, Entry, Log, Numbering, numbers_of, number_at, number_in, InClass, Rising, Table, IsTable, IsEntryAt, place, class_at, count_of, given_at, Pushes, Fits, IsGiven, IsNext, IsNextIn, IsSound, entries_left, stands_last, cases_eq}
+use Rattle.totem_cert.proofs.Common.{◌≡◌, ◌≢◌, ℕ, zero, suc, ◌+◌, ◌<◌, ◌≤◌, ◌⊎◌, below_more, inl, inr, List, [], ◌∷◌, ◌++◌, length, set, slice_get, Some, None, refl, sym, ◌∙◌, ap, arith, length-append, slice_get_within, length-set, Place, Entry, Log, Numbering, numbers_of, number_at, number_in, InClass, Rising, Table, IsTable, IsEntryAt, place, class_at, count_of, given_at, Pushes, Fits, IsGiven, IsNext, IsNextIn, IsSound, entries_left, stands_last, cases_eq}
 use Rattle.totem_cert.specs.declared.heads.Head.{Head}
 use Rattle.totem_cert.specs.declared.heads.Head.TheVariants.{Class}
 use Rattle.totem_cert.specs.Heads.{IsHead}
@@ -14,28 +14,15 @@ use Rattle.totem_cert.proofs.Next.{ready_at}
 -- the numbers of any other process stay
 numbers_stay : (lines : List Numbering) (k : ℕ) (line now : Numbering) (q : ℕ) → slice_get lines k ≡ Some line → now.proc ≡ line.proc → (line.proc ≡ q → ⊥) → numbers_of (set lines k now) q ≡ numbers_of lines q
 numbers_stay [] k line now q at proc other = absurd cc
-numbers_stay (x ∷ xs) zero line now q at proc other =
-    let same : x ≡ line = cc in
-    let one : (x.proc == q) ≡ false = rw same (grind arith) in
-    let two : (now.proc == q) ≡ false = rw proc (grind arith) in
-    rw (one, two) refl
-numbers_stay (x ∷ xs) (suc k) line now q at proc other = go (x.proc == q) refl (numbers_stay xs k line now q at proc other)
-  where
-    go : (b : Bool) → (x.proc == q) ≡ b → numbers_of (set xs k now) q ≡ numbers_of xs q → numbers_of (x ∷ set xs k now) q ≡ numbers_of (x ∷ xs) q
-    go true e rest = rw e refl
-    go false e rest = rw e rest
+numbers_stay (x ∷ xs) zero line now q at proc other = grind arith
+numbers_stay (x ∷ xs) (suc k) line now q at proc other = grind (arith, numbers_stay xs k line now q)
 
 left_set : (run : List Log) (lines : List Numbering) (k : ℕ) (log : Log) (line now : Numbering) → slice_get run k ≡ Some log → slice_get lines k ≡ Some line → length line.numbers < length now.numbers → length now.numbers ≤ length log.entries
     → entries_left run (set lines k now) < entries_left run lines
 left_set [] lines k log line now at_l at_n lt le = absurd cc
 left_set (l ∷ logs) [] k log line now at_l at_n lt le = absurd cc
-left_set (l ∷ logs) (x ∷ xs) zero log line now at_l at_n lt le =
-    let one : l ≡ log = cc in
-    let two : x ≡ line = cc in
-    let lt' : length x.numbers < length now.numbers = rw two lt in
-    let le' : length now.numbers ≤ length l.entries = rw one le in
-    omega arith
-left_set (l ∷ logs) (x ∷ xs) (suc k) log line now at_l at_n lt le = let rest = left_set logs xs k log line now at_l at_n lt le in omega arith
+left_set (l ∷ logs) (x ∷ xs) zero log line now at_l at_n lt le = grind arith
+left_set (l ∷ logs) (x ∷ xs) (suc k) log line now at_l at_n lt le = grind (arith, left_set logs xs k log line now)
 
 -- the line with one more number
 abbrev longer_by : ℕ → Numbering → Numbering
@@ -59,19 +46,7 @@ module _ (run : List Log) (rising : Rising run) (old new : List Numbering) (fits
   at_line j l m same at_l at_m = ((let h : slice_get run k ≡ Some l = rw same at at_l in cc), (let h : slice_get new k ≡ Some m = rw same at at_m in let g = now_at in cc))
 
   pub push_fits : Fits run new
-  push_fits = record {
-    count = rw pushes.is (length-set old k (longer_by n pushes.line)) ∙ fits.count;
-    proc = λ j l m at_l at_m. elim (cases_eq j k) [
-      | inl same ↦ (let is = at_line j l m same at_l at_m in rw (is.0, is.1) (fits.proc k log pushes.line log_at pushes.line_at))
-      | inr other ↦ fits.proc j l m at_l (sym (stays j other) ∙ at_m)
-    ];
-    short = λ j l m at_l at_m. elim (cases_eq j k) [
-      | inl same ↦ (let is = at_line j l m same at_l at_m in
-          let short : length (pushes.line.numbers ++ n ∷ []) ≤ length log.entries = omega (arith, longer, given_is, lt) in
-          rw (is.0, is.1) short)
-      | inr other ↦ fits.short j l m at_l (sym (stays j other) ∙ at_m)
-    ];
-  }
+  push_fits = grind (arith, length-set, cases_eq, at_line, stays, longer, given_is)
 
   pub push_left : entries_left run new < entries_left run old
   push_left = rw pushes.is (left_set run old k log pushes.line (longer_by n pushes.line) log_at pushes.line_at (omega (arith, longer)) (omega (arith, longer, given_is, lt)))

@@ -24,10 +24,8 @@ first_left_least run lines k first rising sound none = record {
         let given : length (numbers_of lines b.log.proc) ≡ length s.0.numbers = ap length s.2 in
         rw is (at_most run k (length first.line.numbers) l j x.0 left.event.0 rising a b (elim (less_or_not k l) [
           | inl over ↦ inl over
-          | inr rest ↦ elim rest [
-            | inl under ↦ absurd (let full = first.before.full l b.log s.0 under b.is_log s.1 in let lt = slice_get_within b.log.entries j left.event.0 b.is_entry in omega arith)
-            | inr same ↦ inr (same, (let one : s.0 ≡ first.line = (let h : slice_get lines k ≡ Some s.0 = rw same s.1 in let g = first.line_at in cc) in let numbers = ap (λ (n : Numbering). length n.numbers) one in omega arith))
-          ]
+          | inr (inl under) ↦ absurd (let full = first.before.full l b.log s.0 under b.is_log s.1 in let lt = slice_get_within b.log.entries j left.event.0 b.is_entry in omega arith)
+          | inr (inr same) ↦ inr (same, (let one : s.0 ≡ first.line = (let h : slice_get lines k ≡ Some s.0 = rw same s.1 in let g = first.line_at in cc) in let numbers = ap (λ (n : Numbering). length n.numbers) one in omega arith))
         ]))
 
 -- what the k-th log and line say about the least event left

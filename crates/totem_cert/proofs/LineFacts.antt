@@ -1,5 +1,5 @@
 -- Lines and logs, by index, by process and by place.
-use Rattle.totem_cert.proofs.Common.{◌≡◌, ℕ, zero, suc, ◌<◌, ◌≤◌, ◌⊎◌, inl, inr, Option, List, [], ◌∷◌, length, get_or, slice_get, Some, None, true, false, refl, sym, ◌∙◌, ap, arith, rules, ◌==◌, common_steps, slice_get_within, slice_get-get_or, slice_get_past, slice_get_cases, slice_get_read, Place, Entry, Log, log_of, entry_at, Numbering, numbers_of, number_at, IsAtMost, Rising, Rising-tail, in_order, less_or_not, log_of_cases, log_of_at, Table, IsEntryAt, place, count_of, given_at, shared_by, Fits, IsClassOf, IsLogOf, IsNumbered}
+use Rattle.totem_cert.proofs.Common.{◌≡◌, ℕ, zero, suc, ◌<◌, ◌≤◌, ◌⊎◌, inl, inr, Option, List, [], ◌∷◌, length, get_or, slice_get, Some, None, refl, sym, ◌∙◌, ap, arith, common_steps, slice_get_within, slice_get-get_or, slice_get_past, slice_get_cases, slice_get_read, Place, Entry, Log, log_of, entry_at, Numbering, numbers_of, number_at, IsAtMost, Rising, Rising-tail, in_order, less_or_not, log_of_cases, log_of_at, Table, IsEntryAt, place, count_of, given_at, shared_by, Fits, IsClassOf, IsLogOf, IsNumbered}
 use Rattle.totem_table.specs.Tables as tables
 use Rattle.totem_cert.proofs.Lists.{at_index}
 
@@ -14,17 +14,8 @@ fits_tail log logs line lines fits = record {
 pub line_of_at : (run : List Log) (lines : List Numbering) (k : ℕ) (log : Log) (line : Numbering) → Rising run → Fits run lines → slice_get run k ≡ Some log → slice_get lines k ≡ Some line → numbers_of lines log.proc ≡ line.numbers
 line_of_at [] lines k log line rising fits at_l at_n = absurd cc
 line_of_at (x ∷ xs) [] k log line rising fits at_l at_n = absurd cc
-line_of_at (x ∷ xs) (y ∷ ys) zero log line rising fits at_l at_n =
-    let same : x ≡ log = cc in
-    let also : y ≡ line = cc in
-    let proc : y.proc ≡ x.proc = fits.proc 0 x y refl refl in
-    let test : (x.proc == log.proc) ≡ true = rw same (search rules) in
-    rw (proc, test) (ap (λ (n : Numbering). n.numbers) also)
-line_of_at (x ∷ xs) (y ∷ ys) (suc k) log line rising fits at_l at_n =
-    let lt : x.proc < log.proc = in_order (x ∷ xs) 0 (suc k) x log rising refl at_l (omega arith) in
-    let proc : y.proc ≡ x.proc = fits.proc 0 x y refl refl in
-    let test : (x.proc == log.proc) ≡ false = search rules in
-    rw (proc, test) (line_of_at xs ys k log line (Rising-tail x xs rising) (fits_tail x xs y ys fits) at_l at_n)
+line_of_at (x ∷ xs) (y ∷ ys) zero log line rising fits at_l at_n = grind (arith, fits.proc 0 x y)
+line_of_at (x ∷ xs) (y ∷ ys) (suc k) log line rising fits at_l at_n = grind (arith, fits.proc 0 x y, in_order (x ∷ xs) 0 (suc k) x log, Rising-tail x xs, fits_tail x xs y ys, line_of_at xs ys k log line)
 
 -- a place is given by its parts
 pub same_parts : (g : Place) (p a : ℕ) → g.proc ≡ p → g.at ≡ a → g ≡ record { proc = p; at = a }
@@ -83,10 +74,7 @@ no_entry run p i none = elim (log_of_cases run p) [ inl is ↦ rw is refl | inr 
 pub no_numbers : (run : List Log) (lines : List Numbering) (p : ℕ) → Fits run lines → IsLogOf run p None → 0 ≡ length (numbers_of lines p)
 no_numbers run [] p fits none = refl
 no_numbers [] (line ∷ lines) p fits none = absurd (let h = fits.count in omega arith)
-no_numbers (log ∷ logs) (line ∷ lines) p fits none =
-    let other : line.proc ≡ p → ⊥ = λ same. none 0 log refl (sym (fits.proc 0 log line refl refl) ∙ same) in
-    let test : (line.proc == p) ≡ false = grind arith in
-    rw test (no_numbers logs lines p (fits_tail log logs line lines fits) (λ k l at. none (suc k) l at))
+no_numbers (log ∷ logs) (line ∷ lines) p fits none = grind (arith, fits.proc 0 log line, none 0 log, no_numbers logs lines p (fits_tail log logs line lines fits) (λ k l at. none (suc k) l at))
 
 -- what the code reads at the index of a log
 pub read_at : (run items : List Log) (k : ℕ) (found log : Log) → items ≡ run → slice_get run k ≡ Some found → log ≡ get_or items k log → slice_get run k ≡ Some log

@@ -78,13 +78,13 @@ pub option_cases : (o : Option ℕ) → (o ≡ None) ⊎ ((k : ℕ) × (o ≡ So
 option_cases None = inl refl
 option_cases (Some k) = inr (k, refl)
 
+pub none_unless : (o : Option ℕ) → ((k : ℕ) → o ≡ Some k → ⊥) → o ≡ None
+none_unless o never = grind arith
+
 -- the whole class of a ready event is ready
 pub ready_same : (run : List Log) (lines : List Numbering) (n : ℕ) (e f : Place) → Sound run lines n → InClass run e f → IsReady run lines e → IsReady run lines f
 ready_same run lines n e f sound shares ready = record {
   event = event_of run e f shares;
-  unnumbered = elim (option_cases (number_at lines f)) [
-    | inl is ↦ is
-    | inr (k, is) ↦ absurd (let there = sound.shared f e k is (class_sym run e f shares) in let none = ready.unnumbered in cc)
-  ];
+  unnumbered = none_unless (number_at lines f) (λ k is. (let there = sound.shared f e k is (class_sym run e f shares) in let none = ready.unnumbered in cc));
   waits = λ g waits. ready.waits g (waits_same run e f g shares waits);
 }

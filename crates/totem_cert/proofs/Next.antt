@@ -1,5 +1,5 @@
 -- The first log with a ready head has the next class.
-use Rattle.totem_cert.proofs.Common.{◌≡◌, ℕ, ◌<◌, ◌≤◌, ◌⊎◌, inl, inr, List, length, slice_get, Some, sym, arith, slice_get_within, Place, Entry, Log, IsAtMost, Numbering, Rising, less_or_not, log_of_at, IsEntryAt, HoldsTo, place, given_at, IsReady, IsSound, Fits, IsNextHead, NoneReady}
+use Rattle.totem_cert.proofs.Common.{◌≡◌, ℕ, ◌<◌, ◌≤◌, ◌⊎◌, List, length, slice_get, Some, arith, slice_get_within, Place, Entry, Log, IsAtMost, Numbering, Rising, less_or_not, log_of_at, IsEntryAt, HoldsTo, place, given_at, IsReady, IsSound, Fits, IsNextHead, NoneReady}
 use Rattle.totem_cert.proofs.Classmates.{class_self}
 use Rattle.totem_cert.proofs.LineFacts.{given_of, event_at, at_most, unnumbered_past}
 use Rattle.totem_cert.proofs.LogHeads.{ready_free, ready_same}
@@ -41,10 +41,7 @@ first_is_next run lines k log rising sound log_at ready none = record {
         rw is least
       where
         order : (m : ℕ) → (m < k → ⊥) → (k < m) ⊎ ((k ≡ m) × (given_at lines k ≤ given_at lines m))
-        order m never = elim (less_or_not m k) [
-          | inl under ↦ absurd (never under)
-          | inr rest ↦ elim rest [ inl over ↦ inl over | inr same ↦ inr (sym same, rw same (omega arith)) ]
-        ]
+        order m never = grind (arith, less_or_not)
 
 pub none_ready_end : (run : List Log) (lines : List Numbering) (k : ℕ) → Rising run → Fits run lines → length run ≤ k → NoneReadyBefore run lines k → NoneReady run lines
 none_ready_end run lines k rising fits end before = grind (arith, ready_at, slice_get_within)

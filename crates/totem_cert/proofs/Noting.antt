@@ -26,8 +26,7 @@ noted_more seen new steps next noted fresh updates = record {
 }
   where
     kept : (i : ℕ) (v : Step) → i < length steps → slice_get steps i ≡ Some v → (next.to ≡ v.to) ⊎ (is_eq (place_order next.to v.to) ≡ false) → get place_order new v.to ≡ Some i
-    kept i v lt at (inl same) = absurd (fresh.none i v lt at (sym same))
-    kept i v lt at (inr apart) = updates.2 v.to apart ∙ noted.each i v at
+    kept i v lt at same = grind arith
 
     found : (e : Place) (i : ℕ) → get place_order new e ≡ Some i → (next.to ≡ e) ⊎ (is_eq (place_order next.to e) ≡ false) → IsVisitedAt (steps ++ next ∷ []) e i
     found e i at (inl same) =

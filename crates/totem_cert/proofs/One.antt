@@ -1,19 +1,15 @@
 -- A run has at most one certificate.
-use Rattle.totem_cert.proofs.Common.{below_more, ◌≡◌, ℕ, zero, suc, ◌<◌, inl, inr, List, [], ◌∷◌, Some, Bool, true, false, refl, sym, ◌∙◌, arith, All, ◌==◌, common_steps, slice_get_within, get_or_from_slice_get, Place, Log, IsEvent, at_place, log_of, Strict, Numbering, numbers_of, number_in, number_at, IsBelow, Certified, Matches, less_or_not, InClass, WaitsFor, ClassAtMost, IsPositions, IsNumberedBelow, PositionsAreOne}
+use Rattle.totem_cert.proofs.Common.{below_more, ◌≡◌, ℕ, zero, suc, ◌<◌, inl, inr, List, [], ◌∷◌, Some, sym, ◌∙◌, arith, All, common_steps, slice_get_within, get_or_from_slice_get, Place, Log, IsEvent, at_place, log_of, Strict, Numbering, numbers_of, number_in, number_at, IsBelow, Certified, Matches, less_or_not, InClass, WaitsFor, ClassAtMost, IsPositions, IsNumberedBelow, PositionsAreOne}
 use Rattle.std.proofs.lemmas.List.Elements.{All-nil, All-head, All-tail}
 use Rattle.totem_evs.proofs.Ordered.{same_length, has_number}
 use Rattle.totem_cert.proofs.Classmates.{class_sym, class_trans}
 use Rattle.totem_cert.proofs.Lists.{at_index}
-use Rattle.totem_cert.proofs.LogHeads.{option_cases}
+use Rattle.totem_cert.proofs.LogHeads.{option_cases, none_unless}
 use Rattle.totem_cert.proofs.Walking.{antisym}
 
 all_of : (lines : List Numbering) (p : ℕ) → All (λ line. All (λ n. 0 < n) line.numbers) lines → All (λ n. 0 < n) (numbers_of lines p)
 all_of [] p all = All-nil (λ n. 0 < n)
-all_of (line ∷ lines) p all = go (line.proc == p) refl (All-head (λ l. All (λ n. 0 < n) l.numbers) line lines all) (all_of lines p (All-tail (λ l. All (λ n. 0 < n) l.numbers) line lines all))
-  where
-    go : (b : Bool) → (line.proc == p) ≡ b → All (λ n. 0 < n) line.numbers → All (λ n. 0 < n) (numbers_of lines p) → All (λ n. 0 < n) (numbers_of (line ∷ lines) p)
-    go true e here rest = rw e here
-    go false e here rest = rw e rest
+all_of (line ∷ lines) p all = grind (arith, All-head (λ l. All (λ n. 0 < n) l.numbers) line lines all, all_of lines p (All-tail (λ l. All (λ n. 0 < n) l.numbers) line lines all))
 
 -- a place with a number is an event, and the number is not 0
 numbered : (run : List Log) (lines : List Numbering) (e : Place) (k : ℕ) → Matches run lines → number_at lines e ≡ Some k → IsEvent run e
@@ -80,39 +76,25 @@ next_agrees run a b k pa pb agree e at_e = go (has_number run b e pb.certified.m
             there : (n : ℕ) × (number_at a f ≡ Some n) → ⊥
             there (n, at_n) = elim (less_or_not n k) [
               | inl under ↦ (let h = agree.to f n under at_n in let s : n ≡ k = cc in omega arith)
-              | inr rest ↦ elim rest [
-                | inl over ↦ apart (same_class run e f
-                    (pa.least e f k n at_e at_n over (record { each = λ g w. below_too b a k g (agree_sym a b k agree) (waits_below run b f g k pb.certified at_f w) }))
-                    (pb.least f e k l at_f at_l lt (record { each = λ g w. below_too a b k g agree (waits_below run a e g k pa.certified at_e w) })))
-                | inr same ↦ (let h : number_at a f ≡ Some k = rw same at at_n in
-                    elim (pa.certified.apart e f event (numbered run b f k pb.certified.matches at_f) (at_e ∙ sym h)) [ inl is ↦ apart (inl (event, is)) | inr s ↦ apart (inr s) ])
-              ]
+              | inr (inl over) ↦ apart (same_class run e f
+                  (pa.least e f k n at_e at_n over (record { each = λ g w. below_too b a k g (agree_sym a b k agree) (waits_below run b f g k pb.certified at_f w) }))
+                  (pb.least f e k l at_f at_l lt (record { each = λ g w. below_too a b k g agree (waits_below run a e g k pa.certified at_e w) })))
+              | inr (inr same) ↦ (let h : number_at a f ≡ Some k = rw same at at_n in
+                  elim (pa.certified.apart e f event (numbered run b f k pb.certified.matches at_f) (at_e ∙ sym h)) [ inl is ↦ apart (inl (event, is)) | inr s ↦ apart (inr s) ])
             ]
 
     go : (l : ℕ) × (number_at b e ≡ Some l) → number_at b e ≡ Some k
-    go (l, at_l) = elim (less_or_not l k) [
-      | inl under ↦ absurd (let h = agree.from e l under at_l in let s : l ≡ k = cc in omega arith)
-      | inr rest ↦ elim rest [
-        | inl over ↦ absurd (later l at_l over)
-        | inr same ↦ rw same at at_l
-      ]
-    ]
+    go has = grind (arith, less_or_not, later)
 
 agree_all : (run : List Log) (a b : List Numbering) → IsPositions run a → IsPositions run b → (k : ℕ) → Agree a b k
 agree_all run a b pa pb zero = record { to = λ x j lt at. absurd (omega arith); from = λ x j lt at. absurd (omega arith) }
 agree_all run a b pa pb (suc k) = more (agree_all run a b pa pb k)
   where
     more : Agree a b k → Agree a b (suc k)
-    more h = record {
-      to = λ x j lt. below_more (λ j. number_at a x ≡ Some j → number_at b x ≡ Some j) k (λ j under. h.to x j under) (next_agrees run a b k pa pb h x) j (omega arith);
-      from = λ x j lt. below_more (λ j. number_at b x ≡ Some j → number_at a x ≡ Some j) k (λ j under. h.from x j under) (next_agrees run b a k pb pa (agree_sym a b k h) x) j (omega arith);
-    }
+    more h = grind (arith, below_more, next_agrees, agree_sym)
 
 pub one : PositionsAreOne
 one run a b pa pb e = elim (option_cases (number_at a e)) [
   | inr (k, is) ↦ is ∙ sym ((agree_all run a b pa pb (suc k)).to e k (omega arith) is)
-  | inl none ↦ elim (option_cases (number_at b e)) [
-    | inl none' ↦ none ∙ sym none'
-    | inr (k, is) ↦ absurd (let h = (agree_all run a b pa pb (suc k)).from e k (omega arith) is in cc)
-  ]
+  | inl none ↦ none ∙ sym (none_unless (number_at b e) (λ k is. (let h = (agree_all run a b pa pb (suc k)).from e k (omega arith) is in cc)))
 ]

@@ -1,6 +1,6 @@
 -- What holds of the numbers given so far, and after one more class.
 use Rattle.totem_cert.proofs.Common.{◌≡◌, ℕ, ◌+◌, ◌<◌, ◌≤◌, ◌⊎◌, inl, inr, List, Some, sym, ◌∙◌, arith, common_steps, eq-or-lt_of_le, Place, Log, IsEvent, Numbering, number_at, InClass, IsNumberedBelow, IsReadyAt, Placed, placed, IsNumbered, NotBelow, Sound, IsReady, IsGiven, IsNumberedSoFar}
-use Rattle.totem_cert.proofs.LogHeads.{option_cases}
+use Rattle.totem_cert.proofs.LogHeads.{none_unless}
 use Rattle.totem_cert.proofs.Classmates.{class_sym, class_trans, class_self, event_of, waits_same, at_most_same}
 
 module _ (run : List Log) (old new : List Numbering) (n : ℕ) (sound : Sound run old n) (given : IsGiven run old new (n + 1)) where
@@ -37,10 +37,7 @@ module _ (run : List Log) (old new : List Numbering) (n : ℕ) (sound : Sound ru
   was_ready : (f : Place) → IsEvent run f → IsReadyAt run new f (n + 1) → NotBelow new f (n + 1) → IsReady run old f
   was_ready f event waits none = record {
     event = event;
-    unnumbered = elim (option_cases (number_at old f)) [
-      | inl is ↦ is
-      | inr (k, is) ↦ absurd (let le = sound.few f k is in let ge = none.none k (kept f k is) in omega arith)
-    ];
+    unnumbered = none_unless (number_at old f) (λ k is. (let le = sound.few f k is in let ge = none.none k (kept f k is) in omega arith));
     waits = λ g h. (let b = below_was g (n + 1) (omega arith) (waits.each g h) in record { number = b.number; given = b.given });
   }
 

@@ -1,17 +1,17 @@
 -- Steps to classes without a number.
-use Rattle.totem_cert.proofs.Common.{◌≡◌, ℕ, zero, suc, ◌+◌, ◌<◌, ◌≤◌, ◌⊎◌, inl, inr, List, length, get_or, slice_get, Option, Some, None, cond, refl, sym, ◌∙◌, ap, arith, unwrap_or, is_some, common_steps, le-leb, lt-ltb, slice_get_read, MsgId, Place, Entry, Send, Log, IsEvent, Strict, DeliversAt, Numbering, numbers_of, number_at, InClass, AreSendAndDelivery, Step, Placed, placed, IsLeft, IsPrevious, IsLeftSend, IsLeastSend, HoldsUp, IsStepOf, Rising, Table, IsTable, IsEntryAt, place, class_at, class_fed, given_at, IsWanted, AreFirsts, AreFirstsOf, IsNumbered, IsSound, NoneReady, IsClassOf, IsHeldBy}
+use Rattle.totem_cert.proofs.Common.{◌≡◌, ℕ, zero, suc, ◌+◌, ◌<◌, ◌≤◌, ◌⊎◌, inl, inr, List, length, get_or, slice_get, Option, Some, None, cond, refl, sym, ◌∙◌, ap, arith, unwrap_or, is_some, common_steps, le-leb, lt-ltb, lt_of_not-le, slice_get_read, MsgId, Place, Entry, Send, Log, IsEvent, Strict, DeliversAt, Numbering, numbers_of, number_at, InClass, AreSendAndDelivery, Step, Placed, placed, IsLeft, IsPrevious, IsLeftSend, IsLeastSend, HoldsUp, IsStepOf, Rising, Table, IsTable, IsEntryAt, place, class_at, class_fed, given_at, IsWanted, AreFirsts, AreFirstsOf, IsNumbered, IsSound, NoneReady, IsClassOf, IsHeldBy}
 use Rattle.totem_table.specs.Tables as tables
 use Rattle.totem_cert.specs.declared.firsts.Firsts.{Firsts}
 use Rattle.totem_cert.specs.declared.firsts.Wanted.{Wanted}
 use Rattle.totem_cert.specs.declared.firsts.Wanted.TheVariants.{Sends, Members, Followers}
-use Rattle.totem_cert.proofs.Lists.{previous, up_to_or_past}
+use Rattle.totem_cert.proofs.Lists.{previous, unless_past}
 use Rattle.totem_cert.proofs.Classmates.{class_sym, event_of}
 use Rattle.totem_cert.proofs.Classes.{alone_itself, in_class, class_from, class_within, feeds_in, in_feeds}
 use Rattle.totem_cert.proofs.Countable.{alone_ready}
 use Rattle.totem_cert.proofs.FirstPlaces.{le_parts, lt_parts, unwanted}
 use Rattle.totem_cert.proofs.LineFacts.{same_parts, unnumbered_past, past_unnumbered, given_of, log_index, event_at, entry_event, at_most}
 use Rattle.totem_cert.proofs.Walking.{led_to}
-use Rattle.totem_cert.proofs.LogHeads.{feeds_send, send_feeds, class_delivers, free_ready, option_cases}
+use Rattle.totem_cert.proofs.LogHeads.{feeds_send, send_feeds, class_delivers, free_ready, option_cases, none_unless}
 
 strict_event : (run : List Log) (e f : Place) → Strict run e f → IsEvent run e
 strict_event run e f strict = grind (arith, common_steps)
@@ -62,10 +62,8 @@ module _ (run : List Log) (table : Table) (lines : List Numbering) (rising : Ris
   -- an event that is left, with its class c
   module _ (k i : ℕ) (x : Entry) (a : IsEntryAt run k i x) (left : IsLeft run (place a.log.proc i)) (c : ℕ) (in_c : class_at table k i x ≡ Some c) where
     mate_left : (e : Place) → InClass run (place a.log.proc i) e → IsLeft run e
-    mate_left e shares = unnumbered_left run lines sound none e (event_of run (place a.log.proc i) e shares) (elim (option_cases (number_at lines e)) [
-      | inl is ↦ is
-      | inr (n, is) ↦ absurd (let there = sound.sound.shared e (place a.log.proc i) n is (class_sym run (place a.log.proc i) e shares) in let none_here = left_unnumbered run lines sound none (place a.log.proc i) left in cc)
-    ])
+    mate_left e shares = unnumbered_left run lines sound none e (event_of run (place a.log.proc i) e shares) (none_unless (number_at lines e)
+        (λ n is. (let there = sound.sound.shared e (place a.log.proc i) n is (class_sym run (place a.log.proc i) e shares) in let none_here = left_unnumbered run lines sound none (place a.log.proc i) left in cc)))
 
     -- the other entries of the class
     record IsMateAt (e : Place) (l j : ℕ) : Type 0 where
@@ -134,14 +132,9 @@ module _ (run : List Log) (table : Table) (lines : List Numbering) (rising : Ris
           go : (o : Option Place) → send ≡ o → cond (is_some o) member follower ≡ None → ⊥
           go (Some s) some no_member = unwanted run table lines Members members c k i are_members (at_member ∙ ap Some no_member) (member_wanted k i x a in_c (left_given k i x a left))
           go None no_send no_follower = none.none (place a.log.proc i) (free_ready run lines rising sound.fits k i x a (left_given k i x a left) (record {
-            mates = λ l j y b shares. elim (up_to_or_past j (given_at lines l)) [
-              | inl le ↦ le
-              | inr lt ↦ absurd (unwanted run table lines Followers followers c l j are_followers (at_follower ∙ ap Some no_follower) (follower_wanted l j y b (class_from run table rising is_table k i x a c in_c l j y b shares) lt))
-            ];
-            sends = λ l j y b feeds. elim (up_to_or_past (given_at lines l) j) [
-              | inl le ↦ absurd (unwanted run table lines Sends sends c l j are_sends (at_send ∙ ap Some no_send) (send_wanted l j y b feeds le))
-              | inr lt ↦ lt
-            ];
+            mates = λ l j y b shares. unless_past j (given_at lines l)
+                (λ lt. unwanted run table lines Followers followers c l j are_followers (at_follower ∙ ap Some no_follower) (follower_wanted l j y b (class_from run table rising is_table k i x a c in_c l j y b shares) lt));
+            sends = λ l j y b feeds. lt_of_not-le (λ le. unwanted run table lines Sends sends c l j are_sends (at_send ∙ ap Some no_send) (send_wanted l j y b feeds le));
           }))
 
       -- the step to the first entry that is held up

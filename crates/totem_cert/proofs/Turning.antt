@@ -34,18 +34,9 @@ distinct_append (x ∷ xs) ys a b apart = (
 -- in a list of different places each has one index
 one_split : (f g b c : List Place) (x : Place) → IsDistinct (f ++ (x ∷ b)) → f ++ (x ∷ b) ≡ g ++ (x ∷ c) → (f ≡ g) × (b ≡ c)
 one_split [] [] b c x d e = (refl, cc)
-one_split [] (y ∷ g) b c x d e =
-    let one : x ≡ y = cc in
-    let rest : b ≡ g ++ (x ∷ c) = cc in
-    absurd (d.0 (rw rest (Contains-append_right g (x ∷ c) x (head_in x c))))
-one_split (y ∷ f) [] b c x d e =
-    let one : y ≡ x = cc in
-    absurd (d.0 (rw one (Contains-append_right f (x ∷ b) x (head_in x b))))
-one_split (y ∷ f) (z ∷ g) b c x d e =
-    let one : y ≡ z = cc in
-    let rest : f ++ (x ∷ b) ≡ g ++ (x ∷ c) = cc in
-    let r = one_split f g b c x d.1 rest in
-    (ap (λ w. w ∷ f) one ∙ ap (λ ws. z ∷ ws) r.0, r.1)
+one_split [] (y ∷ g) b c x d e = grind (arith, common_steps, Contains-append_right g (x ∷ c) x)
+one_split (y ∷ f) [] b c x d e = grind (arith, common_steps, Contains-append_right f (x ∷ b) x)
+one_split (y ∷ f) (z ∷ g) b c x d e = grind (arith, one_split f g b c x d.1)
 
 -- a turned list, given its first place
 record Turned (whole turned : List Place) : Type 0 where

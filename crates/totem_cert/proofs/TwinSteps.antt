@@ -9,13 +9,9 @@ abbrev pub NoTwinsBefore : List Log → List Place → ℕ → Type 0
 NoTwinsBefore run places i = HoldsTo (λ (j : ℕ) (e : Place). (f : Place) → StandsNext places j f → AreTwinDeliveries run e f → ⊥) places i
 
 somewhere_at : (Step : Place → Place → Type 0) (e : Place) (es : List Place) (z : Place) (i : ℕ) (a b : Place) → slice_get (e ∷ es) i ≡ Some a → (slice_get es i ≡ Some b) ⊎ ((length es ≡ i) × (z ≡ b)) → Step a b → Somewhere Step e es z
-somewhere_at Step e [] z zero a b at (inl h) step = absurd cc
-somewhere_at Step e [] z zero a b at (inr (l, same)) step = let x : e ≡ a = cc in rw (x, same) step
-somewhere_at Step e [] z (suc i) a b at next step = absurd cc
-somewhere_at Step e (f ∷ fs) z zero a b at (inl h) step = let x : e ≡ a = cc in let y : f ≡ b = cc in inl (rw (x, y) step)
-somewhere_at Step e (f ∷ fs) z zero a b at (inr (l, same)) step = absurd (omega arith)
-somewhere_at Step e (f ∷ fs) z (suc i) a b at (inl h) step = inr (somewhere_at Step f fs z i a b at (inl h) step)
-somewhere_at Step e (f ∷ fs) z (suc i) a b at (inr (l, same)) step = inr (somewhere_at Step f fs z i a b at (inr (omega arith, same)) step)
+somewhere_at Step e [] z i a b at next step = grind arith
+somewhere_at Step e (f ∷ fs) z zero a b at next step = grind arith
+somewhere_at Step e (f ∷ fs) z (suc i) a b at next step = grind (arith, somewhere_at Step f fs z i a b)
 
 somewhere_where : (Step : Place → Place → Type 0) (e : Place) (es : List Place) (z : Place) → Somewhere Step e es z → (i : ℕ) × (a b : Place) × (slice_get (e ∷ es) i ≡ Some a) × ((slice_get es i ≡ Some b) ⊎ ((length es ≡ i) × (z ≡ b))) × Step a b
 somewhere_where Step e [] z h = (0, e, z, refl, inr (refl, refl), h)
@@ -25,8 +21,7 @@ somewhere_where Step e (f ∷ fs) z (inr h) = let r = somewhere_where Step f fs 
 
 pub twins_found : (run : List Log) (places : List Place) (i : ℕ) (e f : Place) → slice_get places i ≡ Some e → StandsNext places i f → AreTwinDeliveries run e f → HasTwinDeliveries run places
 twins_found run [] i e f at next twins = cc
-twins_found run (x ∷ xs) i e f at (inl h) twins = let s : i + 1 ≡ suc i = omega arith in let h' : slice_get xs i ≡ Some f = rw s at h in somewhere_at (AreTwinDeliveries run) x xs x i e f at (inl h') twins
-twins_found run (x ∷ xs) i e f at (inr (l, h)) twins = let same : x ≡ f = cc in somewhere_at (AreTwinDeliveries run) x xs x i e f at (inr (omega arith, same)) twins
+twins_found run (x ∷ xs) i e f at next twins = grind (arith, somewhere_at (AreTwinDeliveries run) x xs x i e f)
 
 pub twins_none : (run : List Log) (places : List Place) (i : ℕ) → length places ≤ i → NoTwinsBefore run places i → HasTwinDeliveries run places → ⊥
 twins_none run [] i le none h = h

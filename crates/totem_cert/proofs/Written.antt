@@ -1,5 +1,7 @@
 -- The steps of a round, written in forward order from the least place.
-use Rattle.totem_cert.proofs.Common.{◌≡◌, ℕ, zero, suc, ◌+◌, ◌-◌, ◌<◌, ◌⊎◌, inl, inr, List, [], ◌∷◌, ◌++◌, length, get_or, take, drop, slice_get, Some, refl, sym, ◌∙◌, ap, arith, length-drop, common_steps, take_all, slice_get_within, slice_get_read, Place, IsAtMost, Step, unless, forward, BeginsLeast, StandsBefore, IsForwardFrom, IsLeastUpTo}
+use Rattle.std.proofs.lemmas.Option.{gets}
+use Rattle.std.proofs.lemmas.List.{get_or_append_left, get_or-append_right}
+use Rattle.totem_cert.proofs.Common.{◌≡◌, ℕ, suc, ◌+◌, ◌-◌, ◌<◌, ◌⊎◌, inl, inr, List, [], ◌∷◌, ◌++◌, length, get_or, take, drop, slice_get, Some, refl, sym, ◌∙◌, ap, arith, length-append, length-drop, common_steps, take_all, slice_get_cases, slice_get_within, slice_get_read, Place, IsAtMost, Step, unless, forward, BeginsLeast, StandsBefore, IsForwardFrom, IsLeastUpTo}
 use Rattle.totem_cert.proofs.Closing.{drop_here, get_drop}
 
 pub one_before : (steps : List Step) (again i : ℕ) (p q : Place) → StandsBefore steps again i p → StandsBefore steps again i q → p ≡ q
@@ -7,30 +9,13 @@ one_before steps again i p q before also = grind (arith, common_steps)
 
 pub forward_more : (steps : List Step) (again n i : ℕ) (places next : List Place) (p : Place) (v : Step) → IsForwardFrom steps again n places → i ≡ n - 1 → again < n → i < length steps → StandsBefore steps again i p
     → v ≡ get_or steps i v → next ≡ places ++ (v.from ∷ unless v.to p) → IsForwardFrom steps again i next
-forward_more steps again n i places next p v from i_is lt within stands read is = record {
-  each = λ q also. (
-      let at = slice_get_read steps _ i v refl within read in
-      let here : slice_get steps (n - 1) ≡ Some v = rw i_is at at in
-      let rest = from.each v.from (inl (lt, v, here, refl)) in
-      let n_is : n ≡ suc i = omega arith in
-      let rest' : places ≡ forward v.from (drop (suc i) steps) = rw n_is at rest in
-      let same : p ≡ q = one_before steps again i p q stands also in
-      let whole : forward q (drop i steps) ≡ forward v.from (drop (suc i) steps) ++ (v.from ∷ unless v.to q) = ap (λ (vs : List Step). forward q vs) (drop_here steps i v at) in
-      is ∙ (rw (rest', same) (sym whole))
-      );
-}
+forward_more steps again n i places next p v from i_is lt within stands read is = grind (arith, common_steps, slice_get_read, one_before, drop_here)
 
 in_append : (xs ys : List Place) (i : ℕ) (f : Place) → slice_get (xs ++ ys) i ≡ Some f → ((j : ℕ) × (slice_get xs j ≡ Some f)) ⊎ ((j : ℕ) × (slice_get ys j ≡ Some f))
-in_append [] ys i f at = inr (i, at)
-in_append (x ∷ xs) ys zero f at = inl (0, at)
-in_append (x ∷ xs) ys (suc i) f at = elim (in_append xs ys i f at) [ inl (j, h) ↦ inl (suc j, h) | inr h ↦ inr h ]
+in_append xs ys i f at = grind (arith, gets, get_or_append_left, get_or-append_right, length-append)
 
 in_take : (xs : List Place) (k i : ℕ) (f : Place) → slice_get (take k xs) i ≡ Some f → slice_get xs i ≡ Some f
-in_take [] zero i f at = absurd cc
-in_take [] (suc k) i f at = absurd cc
-in_take (x ∷ xs) zero i f at = absurd cc
-in_take (x ∷ xs) (suc k) zero f at = at
-in_take (x ∷ xs) (suc k) (suc i) f at = in_take xs k i f at
+in_take xs k i f at = grind (arith, common_steps, slice_get_cases)
 
 pub begins_least : (places list : List Place) (k : ℕ) → k < length places → IsLeastUpTo places k (length places) → list ≡ drop k places ++ take k places → BeginsLeast list
 begins_least places list k lt least is = go (drop k places) refl is
