@@ -202,9 +202,7 @@ least_along run c stays stay m x d ch nx i list facts among span inside at to le
     holds others h = absurd h
 
     first : (others : List Place) → IsParted run c m x stay.proc nx others → ComesFirst (place stay.proc nx ∷ list) others
-    first others by =
-        let same = same_change (log_of run stay.proc) nx nx by.to d refl by.change there in
-        rw by.is (inr (refl, least.first (by.last ∷ []) (rw same at by.partner)))
+    first others by = grind (arith, same_change, there)
 
 pub deliveries_begin : (run : List Log) (c : RingId) (stays : List Stay) → Facts run c stays → EachBeginsWithin stays IsInside (BreaksAtomicityIn run c)
 deliveries_begin run c stays facts = record { each = λ places h. go places h }

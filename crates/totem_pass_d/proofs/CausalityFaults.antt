@@ -181,10 +181,7 @@ pairs_more cmp now then run c stays n k sender receiver at_n at_k here has are =
 }
   where
     this : (i : ℕ) (s : Stay) (j : ℕ) (r : Stay) → i ≡ n → j ≡ k → slice_get stays i ≡ Some s → slice_get stays j ≡ Some r → AreNoted cmp then run c s r
-    this i s j r same at at_i at_j =
-        let s_is : s ≡ sender = (let there : slice_get stays n ≡ Some s = rw same at at_i in cc) in
-        let r_is : r ≡ receiver = (let there : slice_get stays k ≡ Some r = rw at at at_j in cc) in
-        rw (s_is, r_is) here
+    this i s j r same at at_i at_j = grind arith
 
 -- the next sender
 pub pairs_next : (cmp : MsgId → MsgId → Ordering) (s : BTreeSet MsgId) (run : List Log) (c : RingId) (stays : List Stay) (n k : ℕ) → length stays ≤ k → AreSuspects cmp s run c stays n k → AreSuspects cmp s run c stays (n + 1) 0
@@ -251,6 +248,4 @@ module _ (cmp : MsgId → MsgId → Ordering) (s : BTreeSet MsgId) (run : List L
 
 pub none_unsuspected : (cmp : MsgId → MsgId → Ordering) (s : BTreeSet MsgId) (run : List Log) (c : RingId) (stays : List Stay) (m : MsgId) (x : ConfId) (v : Service) (p i : ℕ) → Facts run c stays → ∥ AreSuspects cmp s run c stays (length stays) 0 ∥₁
     → sorted.contains cmp s m ≡ false → slice_get (log_of run p) i ≡ Some (Send m x v) → NoneFrom (BreaksCausalityIn run c) p i
-none_unsuspected cmp s run c stays m x v p i of are not at = record {
-  none = λ rest h. not_there are (λ known. (let has = broken cmp s run c stays of known m x v p i rest at h in absurd cc));
-}
+none_unsuspected cmp s run c stays m x v p i of are not at = grind (arith, not_there, broken)

@@ -1,5 +1,5 @@
 -- Entering the changes to regular configurations, and building the stays from them, log by log.
-use Rattle.totem_pass_d.proofs.Common.{◌≡◌, ℕ, inl, inr, List, slice_get, Some, None, true, IsTrue, sym, ◌∙◌, subst, ◌+◌, ◌<◌, ◌≤◌, ◌⊎◌, [], ◌∷◌, ◌++◌, length, get_or, ◌↔◌, ap, arith, below_more, Ordering, RingId, ConfId, Regular, Entry, Conf, Log, log_of, ChangesTo, IsChange, IsQuiet, ending_of, IsRing, AreRings, MeetsPasses, Keeps, StaysSound, equal_at, apart_or_at, exact_ring, slice_get_within, slice_get-get_or, get_or_from_slice_get, NeverFails, log_of_at, log_of_cases, in_order, before_or_at, IsStay, IsStayFrom, IsStayOf, HasStay, AreStays, is_stay, nothing, before_push, stands_before, stands_last}
+use Rattle.totem_pass_d.proofs.Common.{◌≡◌, ℕ, inl, inr, List, slice_get, Some, None, true, IsTrue, sym, ◌∙◌, ◌+◌, ◌<◌, ◌≤◌, ◌⊎◌, [], ◌∷◌, ◌++◌, length, get_or, ◌↔◌, ap, arith, below_more, Ordering, RingId, ConfId, Regular, Entry, Conf, Log, log_of, ChangesTo, IsChange, IsQuiet, ending_of, IsRing, AreRings, MeetsPasses, Keeps, StaysSound, equal_at, apart_or_at, exact_ring, slice_get_within, slice_get-get_or, get_or_from_slice_get, NeverFails, log_of_at, log_of_cases, in_order, before_or_at, IsStay, IsStayFrom, IsStayOf, HasStay, AreStays, is_stay, nothing, before_push, stands_before, stands_last}
 use Rattle.std.specs.BTreeMap.{BTreeMap}
 use Rattle.std.specs.BTreeMap as tree
 use Rattle.std.specs.BTreeSet.{BTreeSet, IsOrdered}
@@ -31,22 +31,10 @@ one_coming by_ring by_change exact_ring exact_change r s m n p i log x c ms at i
     here run logs = (ms, rw (logs, is) at at)
 
     index_here : (run : List Log) (v : Change) (j : ℕ) → log ≡ log_of run p → change_by p (Regular c) ≡ v → tree.get by_change n v ≡ Some j → ChangesTo (log_of run v.proc) j v.conf
-    index_here run v j logs same is_j =
-        let there : tree.get by_change n (change_by p (Regular c)) ≡ Some j = subst (λ (z : Change). tree.get by_change n z ≡ Some j) (sym same) is_j in
-        let indices : i ≡ j = (let found = updated.1 in cc) in
-        subst (λ (z : Change). ChangesTo (log_of run z.proc) j z.conf) same (rw (← indices) (here run logs))
+    index_here run v j logs same is_j = grind (arith, change_by, here)
 
     more : (run : List Log) → log ≡ log_of run p → AreComings by_ring by_change r m run → AreComings by_ring by_change s n run
-    more run logs old = record {
-      ring = λ d has. elim (apart_or_at by_ring c d) [
-        | inr apart ↦ old.ring d (sym (added.2 d apart) ∙ has)
-        | inl at_d ↦ subst (λ (z : RingId). IsRing run z) (exact_ring c d (equal_at (by_ring c d) at_d)) (record { proc = p; index = i; change = here run logs })
-      ];
-      index = λ v j is_j. elim (apart_or_at by_change (change_by p (Regular c)) v) [
-        | inr apart ↦ old.index v j (sym (updated.2 v apart) ∙ is_j)
-        | inl at_v ↦ index_here run v j logs (exact_change (change_by p (Regular c)) v (equal_at (by_change (change_by p (Regular c)) v) at_v)) is_j
-      ];
-    }
+    more run logs old = grind (arith, apart_or_at, exact_ring, equal_at, here, change_by, index_here)
 
 pub keeps_comings : (by_ring : RingId → RingId → Ordering) (by_change : Change → Change → Ordering) → CmpEqualImpliesEq by_ring → CmpEqualImpliesEq by_change
     → (r s : BTreeSet RingId) (m n : BTreeMap Change ℕ) (p i : ℕ) (c : RingId) → sorted.Updates by_ring r s c true → tree.Updates by_change m n (change_by p (Regular c)) (Some i)
@@ -165,9 +153,7 @@ module _ (run : List Log) (c : RingId) (n : ℕ) (log : Log) (is_run : IsRun run
 
   pub from_within : (by_ring : RingId → RingId → Ordering) (by_change : Change → Change → Ordering) (rings : BTreeSet RingId) (indices : BTreeMap Change ℕ) (from : ℕ) → HoldsComings by_ring by_change rings indices run
       → tree.get by_change indices (change_by log.proc (Regular c)) ≡ Some from → from < length log.entries
-  from_within by_ring by_change rings indices from holds found =
-      let change : ChangesTo (log_of run log.proc) from (Regular c) = holds.only.index (change_by log.proc (Regular c)) from found in
-      rw own at (slice_get_within (log_of run log.proc) from _ change.1)
+  from_within by_ring by_change rings indices from holds found = grind (arith, change_by, own, slice_get_within)
 
 -- all of them are the stays of the run
 pub all_stays : (run : List Log) (c : RingId) (n : ℕ) (stays : List Stay) → length run ≤ n → AreOfFirst run c n stays → AreStays run c stays

@@ -4,6 +4,7 @@ pub use Rattle.totem_judge_run.proofs.Common.{slice_get_read, RingId, Entry, Log
 pub use Rattle.totem_evs.proofs.Common.{MeetsPasses, DeliversIn, Sends, AreRings, at_place, entry_at, SendsAt, IsRing, ListsConfigurations, ListsEach, specs_d, members_of, IsHop, BreaksAtomicityIn, BreaksCausalityIn, BreaksIn, MeetsIn, Safe}
 pub use Rattle.totem_judge_traffic.proofs.Common.{HasDelivered, DeliversOrEnds, IsSafe, IsTrafficOf}
 pub use Rattle.totem_table.proofs.Common.{Ordering, Keeps, StaysSound}
+pub use Rattle.std.proofs.lemmas.Bool.{cases_lt}
 pub use Rattle.std.proofs.lemmas.Option.{slice_get_cases}
 pub use Rattle.std.specs.Bool.{OnFalse, MatchBool}
 pub use Rattle.std.specs.Option.{IsSome, is_some, unwrap_or}

@@ -39,19 +39,15 @@ at_turn_no_name log c from turn end i x is lt same names = let t = is.turns lt i
 pub com_of : (log : List Entry) (c : RingId) (from turn end i : ℕ) (x : ConfId) → IsStay log c from turn end → from < i → i < end → Names log i x → Com log c x
 com_of log c from turn end i x is after until names = elim (less_or_not i turn) [
   | inl lt ↦ inl (is.regular i x after lt names)
-  | inr more ↦ elim more [
-    | inl gt ↦ inr (is.following i x gt until names)
-    | inr same ↦ absurd (at_turn_no_name log c from turn end i x is (omega arith) same names)
-  ]
+  | inr (inl gt) ↦ inr (is.following i x gt until names)
+  | inr (inr same) ↦ absurd (at_turn_no_name log c from turn end i x is (omega arith) same names)
 ]
 
 pub sends_of : (log : List Entry) (c : RingId) (from turn end i : ℕ) (m : MsgId) (x : ConfId) → IsStay log c from turn end → IsRegular x → from < i → i < end → Sends log i m x → (x ≡ Regular c) × (i < turn)
 sends_of log c from turn end i m x is r after until (s, at) = elim (less_or_not i turn) [
   | inl lt ↦ (is.regular i x after lt (Send m x s, at, refl), lt)
-  | inr more ↦ elim more [
-    | inl gt ↦ absurd (not_both x r (is.following i x gt until (Send m x s, at, refl)).transitional)
-    | inr same ↦ absurd (at_turn_no_name log c from turn end i x is (omega arith) same (Send m x s, at, refl))
-  ]
+  | inr (inl gt) ↦ absurd (not_both x r (is.following i x gt until (Send m x s, at, refl)).transitional)
+  | inr (inr same) ↦ absurd (at_turn_no_name log c from turn end i x is (omega arith) same (Send m x s, at, refl))
 ]
 
 -- the stay around an entry

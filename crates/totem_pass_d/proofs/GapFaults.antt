@@ -1,6 +1,6 @@
 -- The list found for 6.3 is the least that breaks it: an earlier message, a later one, and a process that delivers only
 -- the later one.
-use Rattle.totem_pass_d.proofs.Common.{◌≡◌, ℕ, ◌+◌, ◌<◌, ◌≤◌, inl, inr, List, [], ◌∷◌, length, slice_get, Option, Some, None, Bool, true, false, not, IsTrue, ◌↔◌, refl, sym, ◌∙◌, arith, below_more, Contains, IfSome, IfNone, unwrap_or, OnTrue, OnFalse, slice_get_within, RingId, ConfId, Regular, MsgId, Place, Entry, Deliver, Log, log_of, Sends, Delivers, WasSentIn, IsMember, Com, DeliversIn, IsGap, BreaksGapIn, ComesFirst, MeetsPasses, less_or_not, Along, before_or_at, place, NoneFrom, IsLeastFrom, IsOneEvent, Starts, IsAmong, DeliversNot, IsSendingOf, NobodySent, IsInside, EachBeginsWithin, NoneWithin, IsLeastWithin, BeginsWithin, AreMembersAt, AreMembersAfter, ComesNotBefore, IsLack, IsLater, TellsMember, IsApart, IsBeyond, IsPassed, HasPassed, IsLast, AreLasts, IsAhead, KeepsUp, AllKeepUp}
+use Rattle.totem_pass_d.proofs.Common.{◌≡◌, ℕ, ◌+◌, ◌<◌, ◌≤◌, inl, inr, List, [], ◌∷◌, length, slice_get, Option, Some, None, Bool, true, false, not, IsTrue, ◌↔◌, refl, sym, ◌∙◌, arith, below_more, Contains, IfSome, IfNone, unwrap_or, OnTrue, OnFalse, slice_get_within, cases_lt, RingId, ConfId, Regular, MsgId, Place, Entry, Deliver, Log, log_of, Sends, Delivers, WasSentIn, IsMember, Com, DeliversIn, IsGap, BreaksGapIn, ComesFirst, MeetsPasses, less_or_not, Along, before_or_at, place, NoneFrom, IsLeastFrom, IsOneEvent, Starts, IsAmong, DeliversNot, IsSendingOf, NobodySent, IsInside, EachBeginsWithin, NoneWithin, IsLeastWithin, BeginsWithin, AreMembersAt, AreMembersAfter, ComesNotBefore, IsLack, IsLater, TellsMember, IsApart, IsBeyond, IsPassed, HasPassed, IsLast, AreLasts, IsAhead, KeepsUp, AllKeepUp}
 use Rattle.totem_pass_d.specs.declared.stays.Stay.{Stay}
 use Rattle.totem_pass_d.specs.declared.stays.Sending.{Sending}
 use Rattle.totem_pass_d.specs.declared.gap_6_3.Last.{Last}
@@ -61,10 +61,9 @@ gap_at run c p i rest h = absurd h
 
 -- the sender of a message that is delivered in c or in what follows it sent it in c
 pub sent_in : (run : List Log) (c : RingId) (stays : List Stay) (m : MsgId) (p i : ℕ) → Facts run c stays → DeliversIn (log_of run p) c m i → WasSentIn run m (Regular c)
-sent_in run c stays m p i facts (d, at, belongs) = go (facts.meets.sent p i m d at)
-  where
-    go : (c' : RingId) × WasSentIn run m (Regular c') × Com (log_of run p) c' d → WasSentIn run m (Regular c)
-    go (c', sent, from) = rw (one_origin (log_of run p) c c' d (facts.meets.one.once p) belongs from) sent
+sent_in run c stays m p i facts (d, at, belongs) =
+    let (origin, sent, from) = facts.meets.sent p i m d at in
+    rw (one_origin (log_of run p) c origin d (facts.meets.one.once p) belongs from) sent
 
 pub none_unsent : (run : List Log) (c : RingId) (stays : List Stay) (stay : Stay) (m : MsgId) (d : ConfId) (i : ℕ) → Facts run c stays → IsAmong stays stay → IsInside stay i → slice_get (log_of run stay.proc) i ≡ Some (Deliver m d) → NobodySent run c m
     → NoneFrom (BreaksGapIn run c) stay.proc i
@@ -85,15 +84,16 @@ gap_of run c m p i j (g ∷ []) sending delivers of (a, is, (lt, (n, later, (k, 
     (i, refl, (a, is, (k, is_g, (refl, (m, n, x, Regular c, sending.proc, sending.at, delivers, later, lt, at_k, belongs, (sending.service, of.sends), member, lacks)))))
 gap_of run c m p i j rest sending delivers of (a, is, (lt, (n, later, one))) = absurd one
 
+gap_inside : (run : List Log) (c : RingId) (stays : List Stay) (stay : Stay) (i j q k : ℕ) → Facts run c stays → IsAmong stays stay → IsGap run c stay.proc i j q k → IsInside stay j
+gap_inside run c stays stay i j q k facts among (o, n, x, y, s, l, earlier, later, lt, at_k, belongs, send, member, lacks) = delivery_inside run c stays stay n j facts among later
+
 pub none_after : (run : List Log) (c : RingId) (stays : List Stay) (stay : Stay) (m : MsgId) (d : ConfId) (i : ℕ) (sending : Sending) → Facts run c stays → IsAmong stays stay → slice_get (log_of run stay.proc) i ≡ Some (Deliver m d) → IsSendingOf run c m sending
     → NoneWithin IsInside (IsLater run c sending.proc m i) stay → NoneFrom (BreaksGapIn run c) stay.proc i
-none_after run c stays stay m d i sending facts among at of none = record { none = λ rest h. let g = gap_at run c stay.proc i rest h in go g.0 g.1 g.2 g.4 }
-  where
-    go : (j q k : ℕ) → IsGap run c stay.proc i j q k → ⊥
-    go j q k gap = none.none j (place q k ∷ []) (inside gap) (later_of run c stays m d stay.proc i sending facts at of j q k gap)
-      where
-        inside : IsGap run c stay.proc i j q k → IsInside stay j
-        inside (o, n, x, y, s, l, earlier, later, lt, at_k, belongs, send, member, lacks) = delivery_inside run c stays stay n j facts among later
+none_after run c stays stay m d i sending facts among at of none = record {
+  none = λ rest h.
+      let (j, q, k, _, gap) = gap_at run c stay.proc i rest h in
+      none.none j (place q k ∷ []) (gap_inside run c stays stay i j q k facts among gap) (later_of run c stays m d stay.proc i sending facts at of j q k gap);
+}
 
 pub least_after : (run : List Log) (c : RingId) (stays : List Stay) (stay : Stay) (m : MsgId) (d : ConfId) (i : ℕ) (sending : Sending) (list : List Place) → Facts run c stays → IsAmong stays stay → IsInside stay i → slice_get (log_of run stay.proc) i ≡ Some (Deliver m d)
     → IsSendingOf run c m sending → IsLeastWithin IsInside (IsLater run c sending.proc m i) stay list → IsLeastFrom (BreaksGapIn run c) stay.proc i list
@@ -102,16 +102,11 @@ least_after run c stays stay m d i sending list facts among inside at of least =
     holds : BreaksGapIn run c (place stay.proc i ∷ list)
     holds = rw least.is (gap_of run c m stay.proc i least.at least.rest sending (d, at, (facts.each stay among).stands i d inside (Deliver m d, at, refl)) of least.least.least.holds)
 
-    inside_of : (j q k : ℕ) → IsGap run c stay.proc i j q k → IsInside stay j
-    inside_of j q k (o, n, x, y, s, l, earlier, later, lt, at_k, belongs, send, member, lacks) = delivery_inside run c stays stay n j facts among later
-
     compare : (j q k : ℕ) → IsGap run c stay.proc i j q k → ComesFirst (place stay.proc least.at ∷ least.rest) (place stay.proc j ∷ place q k ∷ [])
     compare j q k gap = let later = later_of run c stays m d stay.proc i sending facts at of j q k gap in elim (less_or_not j least.at) [
-      | inl earlier ↦ absurd (least.none_before.none j earlier (place q k ∷ []) (inside_of j q k gap) later)
-      | inr more ↦ elim more [
-        | inl over ↦ inl (inr (refl, omega arith))
-        | inr same ↦ inr (rw same refl, least.least.least.first (place q k ∷ []) (rw same at later))
-      ]
+      | inl earlier ↦ absurd (least.none_before.none j earlier (place q k ∷ []) (gap_inside run c stays stay i j q k facts among gap) later)
+      | inr (inl over) ↦ inl (inr (refl, omega arith))
+      | inr (inr same) ↦ inr (rw same refl, least.least.least.first (place q k ∷ []) (rw same at later))
     ]
 
     first : (others : List Place) → ((j q k : ℕ) × (others ≡ place stay.proc j ∷ place q k ∷ []) × IsGap run c stay.proc i j q k) → ComesFirst list others
@@ -203,12 +198,9 @@ pub keeps_up_beyond : (run : List Log) (c : RingId) (p : ℕ) (m : MsgId) (i : �
     → KeepsUp run c p m i follower
 keeps_up_beyond run c p m i follower last stays facts among is regular following = inr (λ j lt (n, d, x, k, s, l, there, at, belongs, send, member).
     let inside = delivery_inside run c stays follower n k facts among (d, at, belongs) in
-    elim (less_or_not k follower.turn) [
+    elim (cases_lt k follower.turn) [
       | inl early ↦ (is.regular.each j (omega arith)).never n k there early (d, at, belongs)
-      | inr rest ↦ (
-          let le : follower.turn ≤ k = (elim rest [ inl gt ↦ omega arith | inr same ↦ omega arith ]) in
-          (is.following.each k le inside.until).never n j (let few = following n d x k s l le inside at send member in omega arith) there (d, at, belongs)
-          )
+      | inr le ↦ (is.following.each k le inside.until).never n j (let few = following n d x k s l le inside at send member in omega arith) there (d, at, belongs)
     ])
 
 -- the sender is not a member of what follows

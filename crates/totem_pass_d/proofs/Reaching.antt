@@ -1,6 +1,5 @@
 -- Safe messages, the members of the configuration in which a message is delivered, and the members that it reaches.
 use Rattle.totem_pass_d.proofs.Common.{◌≡◌, ℕ, ◌<◌, ◌≤◌, inl, inr, List, slice_get, Some, Bool, true, false, IsTrue, ◌↔◌, refl, arith, Contains, RingId, ConfId, Regular, MsgId, Safe, Entry, Conf, Send, Log, members_of, ChangesTo, Delivers, IsMember, IsSafe, IsTransitional, log_of, Names, Follows, Com, MeetsPasses, less_or_not, before_or_at, same_first, one_next, names_no_change, same_change, IsStay, IsSendingOf, IsSafeIn, AreMembersAt}
-use Rattle.totem_evs.specs.Delivery.{WasSentFor}
 use Rattle.totem_pass_d.specs.declared.stays.Sending.{Sending}
 
 -- a message sent for another service is not safe
@@ -68,20 +67,16 @@ one_origin log b c d once (inr f) (inr g) =
     let to : f.to ≡ g.to = once f.to g.to d f.change g.change in
     let from : f.from ≡ g.from = (elim (less_or_not f.from g.from) [
       | inl lt ↦ absurd (f.next.none_between g.from lt (omega (arith, g.next.later, to)) (Regular c, g.first.change))
-      | inr rest ↦ elim rest [
-        | inl gt ↦ absurd (g.next.none_between f.from gt (omega (arith, f.next.later, to)) (Regular b, f.first.change))
-        | inr same ↦ same
-      ]
+      | inr (inl gt) ↦ absurd (g.next.none_between f.from gt (omega (arith, f.next.later, to)) (Regular b, f.first.change))
+      | inr (inr same) ↦ same
     ]) in
     let same : Regular b ≡ Regular c = same_change log f.from g.from (Regular b) (Regular c) from f.first.change g.first.change in cc
 
 pub safe_in : (run : List Log) (c : RingId) (p i : ℕ) (m : MsgId) (d : ConfId) → MeetsPasses run → IsSafe run m → Delivers (log_of run p) i m d → Com (log_of run p) c d → IsSafeIn run c m
-safe_in run c p i m d meets (q, j, x, sends) delivers inside = go (meets.sent p i m d delivers)
-  where
-    go : WasSentFor run p m d → IsSafeIn run c m
-    go (b, (r, k, (v, at)), com_b) =
-        let same : b ≡ c = one_origin (log_of run p) b c d (meets.one.once p) com_b inside in
-        let one = meets.once.one_send q j r k m x (Regular b) (Safe, sends) (v, at) in
-        let there : slice_get (log_of run r) k ≡ Some (Send m x Safe) = rw (one.0, one.1) at sends in
-        let conf : x ≡ Regular c = (let entries : Some (Send m x Safe) ≡ Some (Send m (Regular b) v) = cc in let regular : x ≡ Regular b = cc in cc) in
-        record { proc = r; index = k; sends = rw conf at there }
+safe_in run c p i m d meets (q, j, x, sends) delivers inside =
+    let (b, (r, k, (v, at)), com_b) = meets.sent p i m d delivers in
+    let same : b ≡ c = one_origin (log_of run p) b c d (meets.one.once p) com_b inside in
+    let one = meets.once.one_send q j r k m x (Regular b) (Safe, sends) (v, at) in
+    let there : slice_get (log_of run r) k ≡ Some (Send m x Safe) = rw (one.0, one.1) at sends in
+    let conf : x ≡ Regular c = (let entries : Some (Send m x Safe) ≡ Some (Send m (Regular b) v) = cc in let regular : x ≡ Regular b = cc in cc) in
+    record { proc = r; index = k; sends = rw conf at there }

@@ -1,6 +1,6 @@
 -- Going from stay to stay: the least list that is found is the least of all; how lists of places continue, lists of one event, and the
 -- stay of a process.
-use Rattle.totem_pass_d.proofs.Common.{◌≡◌, ℕ, ◌+◌, ◌<◌, ◌≤◌, inl, inr, List, ◌∷◌, length, slice_get, Some, refl, sym, ap, arith, below_more, [], Result, Ok, Err, Option, None, IfOk, MatchOption, slice_get_within, get_or_from_slice_get, RingId, Place, Log, ComesFirst, IsLeast, FindsIn, place, NoneFrom, HoldsOfNone, IsOneEvent, event_at, less_or_not, AreStays, IsAmong, NeverComes, IsInside, EachBeginsWithin, NoneBelow, NoneWithin, IsLeastWithin, IsOfOne, IsBrokenAlone, EachStandsInside, BeginsWithin, BreaksIn, MeetsIn, ConfId, log_of, Names, Com}
+use Rattle.totem_pass_d.proofs.Common.{◌≡◌, ℕ, ◌+◌, ◌<◌, ◌≤◌, inl, inr, List, ◌∷◌, length, slice_get, Some, refl, ap, arith, below_more, [], Result, Ok, Err, Option, None, IfOk, MatchOption, slice_get_within, get_or_from_slice_get, RingId, Place, Log, ComesFirst, IsLeast, FindsIn, place, NoneFrom, HoldsOfNone, IsOneEvent, event_at, less_or_not, AreStays, IsAmong, NeverComes, IsInside, EachBeginsWithin, NoneBelow, NoneWithin, IsLeastWithin, IsOfOne, IsBrokenAlone, EachStandsInside, BeginsWithin, BreaksIn, MeetsIn, ConfId, log_of, Names, Com}
 use Rattle.totem_pass_d.specs.declared.stays.Stay.{Stay}
 use Rattle.totem_evs.specs.declared.spec.SpecNo.{SpecNo}
 use Rattle.std.specs.declared.alloc.AllocError.{AllocError}
@@ -33,21 +33,13 @@ least_here run c stays Reaches H k stay places are at begins here before = recor
 }
   where
     in_this : (other : Stay) (i : ℕ) (rest : List Place) → other ≡ stay → Reaches other i → H (place other.proc i ∷ rest) → ComesFirst (place stay.proc here.at ∷ here.rest) (place other.proc i ∷ rest)
-    in_this other i rest one reached h = elim (less_or_not i here.at) [
-      | inl earlier ↦ absurd (here.none_before.none i earlier rest (rw one at reached) (rw one at h))
-      | inr more ↦ elim more [
-        | inl later ↦ inl (inr (ap (λ (s : Stay). s.proc) (sym one), omega arith))
-        | inr same ↦ inr (rw (one, same) refl, here.least.least.first rest (rw (one, same) at h))
-      ]
-    ]
+    in_this other i rest one reached h = grind (arith, less_or_not)
 
     go : (other : Stay) → IsAmong stays other → (i : ℕ) → Reaches other i → (rest : List Place) → H (place other.proc i ∷ rest) → ComesFirst (place stay.proc here.at ∷ here.rest) (place other.proc i ∷ rest)
     go other among i reached rest h = elim (less_or_not among.at k) [
       | inl under ↦ absurd (before.none among.at under i other rest among.stands reached h)
-      | inr more ↦ elim more [
-        | inl over ↦ inl (inl (rises run c stays k among.at stay other are at among.stands over))
-        | inr same ↦ in_this other i rest (let there : slice_get stays k ≡ Some other = rw same at among.stands in cc) reached h
-      ]
+      | inr (inl over) ↦ inl (inl (rises run c stays k among.at stay other are at among.stands over))
+      | inr (inr same) ↦ in_this other i rest (let there : slice_get stays k ≡ Some other = rw same at among.stands in cc) reached h
     ]
 
 -- ---- the stay of a process

@@ -1,5 +1,5 @@
 -- What is pending: message by message, stay by stay and ring by ring.
-use Rattle.totem_pass_d.proofs.Common.{◌≡◌, ◌↔◌, ℕ, ◌+◌, inl, inr, List, [], ◌∷◌, ◌++◌, Some, arith, ◌≤◌, length, Option, None, Bool, false, not, IsTrue, refl, sym, Contains, IsPendingIn, IsPendingFor, OnTrue, OnFalse, IsSome, slice_get_within, slice_get_read, get_or_from_slice_get, RingId, Regular, MsgId, exact_message, Entry, Log, log_of, ChangesTo, HasDelivered, StaysIn, OpenIn, AreRings, GoesOn, IsExcused, IsStayOf, HasStay, AreStays}
+use Rattle.totem_pass_d.proofs.Common.{◌≡◌, ◌↔◌, ℕ, ◌+◌, inl, inr, List, [], ◌∷◌, ◌++◌, Some, arith, ◌≤◌, length, Option, None, Bool, false, not, IsTrue, refl, Contains, IsPendingIn, IsPendingFor, OnTrue, OnFalse, IsSome, slice_get_within, slice_get_read, get_or_from_slice_get, RingId, Regular, MsgId, exact_message, Entry, Log, log_of, ChangesTo, HasDelivered, StaysIn, OpenIn, AreRings, GoesOn, IsExcused, IsStayOf, HasStay, AreStays}
 use Rattle.totem_evs.specs.declared.pending.Pending.{Pending}
 use Rattle.std.specs.BTreeMap as tree
 use Rattle.std.proofs.lemmas.Map.Views.{btree_map_contains_key_iff}
@@ -73,13 +73,7 @@ all_missing stays p n old now known still_open end h =
     from x m (Some s) is = listed ((btree_map_contains_key_iff total-law exact_message stays.sends x.msg).0 (rw is refl))
       where
         listed : Contains sent x.msg → AtSome (IsMissed run c p) sent n x
-        listed (k, lt, here) = record {
-          at = k;
-          item = x.msg;
-          below = omega arith;
-          stands = slice_get_read sent _ k x.msg refl lt (sym here);
-          holds = record { proc = m.proc; msg = refl; missing = rw m.proc at m.is.missing };
-        }
+        listed has = grind (arith, slice_get_read, sent)
 
 -- ---- stay by stay
 
@@ -96,13 +90,7 @@ pub all_stays : (run : List Log) (c : RingId) (stays : List Stay) (n : ℕ) (s t
 all_stays run c stays n s t are end h = adds_alike (AtSome (IsPendingThere run c) stays n) (IsPendingIn run c) s t (λ x b. b.holds.is) (λ x m. from x m) h
   where
     at_stay : (x : Pending) → IsPendingIn run c x → HasStay stays x.proc → AtSome (IsPendingThere run c) stays n x
-    at_stay x m has = record {
-      at = has.at;
-      item = has.stay;
-      below = omega (arith, slice_get_within stays has.at has.stay has.stands);
-      stands = has.stands;
-      holds = record { is = m; proc = sym has.proc };
-    }
+    at_stay x m has = grind (arith, slice_get_within)
 
     from : (x : Pending) → IsPendingIn run c x → AtSome (IsPendingThere run c) stays n x
     from x m = (let came = came_to (log_of run x.proc) c m.still_open.1 in at_stay x m (are.whole x.proc came.0 came.1))
@@ -116,13 +104,7 @@ all_rings run rings n s t are end empty h = record { each = λ x. (λ has. elim 
     to x c m = record { ring = c; sent = m.sent; still_open = m.still_open; missing = m.missing }
 
     at_ring : (x : Pending) → (p : IsPending run x.proc x.msg) → Contains rings p.ring → AtSome (IsPendingIn run) rings n x
-    at_ring x p (k, lt, is) = record {
-      at = k;
-      item = p.ring;
-      below = omega arith;
-      stands = slice_get_read rings _ k p.ring refl lt (sym is);
-      holds = record { sent = p.sent; still_open = p.still_open; missing = p.missing };
-    }
+    at_ring x p has = grind (arith, slice_get_read)
 
     from : (x : Pending) → IsPending run x.proc x.msg → AtSome (IsPendingIn run) rings n x
     from x p = (let came = came_to (log_of run x.proc) p.ring p.still_open.1 in at_ring x p ((are.exact p.ring).1 (record { proc = x.proc; index = came.0; change = came.1 })))
