@@ -21,7 +21,7 @@ pub use Rattle.totem_judge.specs.Covered.{AreCovered, AreRisingTo, AreCoveredTo,
 pub use Rattle.totem_judge.specs.Ends.{HasSuch, IsAny, IsExcusedIn, IsOpenAt, Selects}
 pub use Rattle.totem_judge.specs.Events.{IsEventAt}
 pub use Rattle.totem_judge.specs.Judged.{AreObserved, AgreesAt, AllAreTraffic, IsVerified, Agree, Covers, IsObserved, IsView}
-pub use Rattle.totem_judge.specs.Lists.{EachBelow, AreAsListed, IsGotAt, AreSentIn, AreSkipped, AreUnsent, ComesBefore, IsLinked, IsOriginAt, IsSentAt, IsThere, IsDeliveryOf, IsListed, IsSentIn, is_safe}
+pub use Rattle.totem_judge.specs.Lists.{EachBelow, AreAsListed, IsGotAt, AreSentIn, AreSkipped, AreUnsent, ComesBefore, IsLinked, IsOriginAt, IsSentAt, IsThere, IsDeliveryOf, IsDeliveredAt, IsListed, IsSentIn, is_safe}
 pub use Rattle.totem_judge.specs.Members.{AreLogsOfMembers, AreMemberLogs, IsLogOfMember}
 pub use Rattle.totem_judge.specs.Pending.{AddsAll, IsPendingFrom, IsPendingTo}
 pub use Rattle.totem_judge.specs.Seen.{IsReplayed, IsSeen}

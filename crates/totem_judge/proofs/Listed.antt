@@ -1,6 +1,5 @@
 -- What the lists of a configuration say about the logs, if they were verified.
-use Rattle.totem_judge.proofs.Common.{◌≡◌, inl, inr, ℕ, ◌<◌, ◌≤◌, List, length, slice_get, Some, refl, sym, ◌∙◌, ap, subst, arith, slice_get_within, ConfId, Regular, MsgId, Entry, Send, Deliver, Conf, Log, IsRun, ChangesTo, Sends, Delivers, log_of, IsChange, Names, Follows, Com, DeliversIn, Numbering, Certified, less_or_not, Sent, Got, Traffic, IsBy, IsLogAt, one_log, names_no_change, is_stay, IsEventAt, HasSuch, IsAny, ComesBefore, IsLinked, IsThere, IsGotAt, IsSentAt, IsSentIn, AreAsListed, IsReplayed, IsSeen, IsOrderly}
-use Rattle.totem_names.specs.declared.message.Service.{Service}
+use Rattle.totem_judge.proofs.Common.{◌≡◌, inl, inr, ℕ, ◌<◌, ◌≤◌, List, length, slice_get, Some, refl, sym, ◌∙◌, ap, subst, arith, slice_get_within, ConfId, Regular, MsgId, Entry, Send, Deliver, Conf, Log, IsRun, ChangesTo, Sends, Delivers, log_of, IsChange, Names, Follows, Com, DeliversIn, Numbering, Certified, less_or_not, Sent, Got, Traffic, IsBy, IsLogAt, one_log, names_no_change, is_stay, IsEventAt, HasSuch, IsAny, ComesBefore, IsLinked, IsThere, IsGotAt, IsSentAt, IsSentIn, IsDeliveryOf, IsDeliveredAt, AreAsListed, IsReplayed, IsSeen, IsOrderly}
 use Rattle.totem_judge_run.specs.Stays.{IsStay, Bounds}
 use Rattle.totem_judge.specs.declared.gathered.Origin.{Origin}
 use Rattle.totem_judge.specs.declared.gathered.Gathered.{Gathered}
@@ -131,19 +130,12 @@ module _ {run : List Log} {lines : List Numbering} {g : Gathered} {traffic : Tra
   pub record Listed (l p i : ℕ) (m : MsgId) : Type 0 where
     pub s : StayOf l p
     pub conf : ConfId
-    pub number : ℕ
     pub at : ℕ
-    pub got : Got
-    pub sent : Sent
     pub after : s.stay.from < i
     pub until : i < s.stay.end
     pub delivers : Delivers (log_of run p) i m conf
-    pub event : IsEventAt run lines l i (Deliver m conf) number
-    pub got_is : slice_get g.got.items at ≡ Some got
-    pub number_is : slice_get g.got_numbers.items at ≡ Some number
-    pub sent_is : slice_get g.sent.items got.sent ≡ Some sent
-    pub message : sent.message ≡ m
-    pub there : IsThere got s.stay i
+    pub is : IsDeliveryOf s.replayed.line.numbers g s.stay at i m
+    pub event : IsEventAt run lines l i (Deliver m conf) is.number
 
   pub listed : (l p i : ℕ) (m : MsgId) → IsLogAt run l p → DeliversIn (log_of run p) g.ring m i → Listed l p i m
   listed l p i m log (d, at, belongs) =
@@ -154,19 +146,12 @@ module _ {run : List Log} {lines : List Numbering} {g : Gathered} {traffic : Tra
       record {
         s = s;
         conf = d;
-        number = told.1.number;
         at = told.0;
-        got = told.1.got;
-        sent = told.1.sent;
         after = bounds.0;
         until = bounds.1;
         delivers = at;
+        is = told.1;
         event = own_event l p i (Deliver m d) told.1.number s entry told.1.own_number;
-        got_is = told.1.got_is;
-        number_is = told.1.number_is;
-        sent_is = told.1.sent_is;
-        message = told.1.message_is;
-        there = told.1.there;
       }
 
   -- ---- what is listed is delivered
@@ -177,27 +162,17 @@ module _ {run : List Log} {lines : List Numbering} {g : Gathered} {traffic : Tra
   -- the log at l, of p, delivers what is listed at k
   pub record Found (k l p : ℕ) (got : Got) (sent : Sent) : Type 0 where
     pub s : StayOf l p
-    pub at : ℕ
-    pub conf : ConfId
-    pub number : ℕ
-    pub after : s.stay.from < at
-    pub until : at < s.stay.end
-    pub delivers : Delivers (log_of run p) at sent.message conf
-    pub event : IsEventAt run lines l at (Deliver sent.message conf) number
-    pub number_is : slice_get g.got_numbers.items k ≡ Some number
-    pub there : IsThere got s.stay at
-
-  -- a log that delivers what is listed has a stay
-  pub stay_by : (k l p : ℕ) (got : Got) → slice_get g.got.items k ≡ Some got → IsLogAt run l p → IsBy got l → StayOf l p
-  stay_by k l p got at log by =
-      let is = got_at k got at in
-      let same : is.got ≡ got = one_at g.got.items k is.got got is.got_is at in
-      let has = (seen.ends.all.exact l).0 (is.among l (subst (λ (x : Got). IsBy x l) (sym same) by)) in
-      stay_with l p has.at has.stay log has.stands has.of
+    pub told : IsDeliveredAt s.replayed.log.entries s.replayed.line.numbers g s.stay k
+    pub delivers : Delivers (log_of run p) told.at sent.message told.conf
+    pub event : IsEventAt run lines l told.at (Deliver sent.message told.conf) told.is.number
+    pub there : IsThere got s.stay told.at
 
   pub found : (k l p : ℕ) (got : Got) (sent : Sent) → slice_get g.got.items k ≡ Some got → slice_get g.sent.items got.sent ≡ Some sent → IsLogAt run l p → IsBy got l → Found k l p got sent
   found k l p got sent at of log by =
-      let s = stay_by k l p got at log by in
+      let is = got_at k got at in
+      let gots : is.got ≡ got = one_at g.got.items k is.got got is.got_is at in
+      let has = (seen.ends.all.exact l).0 (is.among l (subst (λ (x : Got). IsBy x l) (sym gots) by)) in
+      let s = stay_with l p has.at has.stay log has.stands has.of in
       let d = s.replayed.are.delivered k got (slice_get_within g.got.items k got at) at (subst (λ (j : ℕ). IsBy got j) (sym s.log) by) in
       let same : d.is.got ≡ got = one_at g.got.items k d.is.got got d.is.got_is at in
       let sents : d.is.sent ≡ sent = one_at g.sent.items got.sent d.is.sent sent (subst (λ (x : Got). slice_get g.sent.items x.sent ≡ Some d.is.sent) same d.is.sent_is) of in
@@ -206,31 +181,22 @@ module _ {run : List Log} {lines : List Numbering} {g : Gathered} {traffic : Tra
       let event = own_event l p d.at (Deliver sent.message d.conf) d.is.number s entry d.is.own_number in
       record {
         s = s;
-        at = d.at;
-        conf = d.conf;
-        number = d.is.number;
-        after = d.after;
-        until = d.until;
+        told = d;
         delivers = entry_of run lines l p d.at (Deliver sent.message d.conf) d.is.number is_run.rising log event;
         event = event;
-        number_is = d.is.number_is;
         there = subst (λ (x : Got). IsThere x s.stay d.at) same d.is.there;
       }
 
   -- ---- a message is listed once
 
   -- some log delivers what is listed at k
-  record Somewhere (k : ℕ) (m : MsgId) : Type 0 where
+  record Somewhere (k : ℕ) (got : Got) (sent : Sent) : Type 0 where
     pub l : ℕ
     pub p : ℕ
-    pub at : ℕ
-    pub conf : ConfId
-    pub number : ℕ
     pub log : IsLogAt run l p
-    pub event : IsEventAt run lines l at (Deliver m conf) number
-    pub number_is : slice_get g.got_numbers.items k ≡ Some number
+    pub found : Found k l p got sent
 
-  somewhere : (k : ℕ) (got : Got) (sent : Sent) → slice_get g.got.items k ≡ Some got → slice_get g.sent.items got.sent ≡ Some sent → Somewhere k sent.message
+  somewhere : (k : ℕ) (got : Got) (sent : Sent) → slice_get g.got.items k ≡ Some got → slice_get g.sent.items got.sent ≡ Some sent → Somewhere k got sent
   somewhere k got sent at of =
       let is = got_at k got at in
       let same : is.got ≡ got = one_at g.got.items k is.got got is.got_is at in
@@ -239,17 +205,18 @@ module _ {run : List Log} {lines : List Numbering} {g : Gathered} {traffic : Tra
       let has = (seen.ends.all.exact l).0 (is.among l is.some.1) in
       let here = replayed_at has.at has.stay has.stands in
       let log : IsLogAt run l here.log.proc = record { log = here.log; stands = subst (λ (j : ℕ). slice_get run j ≡ Some here.log) has.of here.log_is; proc = refl } in
-      let f = found k l here.log.proc got sent at of log by in
-      record { l = l; p = here.log.proc; at = f.at; conf = f.conf; number = f.number; log = log; event = f.event; number_is = f.number_is }
+      record { l = l; p = here.log.proc; log = log; found = found k l here.log.proc got sent at of log by }
 
   pub one_got : (j k : ℕ) (a b : Got) (s t : Sent) → slice_get g.got.items j ≡ Some a → slice_get g.got.items k ≡ Some b → slice_get g.sent.items a.sent ≡ Some s → slice_get g.sent.items b.sent ≡ Some t
       → s.message ≡ t.message → j ≡ k
   one_got j k a b s t at_j at_k of_a of_b same =
       let one = somewhere j a s at_j of_a in
       let other = somewhere k b t at_k of_b in
-      let event : IsEventAt run lines one.l one.at (Deliver t.message one.conf) one.number = subst (λ (m : MsgId). IsEventAt run lines one.l one.at (Deliver m one.conf) one.number) same one.event in
-      same_index g.got_numbers.items j k one.number other.number seen.lists.got_rise one.number_is other.number_is
-      (one_number run lines is_run.rising certified one.l other.l one.p other.p one.at other.at t.message one.conf other.conf one.number other.number one.log other.log event other.event)
+      let first = one.found.told in
+      let second = other.found.told in
+      let event : IsEventAt run lines one.l first.at (Deliver t.message first.conf) first.is.number = subst (λ (m : MsgId). IsEventAt run lines one.l first.at (Deliver m first.conf) first.is.number) same one.found.event in
+      same_index g.got_numbers.items j k first.is.number second.is.number seen.lists.got_rise first.is.number_is second.is.number_is
+      (one_number run lines is_run.rising certified one.l other.l one.p other.p first.at second.at t.message first.conf second.conf first.is.number second.is.number one.log other.log event other.found.event)
 
   -- ---- what was sent
 
@@ -257,17 +224,15 @@ module _ {run : List Log} {lines : List Numbering} {g : Gathered} {traffic : Tra
   pub record SentAt (k : ℕ) (sent : Sent) : Type 0 where
     pub p : ℕ
     pub at : ℕ
-    pub service : Service
+    pub origin : Origin
     pub number : ℕ
     pub log : IsLogAt run sent.sender p
-    pub entry : slice_get (log_of run p) at ≡ Some (Send sent.message (Regular g.ring) service)
-    pub event : IsEventAt run lines sent.sender at (Send sent.message (Regular g.ring) service) number
+    pub entry : slice_get (log_of run p) at ≡ Some (Send sent.message (Regular g.ring) origin.service)
+    pub event : IsEventAt run lines sent.sender at (Send sent.message (Regular g.ring) origin.service) number
     pub number_is : slice_get g.sent_numbers.items k ≡ Some number
     pub before : ComesBefore g.got_numbers.items sent.before number
     pub linked : IsLinked g.got.items k sent
-    pub origin : Origin
     pub origin_is : slice_get g.origins.items k ≡ Some origin
-    pub kind : service ≡ origin.service
 
   pub sent_at : (k : ℕ) (sent : Sent) → slice_get g.sent.items k ≡ Some sent → SentAt k sent
   sent_at k sent at =
@@ -295,7 +260,7 @@ module _ {run : List Log} {lines : List Numbering} {g : Gathered} {traffic : Tra
           record {
             p = r.log.proc;
             at = here.at;
-            service = o.origin.service;
+            origin = o.origin;
             number = is.number;
             log = log;
             entry = entry_of run lines is.sent.sender r.log.proc here.at (Send is.sent.message (Regular g.ring) o.origin.service) is.number is_run.rising log event;
@@ -303,25 +268,23 @@ module _ {run : List Log} {lines : List Numbering} {g : Gathered} {traffic : Tra
             number_is = is.number_is;
             before = is.before;
             linked = is.linked;
-            origin = o.origin;
             origin_is = o.origin_is;
-            kind = refl;
           }
 
   -- the number of a send is that in the list
   pub number_of_send : (k l p i : ℕ) (sent : Sent) (x : ConfId) (e : Entry) (n : ℕ) → (s : SentAt k sent) → IsLogAt run l p → Sends (log_of run p) i sent.message x → IsEventAt run lines l i e n → s.number ≡ n
   number_of_send k l p i sent x e n s log sends event =
-      let one = orderly.once.one_send s.p s.at p i sent.message (Regular g.ring) x (s.service, s.entry) sends in
+      let one = orderly.once.one_send s.p s.at p i sent.message (Regular g.ring) x (s.origin.service, s.entry) sends in
       let there : IsLogAt run sent.sender p = subst (λ (q : ℕ). IsLogAt run sent.sender q) one.0 s.log in
       let same : sent.sender ≡ l = one_log run sent.sender l p is_run.rising there log in
-      let here : IsEventAt run lines l i (Send sent.message (Regular g.ring) s.service) s.number =
-      subst (λ (j : ℕ). IsEventAt run lines l j (Send sent.message (Regular g.ring) s.service) s.number) one.1 (subst (λ (j : ℕ). IsEventAt run lines j s.at (Send sent.message (Regular g.ring) s.service) s.number) same s.event) in
-      (one_event run lines l i (Send sent.message (Regular g.ring) s.service) e s.number n here event).1
+      let here : IsEventAt run lines l i (Send sent.message (Regular g.ring) s.origin.service) s.number =
+      subst (λ (j : ℕ). IsEventAt run lines l j (Send sent.message (Regular g.ring) s.origin.service) s.number) one.1 (subst (λ (j : ℕ). IsEventAt run lines j s.at (Send sent.message (Regular g.ring) s.origin.service) s.number) same s.event) in
+      (one_event run lines l i (Send sent.message (Regular g.ring) s.origin.service) e s.number n here event).1
 
   pub one_sent : (j k : ℕ) (s t : Sent) → slice_get g.sent.items j ≡ Some s → slice_get g.sent.items k ≡ Some t → s.message ≡ t.message → j ≡ k
   one_sent j k s t at_j at_k same =
       let a = sent_at j s at_j in
       let b = sent_at k t at_k in
-      let sends : Sends (log_of run b.p) b.at s.message (Regular g.ring) = (b.service, rw same b.entry) in
+      let sends : Sends (log_of run b.p) b.at s.message (Regular g.ring) = (b.origin.service, rw same b.entry) in
       same_index g.sent_numbers.items j k a.number b.number seen.lists.sent_rise a.number_is b.number_is
-      (number_of_send j t.sender b.p b.at s (Regular g.ring) (Send t.message (Regular g.ring) b.service) b.number a b.log sends b.event)
+      (number_of_send j t.sender b.p b.at s (Regular g.ring) (Send t.message (Regular g.ring) b.origin.service) b.number a b.log sends b.event)

@@ -73,10 +73,8 @@ module _ {run : List Log} {lines : List Numbering} {g : Gathered} {traffic : Tra
   never_failed l p log never failed = of ((all_at IsLog run l log.log is_run.each log.stands).ending.0 failed)
     where
       failure_of : (e : Entry) → IsFailure e → (x : ConfId) × (e ≡ Fail x)
-      failure_of (Conf x ms) h = absurd h
-      failure_of (Send m x s) h = absurd h
-      failure_of (Deliver m x) h = absurd h
       failure_of (Fail x) h = (x, refl)
+      failure_of e h = absurd h
 
       of : EndsInFail log.log.entries → ⊥
       of (i, e, many, at, fails) = let f = failure_of e fails in never i f.0 (rw (entries_of run l p is_run.rising log, ← f.1) at)

@@ -19,6 +19,13 @@ each_more Holds n here so_far = grind (arith, before_or_at)
 
 -- ---- sets of stays' logs
 
+-- what is in a set, if it got one more
+set_more : (old new : LogSet) (Was Is : ℕ → Type 0) (k : ℕ) → Has new k → ((i : ℕ) → i ≢ k → Has new i ↔ Has old i) → Is k → ((i : ℕ) → i ≢ k → Was i ↔ Is i) → ((i : ℕ) → Has old i ↔ Was i) → (i : ℕ) → Has new i ↔ Is i
+set_more old new Was Is k here others is same so_far i = elim (same_or_not i k) [
+  | inl one ↦ rw one (λ has. is, λ h. here)
+  | inr apart ↦ (λ has. (same i apart).0 ((so_far i).0 ((others i apart).0 has)), λ h. (others i apart).1 ((so_far i).1 ((same i apart).1 h)))
+]
+
 such_later : (Such : Stay → Type 0) (stays : List Stay) (n log : ℕ) → HasSuch Such stays n log → HasSuch Such stays (n + 1) log
 such_later Such stays n log h = record { at = h.at; stay = h.stay; before = (let lt = h.before in omega arith); stands = h.stands; of = h.of; such = h.such }
 
@@ -28,22 +35,19 @@ such_earlier Such stays n log h lt = record { at = h.at; stay = h.stay; before =
 module _ (Such : Stay → Type 0) (stays : List Stay) (n : ℕ) (stay : Stay) (at : slice_get stays n ≡ Some stay) where
   -- the next stay keeps the condition, and its log is in the set
   pub select_more : (old new : LogSet) → Such stay → Has new stay.log → ((log : ℕ) → log ≢ stay.log → Has new log ↔ Has old log) → Selects Such stays n old → Selects Such stays (n + 1) new
-  select_more old new such here others so_far = record { exact = λ log. (from log, to log) }
+  select_more old new such here others so_far = record { exact = set_more old new (HasSuch Such stays n) (HasSuch Such stays (n + 1)) stay.log here others newest same so_far.exact }
     where
-      from : (log : ℕ) → Has new log → HasSuch Such stays (n + 1) log
-      from log has = elim (same_or_not log stay.log) [
-        | inl same ↦ record { at = n; stay = stay; before = omega arith; stands = at; of = sym same; such = such }
-        | inr apart ↦ such_later Such stays n log ((so_far.exact log).0 ((others log apart).0 has))
-      ]
+      newest : HasSuch Such stays (n + 1) stay.log
+      newest = record { at = n; stay = stay; before = omega arith; stands = at; of = refl; such = such }
 
-      to : (log : ℕ) → HasSuch Such stays (n + 1) log → Has new log
-      to log h = elim (same_or_not log stay.log) [
-        | inl same ↦ rw same here
-        | inr apart ↦ elim (before_or_at h.at n h.before) [
-          | inl under ↦ (others log apart).1 ((so_far.exact log).1 (such_earlier Such stays n log h under))
+      same : (log : ℕ) → log ≢ stay.log → HasSuch Such stays n log ↔ HasSuch Such stays (n + 1) log
+      same log apart = (
+        such_later Such stays n log,
+        λ h. elim (before_or_at h.at n h.before) [
+          | inl under ↦ such_earlier Such stays n log h under
           | inr level ↦ absurd (let e : h.stay ≡ stay = one_at stays n h.stay stay (rw level at h.stands) at in apart (sym h.of ∙ ap (λ (y : Stay). y.log) e))
-        ]
-      ]
+        ],
+      )
 
   -- the next stay does not keep the condition
   pub select_skip : (set : LogSet) → (Such stay → ⊥) → Selects Such stays n set → Selects Such stays (n + 1) set
@@ -67,21 +71,13 @@ member_earlier run members n index lt h = record { before = lt; log = h.log; sta
 
 module _ (run : List Log) (members : List ℕ) (n : ℕ) (log : Log) (at : slice_get run n ≡ Some log) where
   pub member_more : (old new : LogSet) → Contains members log.proc → Has new n → ((index : ℕ) → index ≢ n → Has new index ↔ Has old index) → AreLogsOfMembers run members n old → AreLogsOfMembers run members (n + 1) new
-  member_more old new member here others so_far = record {
-    exact = λ index. (
-      λ has. elim (same_or_not index n) [
-        | inl same ↦ record { before = omega arith; log = log; stands = rw same at; member = member }
-        | inr apart ↦ member_later run members n index ((so_far.exact index).0 ((others index apart).0 has))
-      ],
-      λ h. elim (same_or_not index n) [
-        | inl same ↦ rw same here
-        | inr apart ↦ elim (before_or_at index n h.before) [
-          | inl under ↦ (others index apart).1 ((so_far.exact index).1 (member_earlier run members n index under h))
-          | inr level ↦ absurd (apart level)
-        ]
-      ],
-    );
-  }
+  member_more old new member here others so_far = record { exact = set_more old new (IsLogOfMember run members n) (IsLogOfMember run members (n + 1)) n here others newest same so_far.exact }
+    where
+      newest : IsLogOfMember run members (n + 1) n
+      newest = record { before = omega arith; log = log; stands = at; member = member }
+
+      same : (index : ℕ) → index ≢ n → IsLogOfMember run members n index ↔ IsLogOfMember run members (n + 1) index
+      same index apart = (member_later run members n index, λ h. elim (before_or_at index n h.before) [ inl under ↦ member_earlier run members n index under h | inr level ↦ absurd (apart level) ])
 
   pub member_skip : (set : LogSet) → (Contains members log.proc → ⊥) → AreLogsOfMembers run members n set → AreLogsOfMembers run members (n + 1) set
   member_skip set never so_far = record {

@@ -16,12 +16,12 @@ module _ {run : List Log} {lines : List Numbering} {g : Gathered} {traffic : Tra
 
   -- the place where p's delivery of m is listed
   place_of : (k l p i : ℕ) (m : MsgId) (got : Got) (sent : Sent) → slice_get g.got.items k ≡ Some got → slice_get g.sent.items got.sent ≡ Some sent → sent.message ≡ m → (f : Listed v l p i m) → f.at ≡ k
-  place_of k l p i m got sent at of is f = one_got v f.at k f.got got f.sent sent f.got_is at f.sent_is of (f.message ∙ sym is)
+  place_of k l p i m got sent at of is f = one_got v f.at k f.is.got got f.is.sent sent f.is.got_is at f.is.sent_is of (f.is.message_is ∙ sym is)
 
   there_of : (k l p i : ℕ) (m : MsgId) (got : Got) (sent : Sent) → slice_get g.got.items k ≡ Some got → slice_get g.sent.items got.sent ≡ Some sent → sent.message ≡ m → (f : Listed v l p i m) → IsThere got f.s.stay i
   there_of k l p i m got sent at of is f =
       let same = place_of k l p i m got sent at of is f in
-      subst (λ (x : Got). IsThere x f.s.stay i) (one_at g.got.items k f.got got (subst (λ (j : ℕ). slice_get g.got.items j ≡ Some f.got) same f.got_is) at) f.there
+      subst (λ (x : Got). IsThere x f.s.stay i) (one_at g.got.items k f.is.got got (subst (λ (j : ℕ). slice_get g.got.items j ≡ Some f.is.got) same f.is.got_is) at) f.is.there
 
   regular_of : (k : ℕ) (got : Got) (sent : Sent) → slice_get g.got.items k ≡ Some got → slice_get g.sent.items got.sent ≡ Some sent → AreLogsOf run got.regular (λ p. (i : ℕ) × Delivers (log_of run p) i sent.message (Regular g.ring))
   regular_of k got sent at of = record { exact = λ l p log. (from l p log, to l p log) }
@@ -29,8 +29,8 @@ module _ {run : List Log} {lines : List Numbering} {g : Gathered} {traffic : Tra
       from : (l p : ℕ) → IsLogAt run l p → Has got.regular l → (i : ℕ) × Delivers (log_of run p) i sent.message (Regular g.ring)
       from l p log has =
           let f = found v k l p got sent at of log (inl has) in
-          elim (below_or_not f.at f.s.stay.turn) [
-            | inl under ↦ (f.at, (let same = f.s.is.regular f.at f.conf f.after under (Deliver sent.message f.conf, f.delivers, refl) in rw same at f.delivers))
+          elim (below_or_not f.told.at f.s.stay.turn) [
+            | inl under ↦ (f.told.at, (let same = f.s.is.regular f.told.at f.told.conf f.told.after under (Deliver sent.message f.told.conf, f.delivers, refl) in rw same at f.delivers))
             | inr behind ↦ absurd ((f.there.transitional behind).1 (subst (λ (j : ℕ). Has got.regular j) (sym f.s.log) has))
           ]
 
@@ -47,11 +47,11 @@ module _ {run : List Log} {lines : List Numbering} {g : Gathered} {traffic : Tra
       from l p log has =
           let f = found v k l p got sent at of log (inr has) in
           let here : Has got.transitional f.s.stay.log = subst (λ (j : ℕ). Has got.transitional j) (sym f.s.log) has in
-          let le : f.s.stay.turn ≤ f.at = elim (below_or_not f.at f.s.stay.turn) [
+          let le : f.s.stay.turn ≤ f.told.at = elim (below_or_not f.told.at f.s.stay.turn) [
             | inl under ↦ absurd ((f.there.regular under).1 here)
             | inr behind ↦ behind
           ] in
-          (f.at, f.conf, f.delivers, follows_here v l p f.at f.conf f.s le f.until (Deliver sent.message f.conf, f.delivers, refl))
+          (f.told.at, f.told.conf, f.delivers, follows_here v l p f.told.at f.told.conf f.s le f.told.until (Deliver sent.message f.told.conf, f.delivers, refl))
 
       to : (l p : ℕ) → IsLogAt run l p → DeliversBehind run g.ring sent.message p → Has got.transitional l
       to l p log (i, d, delivers, follows) =
@@ -76,20 +76,20 @@ module _ {run : List Log} {lines : List Numbering} {g : Gathered} {traffic : Tra
           let link = (sent_at v k sent at).linked.each l has in
           let of : slice_get g.sent.items link.got.sent ≡ Some sent = subst (λ (j : ℕ). slice_get g.sent.items j ≡ Some sent) (sym link.of) at in
           let f = found v link.at l p link.got sent link.stands of log link.by in
-          elim (below_or_not f.at f.s.stay.turn) [
-            | inl under ↦ (f.at, (f.conf, f.delivers, inl (f.s.is.regular f.at f.conf f.after under (Deliver sent.message f.conf, f.delivers, refl))))
-            | inr behind ↦ (f.at, (f.conf, f.delivers, inr (follows_here v l p f.at f.conf f.s behind f.until (Deliver sent.message f.conf, f.delivers, refl))))
+          elim (below_or_not f.told.at f.s.stay.turn) [
+            | inl under ↦ (f.told.at, (f.told.conf, f.delivers, inl (f.s.is.regular f.told.at f.told.conf f.told.after under (Deliver sent.message f.told.conf, f.delivers, refl))))
+            | inr behind ↦ (f.told.at, (f.told.conf, f.delivers, inr (follows_here v l p f.told.at f.told.conf f.s behind f.told.until (Deliver sent.message f.told.conf, f.delivers, refl))))
           ]
 
       to : (l p : ℕ) → IsLogAt run l p → HasDelivered (log_of run p) g.ring sent.message → Has sent.by l
       to l p log (i, delivers) =
           let f = listed v l p i sent.message log delivers in
-          let is = got_at v f.at f.got f.got_is in
-          let gots : is.got ≡ f.got = one_at g.got.items f.at is.got f.got is.got_is f.got_is in
-          let place : f.got.sent ≡ k = one_sent v f.got.sent k f.sent sent f.sent_is at f.message in
+          let is = got_at v f.at f.is.got f.is.got_is in
+          let gots : is.got ≡ f.is.got = one_at g.got.items f.at is.got f.is.got is.got_is f.is.got_is in
+          let place : f.is.got.sent ≡ k = one_sent v f.is.got.sent k f.is.sent sent f.is.sent_is at f.is.message_is in
           let of : slice_get g.sent.items is.got.sent ≡ Some sent = subst (λ (j : ℕ). slice_get g.sent.items j ≡ Some sent) (sym (ap (λ (x : Got). x.sent) gots ∙ place)) at in
           let same : is.sent ≡ sent = one_at g.sent.items is.got.sent is.sent sent is.sent_is of in
-          let by : IsBy f.got l = is_by f.at l p i sent.message f.got f.sent f.got_is f.sent_is f.message f in
+          let by : IsBy f.is.got l = is_by f.at l p i sent.message f.is.got f.is.sent f.is.got_is f.is.sent_is f.is.message_is f in
           subst (λ (s : Sent). Has s.by l) same (is.within l (subst (λ (x : Got). IsBy x l) (sym gots) by))
 
   -- ---- the lists
@@ -97,7 +97,7 @@ module _ {run : List Log} {lines : List Numbering} {g : Gathered} {traffic : Tra
   pub sent_in : (k : ℕ) (sent : Sent) → slice_get g.sent.items k ≡ Some sent → IsSentIn run g.ring sent
   sent_in k sent at =
       let s = sent_at v k sent at in
-      record { proc = s.p; at = s.at; sender = s.log; sends = (s.service, s.entry); by = by_of k sent at }
+      record { proc = s.p; at = s.at; sender = s.log; sends = (s.origin.service, s.entry); by = by_of k sent at }
 
   safe_told : (service : Service) → is_safe service ≡ true → service ≡ services.Safe
   safe_told services.Agreed e = absurd cc
@@ -127,15 +127,15 @@ module _ {run : List Log} {lines : List Numbering} {g : Gathered} {traffic : Tra
 
       from : IsTrue is.got.safe → IsSafe run is.sent.message
       from told =
-          let kind : is_safe s.service ≡ true = ap is_safe s.kind ∙ ap (λ (o : Origin). is_safe o.service) (sym origins) ∙ sym is.kind ∙ told in
-          (s.p, s.at, Regular g.ring, rw (safe_told s.service kind) at s.entry)
+          let kind : is_safe s.origin.service ≡ true = ap (λ (o : Origin). is_safe o.service) (sym origins) ∙ sym is.kind ∙ told in
+          (s.p, s.at, Regular g.ring, rw (safe_told s.origin.service kind) at s.entry)
 
       to : IsSafe run is.sent.message → IsTrue is.got.safe
       to (q, j, x, at_j) =
-          let one = orderly.once.one_send s.p s.at q j is.sent.message (Regular g.ring) x (s.service, s.entry) (services.Safe, at_j) in
-          let here : slice_get (log_of run q) j ≡ Some (Send is.sent.message (Regular g.ring) s.service) = rw one.1 at (rw one.0 at s.entry) in
-          let services_are : s.service ≡ services.Safe = cc in
-          is.kind ∙ ap (λ (o : Origin). is_safe o.service) origins ∙ ap is_safe (sym s.kind ∙ services_are)
+          let one = orderly.once.one_send s.p s.at q j is.sent.message (Regular g.ring) x (s.origin.service, s.entry) (services.Safe, at_j) in
+          let here : slice_get (log_of run q) j ≡ Some (Send is.sent.message (Regular g.ring) s.origin.service) = rw one.1 at (rw one.0 at s.entry) in
+          let services_are : s.origin.service ≡ services.Safe = cc in
+          is.kind ∙ ap (λ (o : Origin). is_safe o.service) origins ∙ ap is_safe services_are
 
   pub all_sent : (p i : ℕ) (m : MsgId) → Sends (log_of run p) i m (Regular g.ring) → HasSent run g.sent.items p m
   all_sent p i m (service, at) =
@@ -157,13 +157,13 @@ module _ {run : List Log} {lines : List Numbering} {g : Gathered} {traffic : Tra
   all_got p i m (d, delivers, belongs) =
       let log = has_log run p i (Deliver m d) delivers in
       let f = listed v log.0 p i m log.1 (d, delivers, belongs) in
-      record { at = f.at; got = f.got; stands = f.got_is; sent = f.sent; of = f.sent_is; message = f.message }
+      record { at = f.at; got = f.is.got; stands = f.is.got_is; sent = f.is.sent; of = f.is.sent_is; message = f.is.message_is }
 
   -- ---- the order
 
   -- the number of a delivery of what is listed at j
-  number_at : (j l p h : ℕ) (a : Got) (s : Sent) → slice_get g.got.items j ≡ Some a → IsOf g.sent.items a s → (f : Listed v l p h s.message) → slice_get g.got_numbers.items j ≡ Some f.number
-  number_at j l p h a s at of f = subst (λ (k : ℕ). slice_get g.got_numbers.items k ≡ Some f.number) (place_of j l p h s.message a s at of refl f) f.number_is
+  number_at : (j l p h : ℕ) (a : Got) (s : Sent) → slice_get g.got.items j ≡ Some a → IsOf g.sent.items a s → (f : Listed v l p h s.message) → slice_get g.got_numbers.items j ≡ Some f.is.number
+  number_at j l p h a s at of f = subst (λ (k : ℕ). slice_get g.got_numbers.items k ≡ Some f.is.number) (place_of j l p h s.message a s at of refl f) f.is.number_is
 
   pub sent_order : SentInOrder run g.ring g.sent.items
   sent_order = record { each = go }
@@ -189,8 +189,8 @@ module _ {run : List Log} {lines : List Numbering} {g : Gathered} {traffic : Tra
           let log = has_log run p h (Deliver s.message d) first in
           let e = listed v log.0 p h s.message log.1 (d, first, belongs) in
           let f = listed v log.0 p i t.message log.1 second in
-          let logs = in_order run lines is_run.rising certified log.0 p h i (Deliver s.message e.conf) (Deliver t.message f.conf) e.number f.number log.1 e.event f.event in
-          let lists = by_number g.got_numbers.items j k e.number f.number seen.lists.got_rise (number_at j log.0 p h a s at_j of_a e) (number_at k log.0 p i b t at_k of_b f) in
+          let logs = in_order run lines is_run.rising certified log.0 p h i (Deliver s.message e.conf) (Deliver t.message f.conf) e.is.number f.is.number log.1 e.event f.event in
+          let lists = by_number g.got_numbers.items j k e.is.number f.is.number seen.lists.got_rise (number_at j log.0 p h a s at_j of_a e) (number_at k log.0 p i b t at_k of_b f) in
           (λ lt. lists.0 (logs.0 lt), λ lt. logs.1 (lists.1 lt))
 
   pub heard : HeardBefore run g.ring g.sent.items g.got.items
@@ -208,8 +208,8 @@ module _ {run : List Log} {lines : List Numbering} {g : Gathered} {traffic : Tra
           let b = sent_at v k t at_k in
           let f = event_of run lines log.0 p i (Send t.message (Regular g.ring) service) is_run.rising certified.matches log.1 at_i in
           let n : b.number ≡ f.0 = number_of_send v k log.0 p i t (Regular g.ring) (Send t.message (Regular g.ring) service) f.0 b log.1 (service, at_i) f.1 in
-          let above = (in_order run lines is_run.rising certified log.0 p h i (Deliver s.message e.conf) (Send t.message (Regular g.ring) service) e.number f.0 log.1 e.event f.1).0 lt in
-          before_of j e.number b.number t.before b.before (number_at j log.0 p h a s at_j of_a e) (omega (arith, n, above))
+          let above = (in_order run lines is_run.rising certified log.0 p h i (Deliver s.message e.conf) (Send t.message (Regular g.ring) service) e.is.number f.0 log.1 e.event f.1).0 lt in
+          before_of j e.is.number b.number t.before b.before (number_at j log.0 p h a s at_j of_a e) (omega (arith, n, above))
 
   pub behind : GotBehind g.sent.items g.got.items
   behind = record { each = go }

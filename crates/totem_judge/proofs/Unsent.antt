@@ -20,8 +20,8 @@ module _ {run : List Log} {lines : List Numbering} {list : List Gathered} (all :
       let v = verified all here.at g known.0 here.stands known.1 in
       let there : Com (log_of run p) g.ring d = subst (λ (r : RingId). Com (log_of run p) r d) (sym here.ring) belongs in
       let f = listed v l p i m log.1 (d, delivers, there) in
-      let s = sent_at v f.got.sent f.sent f.sent_is in
-      let sends : Sends (log_of run s.p) s.at m (Regular g.ring) = (s.service, rw f.message at s.entry) in
+      let s = sent_at v f.is.got.sent f.is.sent f.is.sent_is in
+      let sends : Sends (log_of run s.p) s.at m (Regular g.ring) = (s.origin.service, rw f.is.message_is at s.entry) in
       (c, (s.p, s.at, subst (λ (r : RingId). Sends (log_of run s.p) s.at m (Regular r)) here.ring sends), belongs)
 
   -- a transitional configuration follows a regular one
