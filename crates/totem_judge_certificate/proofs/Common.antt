@@ -13,7 +13,7 @@ pub use Rattle.totem_outcome.proofs.Certain.{class_split, classes_one, sends_bel
 pub use Rattle.totem_outcome.proofs.Matching.{as_many, matches_at}
 pub use Rattle.totem_outcome.proofs.Standing.{in_stands, locate, one_in, at_index}
 pub use Rattle.totem_outcome.specs.Each.{IsIn, EachEvent, EachPair, SomeEvent, SomePair, EachPast}
-pub use Rattle.totem_outcome.specs.Kinds.{SendIsBelow, NumberIsShared, SendIsNotBelow}
+pub use Rattle.totem_outcome.specs.Kinds.{SendIsBelow, ClassIsSplit, NumberIsShared, SendIsNotBelow}
 pub use Rattle.totem_outcome.specs.Numbered.{Stands, place}
 pub use Rattle.totem_outcome.specs.Rising.{LinesRise, RisesBefore}
 pub use Rattle.totem_judge_certificate.specs.ClassOf.{class_barred_by, class_of}

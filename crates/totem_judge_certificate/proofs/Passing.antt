@@ -1,10 +1,11 @@
 -- From one class to the next: what a walk shows about the events that it has passed.
-use Rattle.totem_judge_certificate.proofs.Common.{◌≡◌, ℕ, ◌<◌, ◌≤◌, ◌⊎◌, inl, inr, List, length, Some, refl, sym, ◌∙◌, subst, arith, IsCertificate, Place, MsgId, Entry, Conf, Send, Deliver, Fail, Log, AreOfOneClass, AreSendAndDelivery, Numbering, Matches, Rising, class_of, class_barred_by, Stands, SomeEvent, LinesRise, IsAhead, AreOne, IsLeastHead, IsPassed, AreClasses, IsCleanTo, IsClean, IsUnclean, sends_below, send_late, classes_one, class_split, others_apart}
+use Rattle.totem_judge_certificate.proofs.Common.{◌≡◌, ℕ, ◌<◌, ◌≤◌, ◌⊎◌, inl, inr, List, length, Some, refl, sym, ◌∙◌, subst, arith, IsCertificate, Place, MsgId, Entry, Conf, Send, Deliver, Fail, Log, AreOfOneClass, AreSendAndDelivery, Numbering, Matches, Rising, class_of, class_barred_by, Stands, SomeEvent, ClassIsSplit, SendIsNotBelow, LinesRise, IsAhead, AreOne, IsLeastHead, IsPassed, AreClasses, IsCleanTo, IsClean, IsUnclean, sends_below, send_late, classes_one, class_split, others_apart}
 use Rattle.totem_judge_certificate.specs.declared.class.Class.{Class}
 use Rattle.totem_judge_certificate.specs.declared.class.Class.TheVariants.{Delivery}
 use Rattle.totem_judge_certificate.specs.declared.walk.Head.{Head}
 use Rattle.totem_judge_certificate.specs.declared.passed.Passed.{Passed}
 use Rattle.totem_judge_certificate.specs.PassedClasses.{HasNone, Adds, IsNew, IsOld}
+use Rattle.totem_judge_certificate.proofs.Entering.{some_pair}
 use Rattle.totem_judge_certificate.proofs.Naming.{through, back, class_shared, shares_class, own_class_bars}
 use Rattle.totem_judge_certificate.proofs.Walking.{ahead_stands, positive_number, head_is_above, passed_or_next, one_ahead}
 
@@ -130,13 +131,7 @@ too_late run lines last k e x classes stands above known old = late x refl old.b
     had = known.there old.class old.passed
 
     split : class_of x ≡ Some old.class → IsUnclean run lines
-    split mine = inr (inl (class_split run lines (record {
-      event = had.event;
-      entry = had.entry;
-      number = had.number;
-      stands = had.stands;
-      holds = record { event = e; entry = x; number = k; stands = stands; holds = (shares_class had.entry x old.class had.holds.1 mine, λ same. (let up = above in let le = had.holds.0 in omega arith)) };
-    })))
+    split mine = inr (inl (class_split run lines (some_pair ClassIsSplit run lines had.event e had.entry x had.number k had.stands stands (shares_class had.entry x old.class had.holds.1 mine, λ same. (let up = above in let le = had.holds.0 in omega arith)))))
 
     sent : (m : MsgId) (y : Entry) → Some (Delivery m) ≡ Some old.class → class_of y ≡ Some old.class → (d : _) × (y ≡ Deliver m d)
     sent m (Deliver n d) barred is = (d, (let both : Some (Delivery m) ≡ Some (Delivery n) = barred ∙ sym is in cc))
@@ -148,13 +143,8 @@ too_late run lines last k e x classes stands above known old = late x refl old.b
     late (Fail c) same barred = absurd cc
     late (Send m c s) same barred =
         let delivery = sent m had.entry barred had.holds.1 in
-        inl (send_late run lines (record {
-          event = e;
-          entry = x;
-          number = k;
-          stands = stands;
-          holds = record { event = had.event; entry = had.entry; number = had.number; stands = had.stands; holds = (subst (λ (w : Entry). AreSendAndDelivery w had.entry) (sym same) (subst (λ (w : Entry). AreSendAndDelivery (Send m c s) w) (sym delivery.1) refl), λ lt. (let up = above in let le = had.holds.0 in omega arith)) };
-        }))
+        let pair = subst (λ (w : Entry). AreSendAndDelivery w had.entry) (sym same) (subst (λ (w : Entry). AreSendAndDelivery (Send m c s) w) (sym delivery.1) refl) in
+        inl (send_late run lines (some_pair SendIsNotBelow run lines e had.event x had.entry k had.number stands had.stands (pair, λ lt. (let up = above in let le = had.holds.0 in omega arith))))
 
 -- at the end all events were passed
 pub all_clean : (run : List Log) (lines : List Numbering) (last : ℕ) → Rising run → Matches run lines → ((f : Place) (y : Entry) (n : ℕ) → Stands run lines f y n → n ≤ last) → IsCleanTo run lines last → IsClean run lines

@@ -1,10 +1,10 @@
 -- Entering the numbers of classes, event by event.
-use Rattle.totem_judge_certificate.proofs.Common.{◌≡◌, ◌≢◌, ℕ, ◌+◌, ◌<◌, ◌≤◌, inl, inr, List, length, slice_get, Option, Some, None, IfSome, Bool, true, false, refl, sym, ◌∙◌, subst, arith, Place, Entry, Conf, Send, Deliver, Fail, Log, AreSendAndDelivery, Numbering, Matches, Rising, less_or_not, class_of, Stands, EachEvent, SomeEvent, EachPair, SomePair, IsIn, SendIsBelow, SendIsNotBelow, ClassesAreOne, TwinsAreApart, least_of, Differs, IsLeastOf, IsEntered, IsKnown, IsNoted, IsTrueOf, KnowsTo, Knows, IsEarly, AreEarlyTo, class_split, classes_one}
+use Rattle.totem_judge_certificate.proofs.Common.{◌≡◌, ◌≢◌, ℕ, ◌+◌, ◌<◌, ◌≤◌, inl, inr, List, length, slice_get, Option, Some, None, IfSome, Bool, true, false, refl, sym, ◌∙◌, subst, arith, Place, Entry, Conf, Send, Deliver, Fail, Log, AreSendAndDelivery, Numbering, Matches, Rising, less_or_not, class_of, Stands, EachEvent, SomeEvent, EachPair, SomePair, IsIn, SendIsBelow, ClassIsSplit, SendIsNotBelow, ClassesAreOne, TwinsAreApart, least_of, Differs, IsLeastOf, IsEntered, IsKnown, IsNoted, IsTrueOf, KnowsTo, Knows, IsEarly, AreEarlyTo, class_split, classes_one}
 use Rattle.totem_judge_certificate.specs.declared.class.Class.{Class}
 use Rattle.totem_judge_certificate.specs.declared.class.Class.TheVariants.{Delivery}
 use Rattle.totem_judge_certificate.specs.declared.spread.Spread.{Spread}
 use Rattle.totem_judge_certificate.proofs.Naming.{class_shared, shares_class}
-use Rattle.totem_judge_certificate.proofs.Entering.{weaker_past, more_past, next_log, all_past}
+use Rattle.totem_judge_certificate.proofs.Entering.{some_pair, weaker_past, more_past, next_log, all_past}
 
 -- ---- one number
 
@@ -71,13 +71,7 @@ module _ (run : List Log) (lines : List Numbering) (old new : Spread) (k j : ℕ
 
   differing : IsTrueOf run lines old → (o : Option ℕ) → least_of old c ≡ o → Differs o n → TwinsAreApart run lines
   differing so None at apart = absurd apart
-  differing so (Some l) at apart = let s = so.there c l at in class_split run lines (record {
-    event = s.event;
-    entry = s.entry;
-    number = s.number;
-    stands = s.stands;
-    holds = record { event = e; entry = x; number = n; stands = stands; holds = (shares_class s.entry x c s.holds.1 is, λ same. apart (sym s.holds.0 ∙ same)) };
-  })
+  differing so (Some l) at apart = let s = so.there c l at in class_split run lines (some_pair ClassIsSplit run lines s.event e s.entry x s.number n s.stands stands (shares_class s.entry x c s.holds.1 is, λ same. apart (sym s.holds.0 ∙ same)))
 
   still_true : IsTrueOf run lines old → IsTrueOf run lines new
   still_true so = record {

@@ -2,6 +2,7 @@
 use Rattle.totem_judge_certificate.proofs.Common.{below_more, ◌≡◌, ◌≢◌, ℕ, zero, suc, ◌+◌, ◌<◌, ◌≤◌, ◌⊎◌, inl, inr, List, [], ◌∷◌, length, get_or, slice_get, slice_set, Option, Some, None, refl, sym, ◌∙◌, ap, subst, arith, slice_get_within, slice_get_read, slice_get-get_or, get_or_from_slice_get, Place, Entry, Log, AreOfOneClass, Numbering, Matches, Rising, in_order, less_or_not, IsLine, IsCertificate, Stands, place, SomePair, IsIn, NumberIsShared, LinesRise, IsAhead, IsHead, IsPassed, NoneLeftTo, IsLeastHead, IsLeastTo, IsLesser, IsStepOf, IsStepped, AreOneBefore, as_many, matches_at, at_index, in_stands, one_in, locate}
 use Rattle.std.proofs.lemmas.List.{length-set}
 use Rattle.totem_judge_certificate.specs.declared.walk.Head.{Head}
+use Rattle.totem_judge_certificate.proofs.Entering.{some_pair}
 
 pub ahead_stands : (run : List Log) (lines : List Numbering) (passed : List ℕ) (i : ℕ) (e : Place) (x : Entry) (n : ℕ) → Rising run → Matches run lines → IsAhead run lines passed i e x n → Stands run lines e x n
 ahead_stands run lines passed i e x n rising matches h = in_stands run lines i h.at e x n rising matches h.is
@@ -131,14 +132,14 @@ one_head lines passed i n m a b =
     let number : slice_get b.line.numbers b.at ≡ Some n = rw (← ones, ← ats) a.number_is in
     (let h = b.number_is in cc)
 
-pub is_head : (lines : List Numbering) (passed : List ℕ) (i at n : ℕ) (line : Numbering) → slice_get lines i ≡ Some line → slice_get passed i ≡ Some at → slice_get line.numbers at ≡ Some n → IsHead lines passed i n
-is_head lines passed i at n line at_line at_passed at_number = record { line = line; at = at; line_is = at_line; at_is = at_passed; number_is = at_number }
+pub is_head : (lines : List Numbering) (passed : List ℕ) (i n : ℕ) (line : Numbering) → length passed ≡ length lines → i < length lines → line ≡ get_or lines i line → slice_get line.numbers (get_or passed i 0) ≡ Some n → IsHead lines passed i n
+is_head lines passed i n line many lt read at_number = record { line = line; at = get_or passed i 0; line_is = slice_get_read lines _ i line refl lt read; at_is = slice_get-get_or passed i 0 (omega arith); number_is = at_number }
 
-pub no_head : (lines : List Numbering) (passed : List ℕ) (i at : ℕ) (line : Numbering) → slice_get lines i ≡ Some line → slice_get passed i ≡ Some at → slice_get line.numbers at ≡ None → (m : ℕ) → IsHead lines passed i m → ⊥
-no_head lines passed i at line at_line at_passed none m a =
-    let ones : a.line ≡ line = (let h = a.line_is in cc) in
-    let ats : a.at ≡ at = (let h = a.at_is in cc) in
-    (let number : slice_get line.numbers at ≡ Some m = rw (← ones, ← ats) a.number_is in cc)
+pub no_head : (lines : List Numbering) (passed : List ℕ) (i : ℕ) (line : Numbering) → length passed ≡ length lines → i < length lines → line ≡ get_or lines i line → slice_get line.numbers (get_or passed i 0) ≡ None → (m : ℕ) → IsHead lines passed i m → ⊥
+no_head lines passed i line many lt read none m a =
+    let ones : a.line ≡ line = (let h = a.line_is in let at_line = slice_get_read lines _ i line refl lt read in cc) in
+    let ats : a.at ≡ get_or passed i 0 = (let h = a.at_is in let at_passed = slice_get-get_or passed i 0 (omega arith) in cc) in
+    (let number : slice_get line.numbers (get_or passed i 0) ≡ Some m = rw (← ones, ← ats) a.number_is in cc)
 
 pub skips_line : (lines : List Numbering) (passed : List ℕ) (k : ℕ) (least : Option Head) → ((m : ℕ) → IsHead lines passed k m → ⊥) → IsLeastTo lines passed k least → IsLeastTo lines passed (k + 1) least
 skips_line lines passed k None never h = record { never = below_more (λ j. (m : ℕ) → IsHead lines passed j m → ⊥) k h.never never }
@@ -212,13 +213,8 @@ own_ahead run lines passed i k x z n (g, a) own f y b = inr (subst (λ (w : Entr
 
 -- the next events of two logs are different
 pub sharing : (run : List Log) (lines : List Numbering) (passed : List ℕ) (i k : ℕ) (x z : Entry) (n : ℕ) → Rising run → Matches run lines → i ≢ k → ((g : Place) × IsAhead run lines passed i g z n) → ((e : Place) × IsAhead run lines passed k e x n) → (AreOfOneClass z x → ⊥) → SomePair NumberIsShared run lines
-sharing run lines passed i k x z n rising matches differ (g, a) (e, b) apart = record {
-  event = g;
-  entry = z;
-  number = n;
-  stands = ahead_stands run lines passed i g z n rising matches a;
-  holds = record { event = e; entry = x; number = n; stands = ahead_stands run lines passed k e x n rising matches b; holds = (refl, other, apart) };
-}
+sharing run lines passed i k x z n rising matches differ (g, a) (e, b) apart =
+    some_pair NumberIsShared run lines g e z x n n (ahead_stands run lines passed i g z n rising matches a) (ahead_stands run lines passed k e x n rising matches b) (refl, other, apart)
   where
     other : g ≡ e → ⊥
     other same =

@@ -46,6 +46,7 @@ fn are_early(spread: &Spread, logs: &[Log], lines: &[Line], index: usize) -> boo
 }
 
 /// Returns whether each send is below the deliveries of its message. The spread has their least number.
+#[tactic(auto, using(crate::proofs::Spreading::all_below))]
 pub fn sends_are_below(spread: &Spread, logs: &[Log], lines: &[Line]) -> bool
     requires matches { Matches logs.now lines.now }
     requires run { IsRun logs.now }

@@ -86,6 +86,7 @@ impl Spread {
     }
 
     /// Returns the spread of all classes of a run.
+    #[tactic(auto, using(crate::proofs::Spreading::all_known))]
     pub fn of(alloc: Global, logs: &[Log], lines: &[Line]) -> Result<Spread, AllocError>
         requires matches { Matches logs.now lines.now }
         requires run { IsRun logs.now }

@@ -135,6 +135,7 @@ fn walk(
 
 /// Returns whether the numbers order the run: each send is below the deliveries of its message, and events share a number
 /// if and only if they are of one class. The numbers of each line have to be ascending.
+#[tactic(auto, using(crate::proofs::Passing::start_classes, crate::proofs::Passing::start_clean))]
 pub fn is_ordered(alloc: Global, logs: &[Log], lines: &[Line]) -> Result<bool, AllocError>
     requires matches { Matches logs.now lines.now }
     requires run { IsRun logs.now }

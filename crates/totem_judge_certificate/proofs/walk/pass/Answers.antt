@@ -1,4 +1,4 @@
-use Rattle.totem_judge_certificate.proofs.Common.{inl, refl, arith, slice_get_read, slice_get-get_or}
+use Rattle.totem_judge_certificate.proofs.Common.{inl, refl, ◌∙◌, arith, slice_get_read, slice_get-get_or}
 use Rattle.totem_judge_certificate.proofs.Walking.{is_head, ahead_number, ahead_before, as_before, own_ahead, ones_more, sharing, steps, stays}
 use Rattle.totem_judge_certificate.proofs.walk.pass.Goals as goal
 use Rattle.totem_judge_certificate.proofs.walk.pass.Goals.{then-log-head+else-not-is_of_class_of, else-log-head}
@@ -15,9 +15,7 @@ loop-log-preserved-then-not-is_number_at c =
 
 pub entry_at-entry-requires-clause-head : goal.entry_at-entry-requires-clause-head
 entry_at-entry-requires-clause-head c =
-    let at_line = slice_get_read c.args.lines.now _ c.loop-log.log c.index-lines-log.result refl c.loop-log-test.true c.index-lines-log.is in
-    let at_passed = slice_get-get_or c.loop-log.passed c.loop-log.log 0 (let many = c.loop-log.invariant.stepped.as_many in omega arith) in
-    is_head _ _ _ _ _ _ at_line at_passed (c.if-not-is_number_at.ensures.number.0 refl)
+    is_head c.args.lines.now c.loop-log.passed c.loop-log.log _ c.index-lines-log.result (c.loop-log.invariant.stepped.as_many ∙ c.requires.as_many) c.loop-log-test.true c.index-lines-log.is (c.if-not-is_number_at.ensures.number.0 refl)
 
 pub returns-then-not-is_of_class_of-clause-one : goal.returns-then-not-is_of_class_of-clause-one
 returns-then-not-is_of_class_of-clause-one c =

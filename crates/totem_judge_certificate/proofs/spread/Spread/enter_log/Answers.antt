@@ -1,4 +1,4 @@
-use Rattle.totem_judge_certificate.proofs.Common.{refl, sym, ◌∙◌, ap, length, arith, slice_get_read, LogRecord, Numbering, as_many, in_stands}
+use Rattle.totem_judge_certificate.proofs.Common.{refl, sym, ◌∙◌, ap, length, arith, slice_get_read, LogRecord, Numbering, in_stands}
 use Rattle.totem_judge_certificate.proofs.Entering.{number_within, read_in}
 use Rattle.totem_judge_certificate.proofs.Spreading.{one_more, none_more, log_known}
 use Rattle.totem_judge_certificate.proofs.spread.Spread.enter_log.Goals as goal
@@ -6,19 +6,15 @@ use Rattle.totem_judge_certificate.proofs.spread.Spread.enter_log.Goals.{in-Some
 
 pub bounds-numbers-at : goal.bounds-numbers-at
 bounds-numbers-at c =
-    let at_log = slice_get_read c.args.logs.now _ c.args.index c.index-logs-index.result refl c.requires.within c.index-logs-index.is in
-    let at_line = slice_get_read c.args.lines.now _ c.args.index c.index-lines-index.result refl (omega (arith, as_many _ _ c.requires.matches, c.requires.within)) c.index-lines-index.is in
     let entries = c.as_slice-entries.ensures.value ∙ ap (λ (l : LogRecord). l.entries) c.log.view_is in
     let numbers = c.as_slice-numbers.ensures.value ∙ ap (λ (l : Numbering). l.numbers) c.line.view_is in
-    number_within _ _ _ _ _ _ _ _ c.requires.matches at_log at_line entries numbers c.loop-at-test.true
+    number_within _ _ _ _ _ _ _ _ c.requires.matches c.requires.within c.index-logs-index.is c.index-lines-index.is entries numbers c.loop-at-test.true
 
 pub loop-at-preserved : goal.loop-at-preserved
 loop-at-preserved c =
-    let at_log = slice_get_read c.args.logs.now _ c.args.index c.index-logs-index.result refl c.requires.within c.index-logs-index.is in
-    let at_line = slice_get_read c.args.lines.now _ c.args.index c.index-lines-index.result refl (omega (arith, as_many _ _ c.requires.matches, c.requires.within)) c.index-lines-index.is in
     let entries = c.as_slice-entries.ensures.value ∙ ap (λ (l : LogRecord). l.entries) c.log.view_is in
     let numbers = c.as_slice-numbers.ensures.value ∙ ap (λ (l : Numbering). l.numbers) c.line.view_is in
-    let inside = read_in _ _ _ _ _ _ _ _ _ c.requires.matches at_log at_line entries numbers c.loop-at-test.true c.index-entries-at.is in
+    let inside = read_in _ _ _ _ _ _ _ _ _ c.requires.matches c.requires.within c.index-logs-index.is c.index-lines-index.is entries numbers c.loop-at-test.true c.index-entries-at.is in
     elim c.match-of.branch [
       | in-Some+in_ok-enter w ↦
           rw w.self-is (one_more _ _ _ _ _ _ _ _ _ _ inside (sym c.of.ensures ∙ w.in-Some.is) (in_stands _ _ _ _ _ _ _ c.requires.run.rising c.requires.matches inside) w.in_ok-enter.ensures c.loop-at.invariant)
