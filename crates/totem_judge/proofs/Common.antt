@@ -1,6 +1,6 @@
 -- The names that most proofs here cite, passed on from one place. Declares nothing.
 pub use Rattle.std.proofs.Common.{◌≡◌, Some, slice_get, arith, refl, sym, ◌∙◌, subst, ap, ℕ, List, length, inl, inr, ◌<◌, ◌≤◌, Contains, [], rules, ◌++◌, ◌↔◌, ◌∷◌, ◌⊎◌, append-nil, ◌+◌, IsTrue, append_assoc, length-set, replicate, slice_index, slice_set, suc, true, zero, ◌≢◌}
-pub use Rattle.totem_judge_run.proofs.Common.{Log, slice_get_within, Numbering, log_of, slice_get_read, Entry, Conf, Deliver, Regular, ConfId, MsgId, RingId, Certified, ChangesTo, Follows, LogRecord, slice_get-get_or, less_or_not, Delivers, Send, IsOrderly, Rising, IsChange, Com, IsNextChange, StaysIn, log_of_at, one_next, EndsTogether, Names, ChangesWith, IsMember, IsQuiet, IsRegular, IsTransitional, ending_of, FailedIn, NeverFails, RunRecord, IsFailure, Fail, HoldsPending, IsInOrder, Transitional}
+pub use Rattle.totem_judge_run.proofs.Common.{before_push, stands_last, Log, slice_get_within, Numbering, log_of, slice_get_read, Entry, Conf, Deliver, Regular, ConfId, MsgId, RingId, Certified, ChangesTo, Follows, LogRecord, slice_get-get_or, less_or_not, Delivers, Send, IsOrderly, Rising, IsChange, Com, IsNextChange, StaysIn, log_of_at, one_next, EndsTogether, Names, ChangesWith, IsMember, IsQuiet, IsRegular, IsTransitional, ending_of, FailedIn, NeverFails, RunRecord, IsFailure, Fail, HoldsPending, IsInOrder, Transitional}
 pub use Rattle.totem_judge_traffic.proofs.Common.{IsLogAt, Sends, IsBy, MeetsPasses, DeliversIn, AreLogsOf, HasSent, IsTrafficOf, IsSafe, HasDelivered, ShowsAgreement, AreMembers}
 pub use Rattle.totem_judge_certificate.proofs.Common.{at_index, Matches, Stands, place, RisesBefore}
 pub use Rattle.totem_evs.proofs.Common.{OnTrue_from, IsRing, EndsInFail, IsLog}

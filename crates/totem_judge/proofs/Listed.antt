@@ -1,10 +1,10 @@
 -- What the lists of a configuration say about the logs, if they were verified.
-use Rattle.totem_judge.proofs.Common.{◌≡◌, inl, inr, ℕ, ◌<◌, ◌≤◌, List, length, slice_get, Some, refl, sym, ◌∙◌, ap, subst, arith, slice_get_within, ConfId, Regular, MsgId, Entry, Send, Deliver, Conf, Log, IsRun, ChangesTo, Sends, Delivers, log_of, IsChange, Names, Follows, Com, DeliversIn, Numbering, Certified, less_or_not, Sent, Got, Traffic, IsBy, IsLogAt, one_log, names_no_change, is_stay, IsEventAt, HasSuch, IsAny, ComesBefore, IsLinked, IsThere, IsGotAt, IsSentAt, IsSentIn, IsDeliveryOf, IsDeliveredAt, AreAsListed, IsReplayed, IsSeen, IsOrderly}
+use Rattle.totem_judge.proofs.Common.{◌≡◌, inl, inr, ℕ, ◌<◌, ◌≤◌, List, length, slice_get, Some, refl, sym, ◌∙◌, ap, subst, arith, slice_get_within, ConfId, Regular, MsgId, Entry, Send, Deliver, Conf, Log, IsRun, ChangesTo, Sends, Delivers, log_of, IsChange, Names, Follows, Com, DeliversIn, Numbering, Certified, less_or_not, Sent, Got, Traffic, IsBy, IsLogAt, one_log, one_at, names_no_change, is_stay, IsEventAt, HasSuch, IsAny, ComesBefore, IsLinked, IsThere, IsGotAt, IsSentAt, IsSentIn, IsDeliveryOf, IsDeliveredAt, AreAsListed, IsReplayed, IsSeen, IsOrderly}
 use Rattle.totem_judge_run.specs.Stays.{IsStay, Bounds}
 use Rattle.totem_judge.specs.declared.gathered.Origin.{Origin}
 use Rattle.totem_judge.specs.declared.gathered.Gathered.{Gathered}
 use Rattle.totem_judge.specs.declared.gathered.Stay.{Stay}
-use Rattle.totem_judge.proofs.Numbers.{below_or_not, one_at, entry_of, one_event, one_number, same_index, entries_of}
+use Rattle.totem_judge.proofs.Numbers.{below_or_not, entry_of, one_event, one_number, same_index, entries_of}
 use Rattle.totem_judge.specs.StaysIn.{IsBounded}
 
 -- a stay that is bounded by changes, and has no other but where it turns

@@ -1,14 +1,10 @@
 -- Events by the index of their log, and the order of their numbers.
-use Rattle.totem_judge.proofs.Common.{◌≡◌, inl, inr, ℕ, ◌<◌, List, length, slice_get, Some, refl, sym, ◌∙◌, ap, subst, arith, ◌⊎◌, ◌≤◌, ◌↔◌, slice_get_within, ConfId, MsgId, Entry, Conf, Deliver, Log, log_of, Numbering, Matches, Certified, Rising, log_of_at, less_or_not, Stands, place, RisesBefore, IsLogAt, IsEventAt}
+use Rattle.totem_judge.proofs.Common.{◌≡◌, inl, inr, ℕ, ◌<◌, List, length, slice_get, Some, refl, sym, ◌∙◌, ap, subst, arith, ◌⊎◌, ◌≤◌, ◌↔◌, slice_get_within, ConfId, MsgId, Entry, Conf, Deliver, Log, log_of, Numbering, Matches, Certified, Rising, log_of_at, less_or_not, Stands, place, RisesBefore, IsLogAt, one_at, IsEventAt}
 use Rattle.totem_outcome.proofs.Matching.{line_at, matches_at}
 use Rattle.totem_outcome.proofs.Standing.{at_index, stands_at}
 
 pub below_or_not : (a b : ℕ) → (a < b) ⊎ (b ≤ a)
 below_or_not a b = grind arith
-
--- a list has one element at an index
-pub one_at : {X : Type 0} (xs : List X) (i : ℕ) (x y : X) → slice_get xs i ≡ Some x → slice_get xs i ≡ Some y → x ≡ y
-one_at xs i x y a b = cc
 
 pub entries_of : (run : List Log) (l p : ℕ) → Rising run → (at : IsLogAt run l p) → log_of run p ≡ at.log.entries
 entries_of run l p rising at = subst (λ (q : ℕ). log_of run q ≡ at.log.entries) at.proc (log_of_at run l at.log rising at.stands)

@@ -1,5 +1,5 @@
 -- The logs of a configuration as parts of its traffic: its members, how they end, and what follows it.
-use Rattle.totem_judge.proofs.Common.{◌≡◌, ◌⊎◌, inl, inr, ℕ, ◌+◌, ◌<◌, List, length, slice_get, Some, refl, sym, ◌∙◌, ap, subst, arith, Contains, slice_get_within, slice_get-get_or, ConfId, Regular, Entry, Conf, Send, Deliver, Fail, Log, IsLog, IsFailure, EndsInFail, ChangesTo, ChangesWith, IsMember, IsQuiet, log_of, ending_of, IsNextChange, Follows, NeverFails, FailedIn, StaysIn, OpenIn, MeetsPasses, Numbering, Rising, Traffic, IsLogAt, AreLogsOf, AreMembers, IsFollowingAs, HasFollowing, all_at, has_log, same_change, change_within, one_next, HasSuch, IsAny, IsExcusedIn, IsOpenAt, AreMemberLogs, TurnsToConf, LeavesFrom, HasFollowingOf}
+use Rattle.totem_judge.proofs.Common.{◌≡◌, ◌⊎◌, inl, inr, ℕ, ◌+◌, ◌<◌, List, length, slice_get, Some, refl, sym, ◌∙◌, ap, subst, arith, Contains, slice_get_within, slice_get-get_or, ConfId, Regular, Entry, Conf, Fail, Log, IsLog, IsFailure, EndsInFail, ChangesTo, ChangesWith, IsMember, log_of, ending_of, IsNextChange, Follows, NeverFails, FailedIn, StaysIn, OpenIn, MeetsPasses, Numbering, Rising, Traffic, IsLogAt, AreLogsOf, AreMembers, IsFollowingAs, HasFollowing, all_at, has_log, one_at, same_change, change_within, one_next, HasSuch, IsAny, IsExcusedIn, IsOpenAt, AreMemberLogs, TurnsToConf, LeavesFrom, HasFollowingOf}
 use Rattle.totem_evs.specs.declared.ending.Ending.TheVariants.{Failed, Quiet}
 use Rattle.totem_evs.specs.Agreement.{Goes}
 use Rattle.totem_judge_traffic.specs.declared.traffic.MemberLogs.{MemberLogs}
@@ -7,7 +7,7 @@ use Rattle.totem_judge_traffic.specs.LogSets.{Has}
 use Rattle.totem_judge_traffic.proofs.Together.{one_following, follows_too}
 use Rattle.totem_judge.specs.declared.gathered.Gathered.{Gathered}
 use Rattle.totem_judge.specs.declared.gathered.Stay.{Stay}
-use Rattle.totem_judge.proofs.Numbers.{below_or_not, one_at, entries_of}
+use Rattle.totem_judge.proofs.Numbers.{below_or_not, entries_of}
 use Rattle.totem_judge.proofs.Listed.{Verified, StayOf, such_stay_of, come, stay_around}
 use Rattle.totem_judge_run.proofs.LogEnds.{ending_of_at}
 
@@ -53,9 +53,6 @@ module _ {run : List Log} {lines : List Numbering} {g : Gathered} {traffic : Tra
   stays_or_fails p (inl failed) = inl failed
   stays_or_fails p (inr (loud, stays)) = inr stays
 
-  quiet_here : (l p : ℕ) (log : IsLogAt run l p) → log.log.ending ≡ Quiet → IsQuiet run p
-  quiet_here l p log quiet = ending_at run l p is_run.rising log ∙ quiet
-
   -- a log with a failure ends as failed: the failure is its last entry
   failed_with : (l p i : ℕ) (x : ConfId) (log : IsLogAt run l p) → slice_get (log_of run p) i ≡ Some (Fail x) → log.log.ending ≡ Failed
   failed_with l p i x log fails = (all_at IsLog run l log.log is_run.each log.stands).ending.1 (i, Fail x, rw entries at last, rw entries at fails, tt)
@@ -81,7 +78,7 @@ module _ {run : List Log} {lines : List Numbering} {g : Gathered} {traffic : Tra
 
   -- a quiet log neither fails nor is open
   loud : (l p : ℕ) (log : IsLogAt run l p) → FailedIn (log_of run p) g.ring ⊎ OpenIn run p g.ring → log.log.ending ≡ Quiet → ⊥
-  loud l p log (inr (not_quiet, stays)) quiet = not_quiet (quiet_here l p log quiet)
+  loud l p log (inr (not_quiet, stays)) quiet = not_quiet (ending_at run l p is_run.rising log ∙ quiet)
   loud l p log (inl (i, d, fails, belongs)) quiet = (let failed = failed_with l p i d log fails in cc)
 
   excused : (l p : ℕ) (log : IsLogAt run l p) (h : FailedIn (log_of run p) g.ring ⊎ OpenIn run p g.ring) → (s : StayOf v l p) → IsExcusedIn run s.stay

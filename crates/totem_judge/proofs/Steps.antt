@@ -1,5 +1,5 @@
 -- Steps of the loops over stays, logs and members.
-use Rattle.totem_judge.proofs.Common.{◌≡◌, ◌≢◌, ◌⊎◌, inl, inr, ℕ, zero, suc, ◌+◌, ◌<◌, ◌≤◌, List, [], ◌∷◌, ◌++◌, length, length-set, replicate, slice_get, slice_set, Some, refl, sym, ◌∙◌, ap, subst, arith, append-nil, ◌↔◌, slice_index, Contains, slice_get_within, RingId, ConfId, Log, Pending, Traffic, IsLogAt, IsTrafficOf, AddsPending, before_or_at, one_at, HasSuch, Selects, IsLogOfMember, AreLogsOfMembers, TurnsTo, IsFollowing, HasFollowingOf, HasFollowings, IsCoveredTo, AreCoveredTo, AreCovered, IsPendingTo, AddsAll, MsgId, Entry, Deliver, Got, Sent, IsBy, EachBelow, AreSkipped, AreUnsent, IsOriginAt, AreSentIn, IsDeliveryOf, IsListed, AreAsListed}
+use Rattle.totem_judge.proofs.Common.{◌≡◌, ◌≢◌, ◌⊎◌, inl, inr, ℕ, zero, suc, ◌+◌, ◌<◌, ◌≤◌, List, [], ◌∷◌, ◌++◌, length, length-set, replicate, slice_get, slice_set, Some, refl, sym, ◌∙◌, ap, subst, arith, append-nil, ◌↔◌, slice_index, Contains, slice_get_within, RingId, ConfId, Log, Pending, Traffic, IsLogAt, IsTrafficOf, AddsPending, before_or_at, one_at, stands_last, HasSuch, Selects, IsLogOfMember, AreLogsOfMembers, TurnsTo, IsFollowing, HasFollowingOf, HasFollowings, IsCoveredTo, AreCoveredTo, AreCovered, IsPendingTo, AddsAll, MsgId, Entry, Deliver, Got, Sent, IsBy, EachBelow, AreSkipped, AreUnsent, IsOriginAt, AreSentIn, IsDeliveryOf, IsListed, AreAsListed}
 use Rattle.std.proofs.lemmas.Grind.{get_or-set_at}
 use Rattle.std.proofs.lemmas.List.{get_or-replicate, get_or-set_other, length-replicate}
 use Rattle.totem_judge_traffic.specs.declared.log_set.LogSet.{LogSet}
@@ -107,17 +107,6 @@ append_get [] ys i x at = absurd cc
 append_get (z ∷ xs) ys zero x at = at
 append_get (z ∷ xs) ys (suc i) x at = append_get xs ys i x at
 
-pub at_end : {X : Type 0} (xs : List X) (x : X) → slice_get (xs ++ x ∷ []) (length xs) ≡ Some x
-at_end [] x = refl
-at_end (z ∷ xs) x = at_end xs x
-
--- an element of a list with one more was in the list before, or is that one
-pub push_cases : {X : Type 0} (xs : List X) (x : X) (k : ℕ) (y : X) → slice_get (xs ++ x ∷ []) k ≡ Some y → (slice_get xs k ≡ Some y) ⊎ ((k ≡ length xs) × (x ≡ y))
-push_cases [] x zero y at = inr (refl, cc)
-push_cases [] x (suc k) y at = absurd cc
-push_cases (z ∷ xs) x zero y at = inl at
-push_cases (z ∷ xs) x (suc k) y at = elim (push_cases xs x k y at) [ inl before ↦ inl before | inr (last, same) ↦ inr (ap suc last, same) ]
-
 pub following_kept : (run : List Log) (stays : List Stay) (list more : List Following) (log : ℕ) → HasFollowingOf run stays list log → HasFollowingOf run stays (list ++ more) log
 following_kept run stays list more log h = record {
   at = h.at;
@@ -154,7 +143,7 @@ module _ (run : List Log) (stays : List Stay) (n : ℕ) (stay : Stay) (at : slic
   module _ (conf : ConfId) (members : List ℕ) (following : Following) (turns : TurnsTo run stay conf members) (is : IsFollowing run stays (length stays) conf members following) where
     -- what follows in this log is the new one
     newest : (log : ℕ) → Has following.logs log → HasFollowingOf run stays (list ++ following ∷ []) log
-    newest log has = record { at = length list; following = following; stands = at_end list following; conf = conf; members = members; stay = stay; turns = turns; is = is; has = has }
+    newest log has = record { at = length list; following = following; stands = stands_last list following; conf = conf; members = members; stay = stay; turns = turns; is = is; has = has }
 
     pub followings_pushed : HasFollowings run stays n list → HasFollowings run stays (n + 1) (list ++ following ∷ [])
     followings_pushed so_far = followings_more (following ∷ []) (λ x ms other. newest stay.log ((is.logs.exact stay.log).1 (record { at = n; stay = stay; before = slice_get_within stays n stay at; stands = at; of = refl; such = (members, turns) }))) so_far

@@ -1,12 +1,12 @@
 -- The lists of a configuration as parts of its traffic: what was sent, what is delivered, by which logs, and the order.
-use Rattle.totem_judge.proofs.Common.{◌≡◌, inl, inr, ℕ, ◌<◌, ◌≤◌, List, slice_get, Some, true, refl, sym, ◌∙◌, ap, subst, arith, ◌↔◌, IsTrue, slice_get_within, Regular, MsgId, Send, Deliver, Log, Sends, Delivers, IsSafe, log_of, DeliversIn, HasDelivered, Numbering, Sent, Got, Traffic, IsBy, has_log, is_safe, ComesBefore, IsThere, IsOriginAt, IsGotAt}
+use Rattle.totem_judge.proofs.Common.{◌≡◌, inl, inr, ℕ, ◌<◌, ◌≤◌, List, slice_get, Some, true, refl, sym, ◌∙◌, ap, subst, arith, ◌↔◌, IsTrue, slice_get_within, Regular, MsgId, Send, Deliver, Log, Sends, Delivers, IsSafe, log_of, DeliversIn, HasDelivered, Numbering, Sent, Got, Traffic, IsBy, has_log, one_at, is_safe, ComesBefore, IsThere, IsOriginAt, IsGotAt}
 use Rattle.totem_names.specs.declared.message.Service.{Service}
 use Rattle.totem_names.specs.declared.message.Service.TheVariants as services
 use Rattle.totem_judge_traffic.specs.LogSets.{Has}
 use Rattle.totem_judge_traffic.specs.Traffics.{IsLogAt, AreLogsOf, DeliversBehind, IsSentIn, IsOf, IsGotIn, HasSent, HasGot, SentInOrder, GotInOrder, HeardBefore, GotBehind}
 use Rattle.totem_judge.specs.declared.gathered.Origin.{Origin}
 use Rattle.totem_judge.specs.declared.gathered.Gathered.{Gathered}
-use Rattle.totem_judge.proofs.Numbers.{below_or_not, one_at, event_of, in_order, by_number}
+use Rattle.totem_judge.proofs.Numbers.{below_or_not, event_of, in_order, by_number}
 use Rattle.totem_judge.proofs.Listed.{Verified, Listed, SentAt, before_turn, behind_turn, follows_here, own_entry, stay_around, got_at, listed, found, sent_at, number_of_send, one_got, one_sent}
 
 module _ {run : List Log} {lines : List Numbering} {g : Gathered} {traffic : Traffic} (v : Verified run lines g traffic) where

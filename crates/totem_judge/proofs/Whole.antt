@@ -1,9 +1,9 @@
 -- All changes to regular configurations are gathered, each in one place.
-use Rattle.totem_judge.proofs.Common.{◌≡◌, inl, inr, ℕ, ◌<◌, ◌≤◌, List, length, slice_get, Some, refl, sym, subst, arith, slice_get_within, RingId, Regular, Entry, Conf, Log, IsRun, ChangesTo, log_of, Follows, Numbering, Certified, less_or_not, Traffic, IsLogAt, IsOrderly, same_change, change_within, IsEventAt, HasSuch, IsAny, AreCovered, AreRisingTo, IsReplayed, IsSeen}
+use Rattle.totem_judge.proofs.Common.{◌≡◌, inl, inr, ℕ, ◌<◌, ◌≤◌, List, length, slice_get, Some, refl, sym, subst, arith, slice_get_within, RingId, Regular, Entry, Conf, Log, IsRun, ChangesTo, log_of, Follows, Numbering, Certified, less_or_not, Traffic, IsLogAt, IsOrderly, same_change, change_within, one_at, IsEventAt, HasSuch, IsAny, AreCovered, AreRisingTo, IsReplayed, IsSeen}
 use Rattle.totem_judge_run.specs.Stays.{IsStay}
 use Rattle.totem_judge.specs.declared.gathered.Gathered.{Gathered}
 use Rattle.totem_judge.specs.declared.gathered.Stay.{Stay}
-use Rattle.totem_judge.proofs.Numbers.{one_at, entries_of, one_change_number}
+use Rattle.totem_judge.proofs.Numbers.{entries_of, one_change_number}
 use Rattle.totem_judge.proofs.Listed.{stay_in, Verified}
 
 -- a change to a regular configuration in a stay is that with which the stay begins

@@ -177,20 +177,6 @@ fn index_of(at: usize) -> u32 {
 }
 
 impl Spots {
-    fn new(alloc: Global) -> Spots {
-        Spots {
-            numbered: Vec::new(alloc),
-            others: BTreeMap::new(alloc),
-        }
-    }
-
-    /// Enters the next configuration, in which about this many messages are sent.
-    fn begin(&mut self, alloc: Global, messages: usize) -> Result<(), AllocError> {
-        self.numbered
-            .push(Vec::with_capacity(alloc, messages.saturating_add(1))?)?;
-        Ok(())
-    }
-
     /// Enters a message that was sent, in the configuration of this ring.
     fn insert(&mut self, message: MsgId, ring: RingId, spot: Spot) -> Result<(), AllocError> {
         let number = message.number as usize;
@@ -237,7 +223,10 @@ impl Gatherer {
         };
         Ok(Gatherer {
             list: Vec::new(alloc),
-            spots: Spots::new(alloc),
+            spots: Spots {
+                numbered: Vec::new(alloc),
+                others: BTreeMap::new(alloc),
+            },
             standing: vec![in alloc; nowhere; 32]?,
             behind: LogSet::none(),
         })
@@ -298,7 +287,9 @@ impl Gatherer {
             }
         }
         self.behind = self.behind.minus(next.logs);
-        self.spots.begin(alloc, messages)?;
+        self.spots
+            .numbered
+            .push(Vec::with_capacity(alloc, messages.saturating_add(1))?)?;
         self.list.push(gathered)?;
         Ok(())
     }
@@ -330,14 +321,11 @@ impl Gatherer {
         gathered.origins.push(Origin { service, got: None })?;
         gathered.sent_numbers.push(next.number)?;
         let ring = gathered.ring;
-        self.spots.insert(
-            message,
-            ring,
-            Spot {
-                configuration,
-                index,
-            },
-        )
+        let spot = Spot {
+            configuration,
+            index,
+        };
+        self.spots.insert(message, ring, spot)
     }
 
     fn deliver(&mut self, message: MsgId, next: &Next) -> Result<(), AllocError> {
@@ -366,22 +354,19 @@ impl Gatherer {
         let Some(cursor) = walk.cursors.get(next.log as usize) else {
             return Ok(());
         };
-        let Some(entry) = cursor.entries.get(next.at) else {
-            return Ok(());
-        };
-        match entry {
-            Entry::Conf(ConfId::Regular(ring), _) => {
+        match cursor.entries.get(next.at) {
+            Some(Entry::Conf(ConfId::Regular(ring), _)) => {
                 let messages = messages_from(cursor, next);
                 self.change(alloc, *ring, messages, next, walk)
             }
-            Entry::Conf(ConfId::Transitional { .. }, _) => {
+            Some(Entry::Conf(ConfId::Transitional { .. }, _)) => {
                 self.move_all(next.number, walk);
                 self.behind = self.behind.union(next.logs);
                 Ok(())
             }
-            Entry::Send(message, _, service) => self.send(*message, *service, next),
-            Entry::Deliver(message, _) => self.deliver(*message, next),
-            Entry::Fail(_) => Ok(()),
+            Some(Entry::Send(message, _, service)) => self.send(*message, *service, next),
+            Some(Entry::Deliver(message, _)) => self.deliver(*message, next),
+            Some(Entry::Fail(_)) | None => Ok(()),
         }
     }
 }

@@ -1,7 +1,8 @@
 use Rattle.totem_judge.proofs.Common.{◌≡◌, ◌∷◌, [], List, length, refl, sym, ap, subst, ◌∙◌, append_assoc, append-nil, arith, AreObserved}
 use Rattle.std.specs.Vec.Iter.{into_iter_items}
+use Rattle.std.proofs.lemmas.List.{nil_from_length}
 use Rattle.totem_judge.specs.declared.gathered.Gathered.{Gathered}
-use Rattle.totem_judge.proofs.OneByOne.{observed_none, observed_more, nothing_left}
+use Rattle.totem_judge.proofs.OneByOne.{observed_none, observed_more}
 use Rattle.totem_judge.proofs.judging.observe_all.Goals as goal
 
 pub loop-gathered-init : goal.loop-gathered-init
@@ -26,6 +27,6 @@ pub returns : goal.returns
 returns c =
     let at = c.loop-gathered in
     let none = c.in-None.ensures.steps in
-    let empty : into_iter_items at.gathered-iterator ≡ [] = nothing_left _ (sym at.invariant.2 ∙ none.0) in
+    let empty : into_iter_items at.gathered-iterator ≡ [] = nil_from_length _ (sym at.invariant.2 ∙ none.0) in
     let all = sym (append-nil at.yielded) ∙ rw empty at at.invariant.0 ∙ c.into_iter-gathered-iterator.ensures.into_iter_gives.0 in
     subst (λ (l : List Gathered). AreObserved c.args.logs.now c.args.lines.now l at.observed.items at.pending.items) all at.invariant.1
