@@ -1,5 +1,5 @@
 -- The steps of a process of a script.
-use Rattle.totem_script.proofs.Common.{◌≡◌, ◌≢◌, ℕ, zero, suc, ◌<◌, ◌≤◌, ◌+◌, List, [], ◌∷◌, ◌++◌, length, Bool, true, false, cond, Some, Ok, Err, nat_lt, refl, ap, ◌∙◌, arith, slice_get, nat_tests, RingName, Entry, Standing, Failed, Quiet, LogRecord, IsFailure, EndsInFail, IsClosedBy, Sending, Input, Node, new_node, IsRefused, first_change}
+use Rattle.totem_script.proofs.Common.{◌≡◌, ◌≢◌, ℕ, zero, suc, ◌<◌, ◌≤◌, ◌+◌, List, [], ◌∷◌, ◌++◌, length, true, false, cond, cond_both, Some, Ok, Err, nat_lt, refl, ap, ◌∙◌, arith, slice_get, nat_tests, RingName, Entry, Standing, Failed, Quiet, LogRecord, IsFailure, EndsInFail, IsClosedBy, Sending, Input, Node, new_node, IsRefused, first_change}
 use Rattle.totem_evs.specs.declared.entry.Entry.TheVariants.{Conf, Send, Deliver, Fail}
 use Rattle.totem_evs.specs.declared.ending.Ending.{Ending}
 use Rattle.totem_core.specs.declared.fault.NodeFault.{NodeFault}
@@ -37,22 +37,16 @@ module _ (a : Actor) (i : Input) (n : Node) where
         let test : nat_lt 1000000 (length a.entries + length entries) ≡ false = grind (arith, nat_tests) in
         ap (after_step a) done ∙ rw (test, is)
 
-failure_seen : (e : Entry) → IsFailure e → is_failure e ≡ true
-failure_seen (Conf x members) h = absurd h
-failure_seen (Send m x service) h = absurd h
-failure_seen (Deliver m x) h = absurd h
-failure_seen (Fail x) h = refl
-
-failure_is : (e : Entry) → is_failure e ≡ true → IsFailure e
-failure_is (Conf x members) h = absurd (cc)
-failure_is (Send m x service) h = absurd (cc)
-failure_is (Deliver m x) h = absurd (cc)
-failure_is (Fail x) h = tt
+failing : (e : Entry) → (IsFailure e → is_failure e ≡ true) × (is_failure e ≡ true → IsFailure e)
+failing (Conf x members) = (λ h. absurd h, λ h. absurd cc)
+failing (Send m x service) = (λ h. absurd h, λ h. absurd cc)
+failing (Deliver m x) = (λ h. absurd h, λ h. absurd cc)
+failing (Fail x) = (λ h. refl, λ h. tt)
 
 end_seen : (entries : List Entry) (i : ℕ) (last : Entry) → length entries ≡ i + 1 → slice_get entries i ≡ Some last → IsFailure last → ends_in_failure entries ≡ true
 unfolding ends_in_failure
 end_seen [] i last many at h = absurd (omega arith)
-end_seen (e ∷ []) zero last many at h = let same : e ≡ last = cc in rw same (failure_seen last h)
+end_seen (e ∷ []) zero last many at h = let same : e ≡ last = cc in rw same ((failing last).0 h)
 end_seen (e ∷ []) (suc i) last many at h = absurd (omega arith)
 end_seen (e ∷ f ∷ entries) zero last many at h = absurd (omega arith)
 end_seen (e ∷ f ∷ entries) (suc i) last many at h = end_seen (f ∷ entries) i last (omega arith) at h
@@ -60,7 +54,7 @@ end_seen (e ∷ f ∷ entries) (suc i) last many at h = end_seen (f ∷ entries)
 end_is : (entries : List Entry) → ends_in_failure entries ≡ true → EndsInFail entries
 unfolding ends_in_failure
 end_is [] h = absurd (cc)
-end_is (e ∷ []) h = (0, e, refl, refl, failure_is e h)
+end_is (e ∷ []) h = (0, e, refl, refl, (failing e).1 h)
 end_is (e ∷ f ∷ entries) h =
     let rest : EndsInFail (f ∷ entries) = end_is (f ∷ entries) h in
     let more : length (e ∷ f ∷ entries) ≡ suc rest.0 + 1 = let many = rest.2 in omega arith in
@@ -76,26 +70,16 @@ by_ending entries Failed closed loud stands =
 
 -- what is closed so ends so
 pub closes : (entries : List Entry) (ending : Ending) → IsClosedBy entries ending → ending ≢ Quiet → ending ≡ cond (ends_in_failure entries) Failed Standing
-closes entries ending closed loud = by_end (ends_in_failure entries) refl
-  where
-    by_end : (b : Bool) → ends_in_failure entries ≡ b → ending ≡ cond b Failed Standing
-    by_end true is = closed.1 (end_is entries is)
-    by_end false is = by_ending entries ending closed loud is
-
-told : (p q : ℕ) (before after : List Entry) (ending : Ending) → q ≡ p → after ≡ before → ending ≡ cond (ends_in_failure after) Failed Standing
-    → (let log : LogRecord = record { proc = q; entries = after; ending = ending } in log) ≡ (let whole : LogRecord = record { proc = p; entries = before; ending = cond (ends_in_failure before) Failed Standing } in whole)
-told p q before after ending proc is ends = rw (ends, is, proc)
+closes entries ending closed loud =
+    cond_both (ends_in_failure entries) Failed Standing (λ e. ending ≡ e) (λ is. closed.1 (end_is entries is)) (λ is. by_ending entries ending closed loud is)
 
 -- the log of a process's entries, which ends as its entries say and is not quiet
 pub recorded : (log : LogRecord) (p : ℕ) (given entries : List Entry) (ending : Ending) → log.proc ≡ p → log.entries ≡ given → given ≡ entries → log.ending ≡ ending
     → IsClosedBy given ending → ending ≢ Quiet → log ≡ (let whole : LogRecord = record { proc = p; entries = entries; ending = cond (ends_in_failure entries) Failed Standing } in whole)
 recorded log p given entries ending proc is same ends closed loud =
-    told p log.proc entries log.entries log.ending proc (is ∙ same) (ends ∙ rw is (closes given ending closed loud))
+    let seen : log.ending ≡ cond (ends_in_failure entries) Failed Standing = ends ∙ rw (← same) (closes given ending closed loud) in
+    rw (← seen, ← same, ← is, ← proc)
 
 -- the log is not quiet
 pub recorded_loud : (log : LogRecord) (p : ℕ) (entries : List Entry) → log ≡ log_with p entries → log.ending ≢ Quiet
-recorded_loud log p entries is = rw is (by_end (ends_in_failure entries))
-  where
-    by_end : (b : Bool) → cond b Failed Standing ≢ Quiet
-    by_end true = λ e. absurd cc
-    by_end false = λ e. absurd cc
+recorded_loud log p entries is = rw is (cond_both (ends_in_failure entries) Failed Standing (λ e. e ≢ Quiet) (λ t e. absurd cc) (λ t e. absurd cc))

@@ -6,7 +6,8 @@ pub use Rattle.totem_core.proofs.Common.{Sending, Node, Entry, list_all, Stepped
 pub use Rattle.totem_recover.proofs.Common.{first_ranks, first_rank}
 pub use Rattle.totem_ring.proofs.Common.{get_or_default}
 pub use Rattle.std.proofs.lemmas.List.{take_rest, length-drop}
-pub use Rattle.std.proofs.lemmas.List.Elements.{All-drop, All-from_get_or, All-take}
+pub use Rattle.std.proofs.lemmas.Bool.{cond_both}
+pub use Rattle.std.proofs.lemmas.List.Elements.{All-drop, All-from_get_or, All-map, All-take}
 pub use Rattle.std.proofs.lemmas.List.Sums.{sum_by-cons}
 pub use Rattle.std.specs.List.{concat, insert, onto_first, position, position_or_len, prefix_len}
 pub use Rattle.totem_packets.specs.declared.packet.Packet.{Packet}

@@ -1,6 +1,6 @@
 -- Where a text is cut.
-use Rattle.totem_script.proofs.Common.{◌≡◌, ◌≢◌, ℕ, ◌<◌, ◌+◌, ◌==◌, List, [], ◌∷◌, ◌++◌, length, get_or, take, drop, Bool, true, false, cond, Option, None, Some, IsTrue, is_some, not, All, refl, sym, ap, ◌∙◌, arith, take-append-drop, drop_more, get_or-take, length-take-le, eq-eqb, ne_eqb, All-from_get_or, onto_first}
-use Rattle.std.proofs.lemmas.List.Splits.{slice_split_none, slice_split_at}
+use Rattle.totem_script.proofs.Common.{◌≡◌, ◌≢◌, ℕ, ◌<◌, ◌+◌, ◌==◌, List, [], ◌∷◌, ◌++◌, length, get_or, take, drop, Bool, true, false, Option, None, Some, IsTrue, is_some, not, All, refl, sym, ap, ◌∙◌, arith, take-append-drop, drop_more, get_or-take, length-take-le, eq-eqb, ne_eqb, All-from_get_or}
+use Rattle.std.proofs.lemmas.List.Splits.{slice_split_none, slice_split_at, length-slice_split}
 use Rattle.std.specs.Borrow.{Bor}
 use Rattle.totem_script.specs.Parts.{parts, parts_left}
 
@@ -23,17 +23,8 @@ pub cut_nowhere : (at : ℕ) (xs : List ℕ) → ((k : ℕ) → k < length xs �
 cut_nowhere at xs lacks = slice_split_none (λ b. b == at) xs (lacking at xs 0 lacks)
 
 -- a text has a part
-onto_some : (b : ℕ) (ps : List (List ℕ)) → onto_first b ps ≢ []
-onto_some b [] is = cc
-onto_some b (p ∷ ps) is = cc
-
 some_part : (at : ℕ) (xs : List ℕ) → parts at xs ≢ []
-some_part at [] is = cc
-some_part at (x ∷ xs) is = by_byte (x == at) is
-  where
-    by_byte : (b : Bool) → cond b ([] ∷ parts at xs) (onto_first x (parts at xs)) ≢ []
-    by_byte true e = cc
-    by_byte false e = onto_some x (parts at xs) e
+some_part at xs is = let many = ap length is in omega (arith, many, length-slice_split (λ b. b == at) xs)
 
 -- the text before a cut and the text after it are the parts that were left
 pub goes_on : (at : ℕ) (rest : Option (Bor (List ℕ))) (text : Bor (List ℕ)) (whole : List (List ℕ)) (p : List ℕ) (ps : List (List ℕ))

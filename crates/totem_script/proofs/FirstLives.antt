@@ -1,5 +1,5 @@
 -- In a script of version 1 no life but the first is named.
-use Rattle.totem_script.proofs.Common.{◌≡◌, ℕ, zero, suc, ◌+◌, ◌-◌, ◌==◌, not, Bool, true, false, List, [], ◌∷◌, length, map, take, drop, Option, None, Some, Ok, Err, nat_lt, refl, ◌∙◌, arith, if◌then◌else◌, IfOk, IfSome, All, slice_get, codes, All-nil, All-cons, All-head, All-tail, All-append, All-push, All-take, All-drop, RingName, id_of, life_of, Packet, RunRecord, AreFirst, HasFirstLives, Sending, first_rank, first_ranks, Input, Stepped, Outcome, first_change, ◌>>=◌, Judged, by_line, process_in, ring_in, only, FitVersion, version_of, run_of}
+use Rattle.totem_script.proofs.Common.{◌≡◌, ◌≢◌, ℕ, zero, suc, ◌+◌, ◌-◌, ◌==◌, not, Bool, true, false, List, [], ◌∷◌, length, take, drop, Option, None, Some, Result, Ok, Err, nat_lt, refl, sym, ◌∙◌, arith, if◌then◌else◌, IfOk, IfSome, All, slice_get, codes, All-nil, All-cons, All-head, All-tail, All-append, All-push, All-take, All-drop, All-map, cond_both, RingName, id_of, life_of, Packet, RunRecord, AreFirst, HasFirstLives, Sending, first_rank, first_ranks, Input, Stepped, Outcome, first_change, ◌>>=◌, Judged, by_line, process_in, ring_in, only, FitVersion, version_of, run_of}
 use Rattle.std.specs.Str.{bytes_eq}
 use Rattle.totem_names.specs.declared.message.Service.{Service}
 use Rattle.totem_ring.specs.declared.outcome.To.{To}
@@ -34,11 +34,6 @@ pub record IsFirstActor (a : Actor) : Type 0 where
 
 abbrev pub IsFirstOnItsWay : ℕ × Packet → Type 0
 IsFirstOnItsWay e = IsFirstPacket e.1
-
-pub record IsFirstScene (s : Scene) : Type 0 where
-  pub version : s.version ≡ script.One
-  pub actors : All IsFirstActor s.actors
-  pub queue : All IsFirstOnItsWay s.queue
 
 -- ---- a process
 
@@ -94,11 +89,8 @@ with_first : (actors : List Actor) (a : Actor) → All IsFirstActor actors → I
 unfolding with_actor
 with_first [] a all is = All-cons IsFirstActor a [] is all
 with_first (b ∷ actors) a all is =
-    by_place (nat_lt (id_of a.proc) (id_of b.proc)) (with_first actors a (All-tail IsFirstActor b actors all) is)
-  where
-    by_place : (before : Bool) → All IsFirstActor (with_actor actors a) → All IsFirstActor (if before then a ∷ b ∷ actors else b ∷ with_actor actors a)
-    by_place true later = All-cons IsFirstActor a (b ∷ actors) is all
-    by_place false later = All-cons IsFirstActor b (with_actor actors a) (All-head IsFirstActor b actors all) later
+    cond_both (nat_lt (id_of a.proc) (id_of b.proc)) _ _ (All IsFirstActor) (λ before. All-cons IsFirstActor a (b ∷ actors) is all)
+    (λ after. All-cons IsFirstActor b (with_actor actors a) (All-head IsFirstActor b actors all) (with_first actors a (All-tail IsFirstActor b actors all) is))
 
 nodes_first : (ring : RingName) (members procs : List ℕ) (actors : List Actor) → AreFirst members → AreFirst procs → All IsFirstActor actors
     → All IsFirstActor (with_nodes ring members procs actors)
@@ -109,8 +101,7 @@ nodes_first ring members (p ∷ procs) actors first firsts all =
     (with_first actors (new_actor p ring members) all (new_first p ring members (All-head (λ p. life_of p ≡ 1) p procs firsts) first))
 
 ranks_first : (ids : List ℕ) → AreFirst (first_ranks ids)
-ranks_first [] = All-nil (λ p. life_of p ≡ 1)
-ranks_first (id ∷ ids) = All-cons (λ p. life_of p ≡ 1) (first_rank id) (first_ranks ids) (omega arith) (ranks_first ids)
+ranks_first ids = All-map (λ p. life_of p ≡ 1) first_rank ids (λ k d inside. omega arith)
 
 ring_first : (actors : List Actor) (ring : RingName) (members : List ℕ) → All IsFirstActor actors → IfOk (with_ring actors ring members) (All IsFirstActor)
 ring_first actors ring members all =
@@ -121,19 +112,12 @@ ring_first actors ring members all =
 
 -- ---- packets on their way
 
-to_each : (packet : Packet) (actors : List Actor) → IsFirstPacket packet → All IsFirstOnItsWay (map (λ (a : Actor). (id_of a.proc, packet)) actors)
-to_each packet [] is = All-nil IsFirstOnItsWay
-to_each packet (a ∷ actors) is = All-cons IsFirstOnItsWay (id_of a.proc, packet) _ is (to_each packet actors is)
-
 sent_first : (cut : Option (List (List ℕ))) (actors : List Actor) (from : ℕ) (packet : Packet) (to : To) → IsFirstPacket packet
     → All IsFirstOnItsWay (posted_to cut actors from packet to)
 unfolding to_others
-sent_first cut actors from packet ToAll is = to_each packet _ is
-sent_first cut actors from packet (ToOne q) is = by_cut (may_pass cut from q)
-  where
-    by_cut : (passes : Bool) → All IsFirstOnItsWay (if passes then (q, packet) ∷ [] else [])
-    by_cut true = All-cons IsFirstOnItsWay (q, packet) [] is (All-nil IsFirstOnItsWay)
-    by_cut false = All-nil IsFirstOnItsWay
+sent_first cut actors from packet ToAll is = All-map IsFirstOnItsWay (λ (a : Actor). (id_of a.proc, packet)) _ (λ k d inside. is)
+sent_first cut actors from packet (ToOne q) is =
+    cond_both (may_pass cut from q) _ _ (All IsFirstOnItsWay) (λ passes. All-cons IsFirstOnItsWay (q, packet) [] is (All-nil IsFirstOnItsWay)) (λ stops. All-nil IsFirstOnItsWay)
 
 posted_first : (cut : Option (List (List ℕ))) (actors : List Actor) (from : ℕ) (sendings : List Sending) → All IsFirstSending sendings
     → All IsFirstOnItsWay (posted_all cut actors from sendings)
@@ -147,88 +131,11 @@ posted_first cut actors from (sending ∷ sendings) all =
 token_first : (queue : Queue) (ring : RingName) → All IsFirstOnItsWay queue → All IsFirstOnItsWay (with_first_token queue ring)
 token_first queue ring all = All-push IsFirstOnItsWay queue _ all tt
 
--- ---- commands
-
-step_first : (s : Scene) (p : ℕ) (i : Input) → IsFirstScene s → IsFirstInput i → IfOk (scene_step s p i) IsFirstScene
-unfolding scene_step
-step_first s p i is first =
-    then_holds IsFirstCastStep IsFirstScene (cast_step s.actors p i) _ (cast_first s.actors p i is.actors first)
-    (λ done now. record {
-      version = is.version;
-      actors = now.actors;
-      queue = All-append IsFirstOnItsWay s.queue _ is.queue (posted_first s.cut done.actors p done.packets now.packets);
-    })
-
-named_first : (s : Scene) (p : ℕ) (i : Input) → IsFirstScene s → IsFirstInput i → IfOk (named_step s p i) IsFirstScene
-named_first s p i is first = if_holds IsFirstScene (is_known s.actors p) _ _ (step_first s p i is first) tt
-
-one_first : (s : Scene) (queue : Queue) → IsFirstScene s → All IsFirstOnItsWay queue → IfOk (run_one s queue) IsFirstScene
-one_first s [] is all = is
-one_first s (e ∷ queue) is all =
-    step_first (record s { queue = queue }) e.0 (input.Packet e.1)
-    (record { version = is.version; actors = is.actors; queue = All-tail IsFirstOnItsWay e queue all })
-    (All-head IsFirstOnItsWay e queue all)
-
-run_first : (times : ℕ) (s : Scene) → IsFirstScene s → IfOk (run_times times s) IsFirstScene
-unfolding run_times
-run_first zero s is = is
-run_first (suc times) s is =
-    then_holds IsFirstScene IsFirstScene (run_one s s.queue) (run_times times) (one_first s s.queue is is.queue) (λ next now. run_first times next now)
-
-found_first : (queue : Queue) (place : ℕ) → All IsFirstOnItsWay queue → IfSome (slice_get queue place) IsFirstOnItsWay
-found_first [] place all = tt
-found_first (e ∷ queue) zero all = All-head IsFirstOnItsWay e queue all
-found_first (e ∷ queue) (suc place) all = found_first queue place (All-tail IsFirstOnItsWay e queue all)
-
-more_first : (s : Scene) (e : Option (ℕ × Packet)) → IsFirstScene s → IfSome e IsFirstOnItsWay → IfOk (once_more s e) IsFirstScene
-more_first s None is first = tt
-more_first s (Some e) is first = record { version = is.version; actors = is.actors; queue = All-push IsFirstOnItsWay s.queue e is.queue first }
+-- ---- no line of version 1 says `return`
 
 -- a command other than `return`
 abbrev pub BringsNobodyBack : Command → Type 0
-BringsNobodyBack (command.Ring ring members) = Unit {0}
-BringsNobodyBack (command.Submit p service payload) = Unit {0}
-BringsNobodyBack (command.Run times) = Unit {0}
-BringsNobodyBack (command.Drop place) = Unit {0}
-BringsNobodyBack (command.Repeat place) = Unit {0}
-BringsNobodyBack (command.Cut groups) = Unit {0}
-BringsNobodyBack command.Join = Unit {0}
-BringsNobodyBack (command.Timer p) = Unit {0}
-BringsNobodyBack (command.Crash p) = Unit {0}
-BringsNobodyBack (command.Return p) = ⊥
-BringsNobodyBack command.End = Unit {0}
-
-effect_first : (s : Scene) (c : Command) → IsFirstScene s → BringsNobodyBack c → IfOk (effect s c) IsFirstScene
-effect_first s (command.Ring ring members) is kind =
-    then_holds (All IsFirstActor) IsFirstScene (with_ring s.actors ring members) _ (ring_first s.actors ring members is.actors)
-    (λ actors all. record { version = is.version; actors = all; queue = token_first s.queue ring is.queue })
-effect_first s (command.Submit p service payload) is kind = named_first s p (input.Submit service payload) is tt
-effect_first s (command.Run times) is kind = run_first times s is
-effect_first s (command.Drop place) is kind =
-    if_holds IsFirstScene (nat_lt (place - 1) (length s.queue)) _ _
-    (record {
-      version = is.version;
-      actors = is.actors;
-      queue = All-append IsFirstOnItsWay (take (place - 1) s.queue) (drop (suc (place - 1)) s.queue)
-          (All-take IsFirstOnItsWay (place - 1) s.queue is.queue) (All-drop IsFirstOnItsWay (suc (place - 1)) s.queue is.queue);
-    })
-    tt
-effect_first s (command.Repeat place) is kind = more_first s (slice_get s.queue (place - 1)) is (found_first s.queue (place - 1) is.queue)
-effect_first s (command.Cut groups) is kind =
-    if_holds IsFirstScene (is_partition s.actors groups) _ _ (record { version = is.version; actors = is.actors; queue = is.queue }) tt
-effect_first s command.Join is kind = record { version = is.version; actors = is.actors; queue = is.queue }
-effect_first s (command.Timer p) is kind = named_first s p input.Timer is tt
-effect_first s (command.Crash p) is kind = named_first s p input.Crash is tt
-effect_first s (command.Return p) is kind = absurd kind
-effect_first s command.End is kind = is
-
-carried_first : (s : Scene) (c : Command) → IsFirstScene s → BringsNobodyBack c → IfOk (carried_out s c) IsFirstScene
-carried_first s c is kind =
-    if_holds IsFirstScene (is_in_order s c) _ _
-    (effect_first (record s { under_way = not (makes_ring c) }) c (record { version = is.version; actors = is.actors; queue = is.queue }) kind)
-    tt
-
--- ---- no line of version 1 says `return`
+BringsNobodyBack c = (p : ℕ) → c ≢ command.Return p
 
 then_parsed : {A B : Type 0} (Q : B → Type 0) (v : Parsed A) (f : A → Parsed B) → ((x : A) → IfOk (f x) Q) → IfOk (v >>= f) Q
 then_parsed Q v f each = then_holds Anything Q v f (anyway v) (λ x any. each x)
@@ -245,11 +152,11 @@ names make ws kind = then_parsed BringsNobodyBack (process_words ws) _ kind
 
 rings : (ws : List (List ℕ)) → IfOk (ring_words ws) BringsNobodyBack
 rings [] = tt
-rings (w ∷ ws) = then_parsed BringsNobodyBack (ring_in w) _ (λ ring. then_parsed BringsNobodyBack (some_processes ws) _ (λ members. tt))
+rings (w ∷ ws) = then_parsed BringsNobodyBack (ring_in w) _ (λ ring. then_parsed BringsNobodyBack (some_processes ws) _ (λ members p e. cc))
 
 payloads : (p : ℕ) (service : Service) (ws : List (List ℕ)) → IfOk (payload_words p service ws) BringsNobodyBack
 payloads p service [] = tt
-payloads p service (w ∷ ws) = then_parsed BringsNobodyBack (payload_in w) _ (λ payload. only_this (command.Submit p service payload) ws tt)
+payloads p service (w ∷ ws) = then_parsed BringsNobodyBack (payload_in w) _ (λ payload. only_this (command.Submit p service payload) ws (λ q e. cc))
 
 services : (p : ℕ) (ws : List (List ℕ)) → IfOk (service_words p ws) BringsNobodyBack
 services p [] = tt
@@ -263,27 +170,23 @@ submits (w ∷ ws) = then_parsed BringsNobodyBack (process_in w) _ (λ p. servic
 abbrev pub IsOther : Keyword → Type 0
 IsOther k = (ws : List (List ℕ)) → IfOk (command_by k ws) BringsNobodyBack
 
-if_other : (b : Bool) (k : Keyword) (o : Option Keyword) → IsOther k → IfSome o IsOther → IfSome (if b then Some k else o) IsOther
-if_other true k o one others = one
-if_other false k o one others = others
-
-unless_return : (b : Bool) (o : Option Keyword) → IfSome o IsOther → IfSome (if b then None else o) IsOther
-unless_return true o others = tt
-unless_return false o others = others
+if_keyword : (b : Bool) (o other : Option Keyword) → IfSome o IsOther → IfSome other IsOther → IfSome (if b then o else other) IsOther
+if_keyword true o other one others = one
+if_keyword false o other one others = others
 
 other_keyword : (w : List ℕ) → IfSome (keyword_of script.One w) IsOther
 other_keyword w =
-    if_other (bytes_eq w (codes "ring")) _ _ rings
-    (if_other (bytes_eq w (codes "submit")) _ _ submits
-    (if_other (bytes_eq w (codes "run")) _ _ (λ ws. counts command.Run ws (λ n. tt))
-    (if_other (bytes_eq w (codes "drop")) _ _ (λ ws. counts command.Drop ws (λ n. tt))
-    (if_other (bytes_eq w (codes "repeat")) _ _ (λ ws. counts command.Repeat ws (λ n. tt))
-    (if_other (bytes_eq w (codes "cut")) _ _ (λ ws. then_parsed BringsNobodyBack (groups_from [] [] ws) _ (λ groups. tt))
-    (if_other (bytes_eq w (codes "join")) _ _ (λ ws. only_this command.Join ws tt)
-    (if_other (bytes_eq w (codes "timer")) _ _ (λ ws. names command.Timer ws (λ p. tt))
-    (if_other (bytes_eq w (codes "crash")) _ _ (λ ws. names command.Crash ws (λ p. tt))
-    (unless_return (bytes_eq w (codes "return")) _
-    (if_other (bytes_eq w (codes "end")) _ None (λ ws. only_this command.End ws tt) tt))))))))))
+    if_keyword (bytes_eq w (codes "ring")) _ _ rings
+    (if_keyword (bytes_eq w (codes "submit")) _ _ submits
+    (if_keyword (bytes_eq w (codes "run")) _ _ (λ ws. counts command.Run ws (λ n p e. cc))
+    (if_keyword (bytes_eq w (codes "drop")) _ _ (λ ws. counts command.Drop ws (λ n p e. cc))
+    (if_keyword (bytes_eq w (codes "repeat")) _ _ (λ ws. counts command.Repeat ws (λ n p e. cc))
+    (if_keyword (bytes_eq w (codes "cut")) _ _ (λ ws. then_parsed BringsNobodyBack (groups_from [] [] ws) _ (λ groups p e. cc))
+    (if_keyword (bytes_eq w (codes "join")) _ _ (λ ws. only_this command.Join ws (λ p e. cc))
+    (if_keyword (bytes_eq w (codes "timer")) _ _ (λ ws. names command.Timer ws (λ p q e. cc))
+    (if_keyword (bytes_eq w (codes "crash")) _ _ (λ ws. names command.Crash ws (λ p q e. cc))
+    (if_keyword (bytes_eq w (codes "return")) None _ tt
+    (if_keyword (bytes_eq w (codes "end")) _ None (λ ws. only_this command.End ws (λ p e. cc)) tt))))))))))
 
 by_keyword : (o : Option Keyword) (ws : List (List ℕ)) → IfSome o IsOther → IfOk (command_named o ws) BringsNobodyBack
 by_keyword None ws other = tt
@@ -296,50 +199,7 @@ in_words (w ∷ ws) = by_keyword (keyword_of script.One w) ws (other_keyword w)
 first_command : (version : ScriptVersion) (line : List ℕ) → version ≡ script.One → IfOk (command_of version line) BringsNobodyBack
 first_command version line is = rw is (in_words (words_of line))
 
--- ---- the version stays
-
-module _ (version : ScriptVersion) where
-  abbrev pub IsIn : Scene → Type 0
-  IsIn s = s.version ≡ version
-
-  step_in : (s : Scene) (p : ℕ) (i : Input) → IsIn s → IfOk (scene_step s p i) IsIn
-  unfolding scene_step
-  step_in s p i is = then_holds Anything IsIn (cast_step s.actors p i) _ (anyway (cast_step s.actors p i)) (λ done any. is)
-
-  named_in : (s : Scene) (p : ℕ) (i : Input) → IsIn s → IfOk (named_step s p i) IsIn
-  named_in s p i is = if_holds IsIn (is_known s.actors p) _ _ (step_in s p i is) tt
-
-  one_in : (s : Scene) (queue : Queue) → IsIn s → IfOk (run_one s queue) IsIn
-  one_in s [] is = is
-  one_in s (e ∷ queue) is = step_in (record s { queue = queue }) e.0 (input.Packet e.1) is
-
-  run_in : (times : ℕ) (s : Scene) → IsIn s → IfOk (run_times times s) IsIn
-  unfolding run_times
-  run_in zero s is = is
-  run_in (suc times) s is = then_holds IsIn IsIn (run_one s s.queue) (run_times times) (one_in s s.queue is) (λ next now. run_in times next now)
-
-  more_in : (s : Scene) (e : Option (ℕ × Packet)) → IsIn s → IfOk (once_more s e) IsIn
-  more_in s None is = tt
-  more_in s (Some e) is = is
-
-  effect_in : (s : Scene) (c : Command) → IsIn s → IfOk (effect s c) IsIn
-  effect_in s (command.Ring ring members) is =
-      then_holds Anything IsIn (with_ring s.actors ring members) _ (anyway (with_ring s.actors ring members)) (λ actors any. is)
-  effect_in s (command.Submit p service payload) is = named_in s p (input.Submit service payload) is
-  effect_in s (command.Run times) is = run_in times s is
-  effect_in s (command.Drop place) is = if_holds IsIn (nat_lt (place - 1) (length s.queue)) _ _ is tt
-  effect_in s (command.Repeat place) is = more_in s (slice_get s.queue (place - 1)) is
-  effect_in s (command.Cut groups) is = if_holds IsIn (is_partition s.actors groups) _ _ is tt
-  effect_in s command.Join is = is
-  effect_in s (command.Timer p) is = named_in s p input.Timer is
-  effect_in s (command.Crash p) is = named_in s p input.Crash is
-  effect_in s (command.Return p) is = then_holds Anything IsIn (with_return s.actors p) _ (anyway (with_return s.actors p)) (λ done any. is)
-  effect_in s command.End is = is
-
-  carried_in : (s : Scene) (c : Command) → IsIn s → IfOk (carried_out s c) IsIn
-  carried_in s c is = if_holds IsIn (is_in_order s c) _ _ (effect_in (record s { under_way = not (makes_ring c) }) c is) tt
-
--- ---- line after line
+-- ---- a line
 
 line_holds : {A B : Type 0} (P : A → Type 0) (Q : B → Type 0) (n : ℕ) (v : Judged A) (f : A → Told B) → IfOk v P → ((x : A) → P x → IfOk (f x) Q)
     → IfOk (and_then (at_line n v) f) Q
@@ -350,41 +210,123 @@ by_line_holds : {A : Type 0} (P : A → Type 0) (v : Parsed A) → IfOk v P → 
 by_line_holds P (Ok x) is = is
 by_line_holds P (Err fault) is = tt
 
--- what holds of a scene, and stays so whatever a line says, holds in the end
-module _ (P : Scene → Type 0) (Q : Command → Type 0) (reads : (s : Scene) (text : List ℕ) → P s → IfOk (command_of s.version text) Q)
-    (stays : (s : Scene) (c : Command) → P s → Q c → IfOk (carried_out s c) P) where
-  abbrev pub Leaves : LinePlayed → Type 0
-  Leaves next = P next.scene
+-- ---- commands
 
-  line_leaves : (s : Scene) (line : Judged (List ℕ)) → P s → IfOk (line_played s line) Leaves
+found_first : (queue : Queue) (place : ℕ) → All IsFirstOnItsWay queue → IfSome (slice_get queue place) IsFirstOnItsWay
+found_first [] place all = tt
+found_first (e ∷ queue) zero all = All-head IsFirstOnItsWay e queue all
+found_first (e ∷ queue) (suc place) all = found_first queue place (All-tail IsFirstOnItsWay e queue all)
+
+-- in a script of this version
+module _ (given : ScriptVersion) where
+  abbrev IfOne : {A : Type 0} → (A → Type 0) → A → Type 0
+  IfOne P x = given ≡ script.One → P x
+
+  if_one : {A E : Type 0} (P : A → Type 0) (v : Result A E) → (given ≡ script.One → IfOk v P) → IfOk v (IfOne P)
+  if_one P (Ok x) each = each
+  if_one P (Err fault) each = tt
+
+  -- it is of this version; in version 1 it has first lives alone
+  record IsFirstScene (s : Scene) : Type 0 where
+    version : s.version ≡ given
+    actors : given ≡ script.One → All IsFirstActor s.actors
+    queue : given ≡ script.One → All IsFirstOnItsWay s.queue
+
+  step_first : (s : Scene) (p : ℕ) (i : Input) → IsFirstScene s → (given ≡ script.One → IsFirstInput i) → IfOk (scene_step s p i) IsFirstScene
+  unfolding scene_step
+  step_first s p i is first =
+      then_holds (IfOne IsFirstCastStep) IsFirstScene (cast_step s.actors p i) _
+      (if_one IsFirstCastStep (cast_step s.actors p i) (λ one. cast_first s.actors p i (is.actors one) (first one)))
+      (λ done now. record {
+        version = is.version;
+        actors = λ one. (now one).actors;
+        queue = λ one. All-append IsFirstOnItsWay s.queue _ (is.queue one) (posted_first s.cut done.actors p done.packets (now one).packets);
+      })
+
+  named_first : (s : Scene) (p : ℕ) (i : Input) → IsFirstScene s → (given ≡ script.One → IsFirstInput i) → IfOk (named_step s p i) IsFirstScene
+  named_first s p i is first = if_holds IsFirstScene (is_known s.actors p) _ _ (step_first s p i is first) tt
+
+  one_first : (s : Scene) (queue : Queue) → IsFirstScene s → (given ≡ script.One → All IsFirstOnItsWay queue) → IfOk (run_one s queue) IsFirstScene
+  one_first s [] is all = is
+  one_first s (e ∷ queue) is all =
+      step_first (record s { queue = queue }) e.0 (input.Packet e.1)
+      (record { version = is.version; actors = is.actors; queue = λ one. All-tail IsFirstOnItsWay e queue (all one) })
+      (λ one. All-head IsFirstOnItsWay e queue (all one))
+
+  run_first : (times : ℕ) (s : Scene) → IsFirstScene s → IfOk (run_times times s) IsFirstScene
+  unfolding run_times
+  run_first zero s is = is
+  run_first (suc times) s is =
+      then_holds IsFirstScene IsFirstScene (run_one s s.queue) (run_times times) (one_first s s.queue is is.queue) (λ next now. run_first times next now)
+
+  more_first : (s : Scene) (e : Option (ℕ × Packet)) → IsFirstScene s → (given ≡ script.One → IfSome e IsFirstOnItsWay) → IfOk (once_more s e) IsFirstScene
+  more_first s None is first = tt
+  more_first s (Some e) is first =
+      record { version = is.version; actors = is.actors; queue = λ one. All-push IsFirstOnItsWay s.queue e (is.queue one) (first one) }
+
+  effect_first : (s : Scene) (c : Command) → IsFirstScene s → IfOne BringsNobodyBack c → IfOk (effect s c) IsFirstScene
+  effect_first s (command.Ring ring members) is kind =
+      then_holds (IfOne (All IsFirstActor)) IsFirstScene (with_ring s.actors ring members) _
+      (if_one (All IsFirstActor) (with_ring s.actors ring members) (λ one. ring_first s.actors ring members (is.actors one)))
+      (λ actors all. record { version = is.version; actors = all; queue = λ one. token_first s.queue ring (is.queue one) })
+  effect_first s (command.Submit p service payload) is kind = named_first s p (input.Submit service payload) is (λ one. tt)
+  effect_first s (command.Run times) is kind = run_first times s is
+  effect_first s (command.Drop place) is kind =
+      if_holds IsFirstScene (nat_lt (place - 1) (length s.queue)) _ _
+      (record {
+        version = is.version;
+        actors = is.actors;
+        queue = λ one. All-append IsFirstOnItsWay (take (place - 1) s.queue) (drop (suc (place - 1)) s.queue)
+            (All-take IsFirstOnItsWay (place - 1) s.queue (is.queue one)) (All-drop IsFirstOnItsWay (suc (place - 1)) s.queue (is.queue one));
+      })
+      tt
+  effect_first s (command.Repeat place) is kind = more_first s (slice_get s.queue (place - 1)) is (λ one. found_first s.queue (place - 1) (is.queue one))
+  effect_first s (command.Cut groups) is kind =
+      if_holds IsFirstScene (is_partition s.actors groups) _ _ (record { version = is.version; actors = is.actors; queue = is.queue }) tt
+  effect_first s command.Join is kind = record { version = is.version; actors = is.actors; queue = is.queue }
+  effect_first s (command.Timer p) is kind = named_first s p input.Timer is (λ one. tt)
+  effect_first s (command.Crash p) is kind = named_first s p input.Crash is (λ one. tt)
+  effect_first s (command.Return p) is kind =
+      then_holds Anything IsFirstScene (with_return s.actors p) _ (anyway (with_return s.actors p))
+      (λ done any. record { version = is.version; actors = λ one. absurd (kind one p refl); queue = λ one. absurd (kind one p refl) })
+  effect_first s command.End is kind = is
+
+  carried_first : (s : Scene) (c : Command) → IsFirstScene s → IfOne BringsNobodyBack c → IfOk (carried_out s c) IsFirstScene
+  carried_first s c is kind =
+      if_holds IsFirstScene (is_in_order s c) _ _
+      (effect_first (record s { under_way = not (makes_ring c) }) c (record { version = is.version; actors = is.actors; queue = is.queue }) kind)
+      tt
+
+  -- ---- line after line
+
+  abbrev Leaves : LinePlayed → Type 0
+  Leaves next = IsFirstScene next.scene
+
+  line_first : (s : Scene) (line : Judged (List ℕ)) → IsFirstScene s → IfOk (line_played s line) Leaves
   unfolding line_played
-  line_leaves s line is =
+  line_first s line is =
       then_holds Anything Leaves line _ (anyway line)
-      (λ text any. then_holds Q Leaves (by_line (command_of s.version text)) _ (by_line_holds Q (command_of s.version text) (reads s text is))
-      (λ c kind. then_holds P Leaves (carried_out s c) _ (stays s c is kind)
+      (λ text any. then_holds (IfOne BringsNobodyBack) Leaves (by_line (command_of s.version text)) _
+      (by_line_holds (IfOne BringsNobodyBack) (command_of s.version text)
+      (if_one BringsNobodyBack (command_of s.version text) (λ one. first_command s.version text (is.version ∙ one))))
+      (λ c kind. then_holds IsFirstScene Leaves (carried_out s c) _ (carried_first s c is kind)
       (λ next now. now)))
 
-  closes : (n : ℕ) (s : Scene) (lines : Texts) → P s → IfOk (closing n s lines) P
+  closes_first : (n : ℕ) (s : Scene) (lines : Texts) → IsFirstScene s → IfOk (closing n s lines) IsFirstScene
   unfolding closing
-  closes n s [] is = is
-  closes n s (line ∷ lines) is = tt
+  closes_first n s [] is = is
+  closes_first n s (line ∷ lines) is = tt
 
-  plays : (n : ℕ) (s : Scene) (lines : Texts) → P s → IfOk (play n s lines) P
+  plays_first : (n : ℕ) (s : Scene) (lines : Texts) → IsFirstScene s → IfOk (play n s lines) IsFirstScene
   unfolding play
-  plays n s [] is = tt
-  plays n s (line ∷ lines) is =
-      line_holds Leaves P n (line_played s line) _ (line_leaves s line is)
-      (λ next now. if_holds P next.ended _ _ (closes (n + 1) next.scene lines now) (plays (n + 1) next.scene lines now))
+  plays_first n s [] is = tt
+  plays_first n s (line ∷ lines) is =
+      line_holds Leaves IsFirstScene n (line_played s line) _ (line_first s line is)
+      (λ next now. if_holds IsFirstScene next.ended _ _ (closes_first (n + 1) next.scene lines now) (plays_first (n + 1) next.scene lines now))
 
-begins_first : IsFirstScene (empty_scene script.One)
-begins_first = record { version = refl; actors = All-nil IsFirstActor; queue = All-nil IsFirstOnItsWay }
-
-plays_first : (lines : Texts) → IfOk (play 2 (empty_scene script.One) lines) IsFirstScene
-plays_first lines =
-    plays IsFirstScene BringsNobodyBack (λ s text is. first_command s.version text is.version) carried_first 2 (empty_scene script.One) lines begins_first
-
-plays_in : (version : ScriptVersion) (lines : Texts) → IfOk (play 2 (empty_scene version) lines) (IsIn version)
-plays_in version lines = plays (IsIn version) Anything (λ s text is. anyway (command_of s.version text)) (λ s c is any. carried_in version s c is) 2 (empty_scene version) lines refl
+  whole_first : (lines : Texts) → IfOk (play 2 (empty_scene given) lines) IsFirstScene
+  whole_first lines =
+      plays_first 2 (empty_scene given) lines (record { version = refl; actors = λ one. All-nil IsFirstActor; queue = λ one. All-nil IsFirstOnItsWay })
 
 -- ---- the logs
 
@@ -398,12 +340,9 @@ all_logs (a ∷ actors) all =
 
 -- a script of version 1 leaves logs that name first lives alone
 pub played_first : (version : ScriptVersion) (lines : Texts) (s : Scene) → play 2 (empty_scene version) lines ≡ Ok s → s.version ≡ script.One → All HasFirstLives (logs_in s.actors)
-played_first script.One lines s played one =
-    let is = rw played at (plays_first lines) in
-    all_logs s.actors is.actors
-played_first script.Two lines s played one =
-    let is = rw played at (plays_in script.Two lines) in
-    absurd (cc)
+played_first version lines s played one =
+    let is = rw played at (whole_first version lines) in
+    all_logs s.actors (is.actors (sym is.version ∙ one))
 
 -- ---- the run
 
@@ -412,7 +351,7 @@ module _ (script : List ℕ) (version : ScriptVersion) (run : RunRecord) (head :
       → (run.version ≡ version_of version) × FitVersion version run.logs
   fits (Ok s) played is =
       let same : run ≡ run_of s.version (logs_in s.actors) = cc in
-      let stays = rw played at (plays_in version (drop 1 (lines_of 65536 script))) in
+      let stays = (let is = rw played at (whole_first version (drop 1 (lines_of 65536 script))) in is.version) in
       rw (same, stays) (refl, λ one. played_first version (drop 1 (lines_of 65536 script)) s played (stays ∙ one))
   fits (Err fault) played is = absurd (cc)
 

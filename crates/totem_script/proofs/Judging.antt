@@ -1,5 +1,5 @@
 -- A script, line by line.
-use Rattle.totem_script.proofs.Common.{◌≡◌, ℕ, zero, suc, ◌≤◌, ◌+◌, ◌==◌, List, [], ◌∷◌, length, drop, Bool, true, false, cond, Ok, Err, refl, ap, ◌∙◌, arith, length-drop, RunRecord, command_of, Fails, logs_in, Scene, empty_scene, carried_out, run_of}
+use Rattle.totem_script.proofs.Common.{◌≡◌, ℕ, zero, suc, ◌≤◌, ◌+◌, List, [], ◌∷◌, length, drop, Bool, true, false, Ok, Err, refl, ap, ◌∙◌, arith, length-drop, RunRecord, command_of, Fails, logs_in, Scene, empty_scene, carried_out, run_of}
 use Rattle.totem_script.specs.declared.command.Command.{Command}
 use Rattle.totem_script.specs.declared.fault.LineFault.{LineFault}
 use Rattle.totem_script.specs.declared.script_fault.FaultyLine.{FaultyLine}
@@ -80,11 +80,7 @@ pub few_lines : (room : ℕ) (bytes : List ℕ) → length (lines_of room bytes)
 unfolding lines_of
 few_lines room [] = omega arith
 few_lines zero (b ∷ bytes) = omega arith
-few_lines (suc room) (b ∷ bytes) = by_byte (b == 10) (few_lines room bytes)
-  where
-    by_byte : (e : Bool) → length (lines_of room bytes) ≤ suc room → length (cond e (Ok [] ∷ lines_of room bytes) (longer_line b (lines_of room bytes))) ≤ suc (suc room)
-    by_byte true few = omega arith
-    by_byte false few = longer_many b (lines_of room bytes) room few
+few_lines (suc room) (b ∷ bytes) = grind (arith, few_lines room bytes, longer_many b (lines_of room bytes) room)
 
 no_head : (lines : Texts) (kind : ScriptFault) → Fails kind (first_headed lines) → FailsAt (record { kind = kind; line = 1 }) (all_played lines)
 unfolding all_played

@@ -1,7 +1,6 @@
 pub mod Common
+pub mod Walking
 pub mod Cuts
-pub mod Digits
-pub mod Steps
 pub mod LineEnds
 pub mod Acting
 pub mod NextLife

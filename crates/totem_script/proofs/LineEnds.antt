@@ -1,5 +1,5 @@
 -- Where a script's lines end.
-use Rattle.totem_script.proofs.Common.{◌≡◌, ◌≢◌, ℕ, zero, suc, ◌<◌, ◌≤◌, ◌+◌, ◌-◌, ◌==◌, List, [], ◌∷◌, length, get_or, take, drop, Bool, true, false, cond, Ok, Err, refl, sym, ap, ◌∙◌, arith, eq-eqb, ne_eqb, get_or-take, Judged}
+use Rattle.totem_script.proofs.Common.{◌≡◌, ◌≢◌, ℕ, zero, suc, ◌<◌, ◌≤◌, ◌+◌, ◌-◌, List, [], ◌∷◌, length, get_or, take, drop, Ok, Err, refl, sym, ap, ◌∙◌, arith, eq-eqb, ne_eqb, get_or-take, Judged}
 use Rattle.totem_script.specs.declared.script_fault.ScriptFault.TheVariants.{Truncated, TooMany}
 use Rattle.totem_script.specs.Lines.{longer_line, lines_of}
 
@@ -86,8 +86,4 @@ pub some_line : (room : ℕ) (xs : List ℕ) → lines_of room xs ≡ [] → len
 unfolding lines_of
 some_line room [] is = refl
 some_line zero (b ∷ xs) is = cc
-some_line (suc room) (b ∷ xs) is = absurd (by_byte (b == 10) is)
-  where
-    by_byte : (e : Bool) → cond e (Ok [] ∷ lines_of room xs) (longer_line b (lines_of room xs)) ≢ []
-    by_byte true e = cc
-    by_byte false e = longer b (lines_of room xs) e
+some_line (suc room) (b ∷ xs) is = grind (arith, longer b (lines_of room xs))

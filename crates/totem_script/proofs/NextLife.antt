@@ -1,24 +1,16 @@
 -- A process that returns.
-use Rattle.totem_script.proofs.Common.{◌≡◌, ◌≢◌, ℕ, ◌<◌, ◌+◌, ◌&&◌, List, [], ◌∷◌, ◌++◌, true, nat_lt, nat_le, refl, ap, arith, nat_tests, RingName, id_of, life_of, Entry, All-push, LogRecord, Quiet, Node, new_node, first_change}
-use Rattle.std.proofs.lemmas.Bool.{and_parts}
+use Rattle.totem_script.proofs.Common.{◌≡◌, ◌≢◌, ℕ, ◌<◌, ◌+◌, List, [], ◌∷◌, ◌++◌, true, arith, nat_tests, RingName, id_of, life_of, Entry, All-push, LogRecord, Quiet, Node, new_node, first_change}
+use Rattle.std.proofs.lemmas.List.{map-append}
 use Rattle.totem_script.specs.Laws.{CanReturn}
 use Rattle.totem_script.specs.Actors.{Actor, new_actor, log_of, may_return, next_life, ring_of_return, returned, procs_in, IsBelowAll, Rises, AreLives, IsHistory}
 
 -- ---- What the tests say
 
 pub can_return : (a : Actor) → may_return a ≡ true → CanReturn a
-can_return a may =
-    let crashed = and_parts a.node.crashed (nat_lt (life_of a.proc) 65535 && nat_le (a.node.seq + 4) 4294967295) may in
-    let numbers = and_parts (nat_lt (life_of a.proc) 65535) (nat_le (a.node.seq + 4) 4294967295) crashed.1 in
-    let less = numbers.0 in
-    let most = numbers.1 in
-    record { crashed = crashed.0; life = grind (arith, nat_tests); seq = grind (arith, nat_tests) }
+can_return a may = grind (arith, nat_tests)
 
 pub may_if_can : (a : Actor) → CanReturn a → may_return a ≡ true
-may_if_can a can =
-    let life : nat_lt (life_of a.proc) 65535 ≡ true = (let less = can.life in grind (arith, nat_tests)) in
-    let seq : nat_le (a.node.seq + 4) 4294967295 ≡ true = (let most = can.seq in grind (arith, nat_tests)) in
-    rw (can.crashed, life, seq)
+may_if_can a can = grind (arith, nat_tests)
 
 -- ---- The lives before
 
@@ -29,8 +21,7 @@ later : (p : ℕ) → life_of p < 65535 → p < next_life p
 later p less = omega arith
 
 procs_more : (logs : List LogRecord) (log : LogRecord) → procs_in (logs ++ log ∷ []) ≡ procs_in logs ++ log.proc ∷ []
-procs_more [] log = refl
-procs_more (l ∷ logs) log = ap (λ ps. l.proc ∷ ps) (procs_more logs log)
+procs_more logs log = map-append (λ (l : LogRecord). l.proc) logs (log ∷ [])
 
 lives_more : (id q : ℕ) (ps : List ℕ) → AreLives id ps → id_of q ≡ id → AreLives id (ps ++ q ∷ [])
 lives_more id q [] lives is = (is, tt)

@@ -13,6 +13,7 @@ use std::alloc::Global;
 use totem_names::ProcId;
 
 /// Reads at least one process.
+#[tactic(auto, unfolding(crate::specs::Commands::processes_from))]
 fn processes(alloc: Global, words: &mut Parts<'_>) -> Result<ProcessList, LineFault>
     ensures { Gives result (some_processes words.old) }
 {
@@ -52,6 +53,7 @@ fn process_or_stroke(word: &[u8]) -> Result<Option<ProcId>, LineFault>
 }
 
 /// Reads the groups of a cut: at least one process in each, and a stroke between two groups.
+#[tactic(auto, unfolding(crate::specs::Commands::groups_from))]
 pub fn groups(alloc: Global, words: &mut Parts<'_>) -> Result<Groups, LineFault>
     ensures { Gives result (groups_from [] [] words.old) }
 {

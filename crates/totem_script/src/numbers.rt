@@ -23,6 +23,7 @@ fn begins_number(byte: u8) -> bool
 }
 
 /// Returns the number that the word spells, from 1 to `max` and without leading zeros.
+#[tactic(auto, using(crate::proofs::Walking::steps), unfolding(crate::specs::Numbers::number_in, crate::specs::Numbers::digits_in))]
 pub fn number(word: &[u8], max: u32) -> Result<u32, LineFault>
     requires { 9 ≤ max }
     ensures number { result ≡ number_in max word.now }
