@@ -1,5 +1,5 @@
 -- If no member can continue, no member has got further in any other weave.
-use Rattle.totem_weave.proofs.Common.{◌≡◌, ℕ, ◌+◌, ◌==◌, ◌<◌, ◌≤◌, inl, inr, List, [], ◌∷◌, ◌++◌, map, length, slice_get, Bool, true, false, if◌then◌else◌, Some, refl, sym, ◌∙◌, ap, append_assoc, append-nil, eqb-true, length-append, arith, Contains, filter, cases_lt, eq-eqb, map-append, length_push, filter-append, RingName, Packet, Act, RingMove, World, start, happens, run, IsSchedule, IsPrefixOf, one_order_holds, own_start, with_acts, acts_of, own_of, CanAct, NoneRefused, IsWeave, IsStuck, IsWhole, next_step, StuckIsGreatest, LeftIsOrphan, WholeIsFound, WholeIsOneOrder, up_of}
+use Rattle.totem_weave.proofs.Common.{nat_tests, common_steps, ◌≡◌, ℕ, ◌+◌, ◌==◌, ◌<◌, ◌≤◌, inl, inr, List, [], ◌∷◌, ◌++◌, length, slice_get, true, false, Some, refl, sym, ◌∙◌, ap, append_assoc, append-nil, arith, Contains, cases_lt, eq-eqb, RingName, Packet, Act, RingMove, World, start, happens, run, IsSchedule, IsPrefixOf, one_order_holds, own_start, with_acts, acts_of, own_of, CanAct, NoneRefused, IsWeave, IsStuck, IsWhole, next_step, StuckIsGreatest, LeftIsOrphan, WholeIsFound, WholeIsOneOrder, up_of}
 use Rattle.totem_ring.proofs.Prefixes.{one_begins, slice_get-append}
 use Rattle.totem_weave.proofs.OwnActs.{in_longer, own_sent_grows_holds, state_is_own_holds, sent_by_all}
 use Rattle.totem_weave.proofs.OthersActs.{members-run, can_still_act}
@@ -7,9 +7,7 @@ use Rattle.totem_weave.proofs.OthersActs.{members-run, can_still_act}
 -- two lists, one of which begins the other and is no shorter, are equal
 pub same_from_length : {X : Type 0} (xs ys : List X) → IsPrefixOf xs ys → length ys ≤ length xs → xs ≡ ys
 same_from_length xs ys ([], e) le = sym (append-nil xs) ∙ e
-same_from_length xs ys (r ∷ rest, e) le =
-    let long : length xs + length (r ∷ rest) ≡ length ys = sym (length-append xs (r ∷ rest)) ∙ ap length e in
-    absurd (omega arith)
+same_from_length xs ys (r ∷ rest, e) le = grind (arith, common_steps)
 
 -- of two lists that begin a third the shorter one begins the other
 shorter_begins : {X : Type 0} (xs ys zs : List X) → IsPrefixOf xs zs → IsPrefixOf ys zs → length xs ≤ length ys → IsPrefixOf xs ys
@@ -30,16 +28,12 @@ next_of_front : {X : Type 0} (xs ys zs : List X) (y : X) → IsPrefixOf (xs ++ y
 next_of_front xs ys zs y (rest, e) = rw (← e) (slice_get-append (xs ++ y ∷ ys) rest (length xs) y (slice_get-length xs ys y))
 
 pub acts_of-append : (p : ℕ) (xs ys : List RingMove) → acts_of p (xs ++ ys) ≡ acts_of p xs ++ acts_of p ys
-acts_of-append p xs ys =
-    ap (λ ms. map (λ (m : RingMove). m.act) ms) (filter-append (λ (m : RingMove). p == m.proc) xs ys)
-    ∙ map-append (λ (m : RingMove). m.act) (filter (λ (m : RingMove). p == m.proc) xs) (filter (λ (m : RingMove). p == m.proc) ys)
+acts_of-append p [] ys = refl
+acts_of-append p (x ∷ xs) ys = grind (arith, acts_of-append p xs ys)
 
--- a move of another member is none of this one's acts; its own move is one
-pub acts_of-other : (p : ℕ) (move : RingMove) (moves : List RingMove) → (p == move.proc) ≡ false → acts_of p (move ∷ moves) ≡ acts_of p moves
-acts_of-other p move moves is = ap (λ (b : Bool). map (λ (m : RingMove). m.act) (if b then move ∷ filter (λ (m : RingMove). p == m.proc) moves else filter (λ (m : RingMove). p == m.proc) moves)) is
-
+-- a member's own move is one of its acts
 pub acts_of-own : (p : ℕ) (move : RingMove) (moves : List RingMove) → (p == move.proc) ≡ true → acts_of p (move ∷ moves) ≡ move.act ∷ acts_of p moves
-acts_of-own p move moves is = ap (λ (b : Bool). map (λ (m : RingMove). m.act) (if b then move ∷ filter (λ (m : RingMove). p == m.proc) moves else filter (λ (m : RingMove). p == m.proc) moves)) is
+acts_of-own p move moves is = rw is
 
 -- in a schedule without refusals each move can be taken in its turn
 can_act_then : (w : World) (done rest : List RingMove) (move : RingMove) → IsSchedule w (done ++ move ∷ rest) → NoneRefused w (done ++ move ∷ rest) → CanAct (run w done) move.proc move.act
@@ -107,15 +101,7 @@ one_further ring members steps_at stuck done rest move most is_stuck other h = e
 
 -- one move more is one act more for its member, and none for another
 length-one_more : (p : ℕ) (done : List RingMove) (move : RingMove) (bound : ℕ) → length (acts_of p done) ≤ bound → (p ≡ move.proc → length (acts_of p done) < bound) → length (acts_of p (done ++ move ∷ [])) ≤ bound
-length-one_more p done move bound le further = go (p == move.proc) refl
-  where
-    go : (b : Bool) → (p == move.proc) ≡ b → length (acts_of p (done ++ move ∷ [])) ≤ bound
-    go true is =
-        let lt : length (acts_of p done) < bound = further (eqb-true p move.proc is) in
-        let acts : acts_of p (done ++ move ∷ []) ≡ acts_of p done ++ move.act ∷ [] = acts_of-append p done (move ∷ []) ∙ ap (λ acts. acts_of p done ++ acts) (acts_of-own p move [] is) in
-        let long : length (acts_of p done ++ move.act ∷ []) ≡ length (acts_of p done) + 1 = length_push (acts_of p done) move.act in
-        rw (acts, long) (omega arith)
-    go false is = rw (acts_of-append p done (move ∷ []) ∙ ap (λ acts. acts_of p done ++ acts) (acts_of-other p move [] is) ∙ append-nil (acts_of p done)) le
+length-one_more p done move bound le further = rw (acts_of-append p done (move ∷ [])) (grind (arith, nat_tests, common_steps))
 
 -- move by move
 none_further : (ring : RingName) (members : List ℕ) (steps_at : ℕ → List Act) (stuck done rest : List RingMove)

@@ -1,8 +1,8 @@
 -- What the members' tracks deliver is what the members deliver in a weave that has all of the tracks.
-use Rattle.totem_weave.proofs.Common.{◌≡◌, ℕ, suc, List, [], ◌∷◌, map, zip, slice_get, Some, refl, sym, ◌∙◌, ap, IsStrictlyIncreasing, RingName, id_of, Message, Act, RingMove, start, run, ids_of, Closed, own_start, with_acts, acts_of, recorded, recorded_of, AreTracksOf, up_by, up_of_tracks, handed_by}
+use Rattle.totem_weave.proofs.Common.{◌≡◌, ℕ, suc, List, [], ◌∷◌, map, zip, slice_get, Some, refl, sym, ◌∙◌, ap, IsStrictlyIncreasing, RingName, id_of, Message, Act, RingMove, start, run, ids_of, Closed, own_start, with_acts, acts_of, recorded, recorded_of, AreTracksOf, up_by, up_of_tracks, handed_by, arith}
 use Rattle.totem_weave.specs.declared.track.Track.{Track}
 use Rattle.totem_weave.proofs.OwnActs.{state_is_own_holds}
-use Rattle.totem_weave.proofs.RecordedOf.{same_cons, recorded_at}
+use Rattle.totem_weave.proofs.RecordedOf.{recorded_at}
 
 -- a member, with the messages that the acts in its book deliver
 abbrev recorded_up : RingName → List Closed → List ℕ → ℕ → ℕ × List Message
@@ -17,15 +17,11 @@ ups_recorded : (ring : RingName) (books : List Closed) (ids members : List ℕ) 
 ups_recorded ring books ids [] [] are = refl
 ups_recorded ring books ids (p ∷ members) [] are = absurd cc
 ups_recorded ring books ids [] (t ∷ tracks) are = absurd cc
-ups_recorded ring books ids (p ∷ members) (t ∷ tracks) are =
-    let first : ◌≡◌ {A = ℕ × List Act} (t.proc, t.acts.items) (id_of p, recorded ring books p) = cc in
-    let others : AreTracksOf ring books members tracks = cc in
-    let up : ℕ × List Act → ℕ × List Message = λ x. (p, (with_acts (own_start ring ids x.0) x.1).up) in
-    same_cons {x = up (t.proc, t.acts.items)} {y = up (id_of p, recorded ring books p)} (ap up first) (ups_recorded ring books ids members tracks others)
+ups_recorded ring books ids (p ∷ members) (t ∷ tracks) are = grind (arith, ups_recorded ring books ids members tracks)
 
 same_map : {X Y : Type 0} (g h : X → Y) (xs : List X) → ((k : ℕ) (x : X) → slice_get xs k ≡ Some x → g x ≡ h x) → map g xs ≡ map h xs
 same_map g h [] same = refl
-same_map g h (x ∷ xs) same = same_cons (same 0 x refl) (same_map g h xs (λ k y at. same (suc k) y at))
+same_map g h (x ∷ xs) same = rw (same 0 x refl, same_map g h xs (λ k y at. same (suc k) y at))
 
 pub handed_is : (ring : RingName) (books : List Closed) (members : List ℕ) (tracks : List Track) (moves : List RingMove) → IsStrictlyIncreasing (ids_of members)
     → AreTracksOf ring books members tracks → ((id : ℕ) → acts_of id moves ≡ recorded_of ring books members id) → up_of_tracks ring members tracks ≡ handed_by ring members moves

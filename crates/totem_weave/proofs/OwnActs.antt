@@ -1,53 +1,32 @@
 -- A member is where its own acts brought it, and what was sent some member's own acts sent.
-use Rattle.totem_weave.proofs.Common.{◌≡◌, ℕ, ◌==◌, ◌⊎◌, inl, inr, List, [], ◌∷◌, ◌++◌, map, Bool, true, false, if◌then◌else◌, Result, Ok, Err, refl, sym, ◌∙◌, ap, subst, append_assoc, append-nil, eqb-true, arith, Contains, filter, eq-eqb, Contains-append_left, Contains-append_right, Contains-append_cases, Contains-push, Contains-push_cases, RingName, Packet, RingFault, Act, RingMove, Ring, first_token, Done, act_on, World, start, happens, world_after, run, submitted, IsPrefixOf, Own, own_start, own_after, with_act, with_acts, acts_of, own_of, IsAsOwn, StateIsOwn, SentIsOwn, SentGrows, OwnSentGrows}
+use Rattle.totem_weave.proofs.Common.{nat_tests, cond_both, ◌≡◌, ℕ, ◌==◌, ◌⊎◌, inl, inr, List, [], ◌∷◌, ◌++◌, map, false, if◌then◌else◌, Result, Ok, Err, refl, sym, ◌∙◌, ap, subst, append_assoc, append-nil, arith, Contains, eq-eqb, Contains-append_left, Contains-append_right, Contains-append_cases, Contains-push, Contains-push_cases, RingName, Packet, RingFault, Act, RingMove, Ring, first_token, Done, act_on, World, start, happens, world_after, run, IsPrefixOf, Own, own_start, own_after, with_act, with_acts, acts_of, own_of, IsAsOwn, StateIsOwn, SentIsOwn, SentGrows, OwnSentGrows, eqb-true}
 use Rattle.totem_packets.specs.declared.packet.Packet.TheVariants.{Token as AToken}
 
 -- its own move brings a member where its own act does
+after : (w : World) (p : ℕ) (act : Act) (r : Result Done RingFault) (own : Own) → IsAsOwn w p own → IsAsOwn (world_after w p act r) p (own_after own act r)
+after w p act (Err fault) own h = h
+after w p act (Ok done) own h = grind (arith, nat_tests)
+
 moved : (w : World) (p : ℕ) (act : Act) (own : Own) → IsAsOwn w p own → IsAsOwn (world_after w p act (act_on (w.state p) act)) p (with_act own act)
 moved w p act own h =
     let P : Ring → Type 0 = λ s. IsAsOwn (world_after w p act (act_on (w.state p) act)) p (own_after own act (act_on s act)) in
-    subst P h.state (go (act_on (w.state p) act))
-  where
-    at_p : (p == p) ≡ true
-    at_p = eq-eqb p p refl
-
-    go : (r : Result Done RingFault) → IsAsOwn (world_after w p act r) p (own_after own act r)
-    go (Err fault) = h
-    go (Ok done) = record {
-      state = ap (λ (b : Bool). if b then done.state else w.state p) at_p;
-      up = ap (λ (b : Bool). if b then w.up p ++ done.handed else w.up p) at_p ∙ ap (λ up. up ++ done.handed) h.up;
-      accepted = ap (λ (b : Bool). if b then w.accepted p ++ submitted act else w.accepted p) at_p ∙ ap (λ bodies. bodies ++ submitted act) h.accepted;
-    }
+    subst P h.state (after w p act (act_on (w.state p) act) own h)
 
 -- a move of another member doesn't change this one
 left : (w : World) (q : ℕ) (act : Act) (r : Result Done RingFault) (p : ℕ) (own : Own) → (p == q) ≡ false → IsAsOwn w p own → IsAsOwn (world_after w q act r) p own
 left w q act (Err fault) p own other h = h
-left w q act (Ok done) p own other h = record {
-  state = ap (λ (b : Bool). if b then done.state else w.state p) other ∙ h.state;
-  up = ap (λ (b : Bool). if b then w.up q ++ done.handed else w.up p) other ∙ h.up;
-  accepted = ap (λ (b : Bool). if b then w.accepted q ++ submitted act else w.accepted p) other ∙ h.accepted;
-}
+left w q act (Ok done) p own other h = grind arith
 
 -- what a move makes of a member
 abbrev after_move : Own → ℕ → RingMove → Own
 after_move own p move = if p == move.proc then with_act own move.act else own
 
 own_moved : (w : World) (move : RingMove) (p : ℕ) (own : Own) → IsAsOwn w p own → IsAsOwn (happens w move) p (after_move own p move)
-own_moved w move p own h = go (p == move.proc) refl
-  where
-    go : (b : Bool) → (p == move.proc) ≡ b → IsAsOwn (happens w move) p (if b then with_act own move.act else own)
-    go true is = rw (← eqb-true p move.proc is) (moved w p move.act own h)
-    go false is = left w move.proc move.act (act_on (w.state move.proc) move.act) p own is h
+own_moved w move p own h = grind (arith, nat_tests, moved w p move.act own h, left w move.proc move.act (act_on (w.state move.proc) move.act) p own)
 
 -- the acts of one move, and then of more
 one_more : (p : ℕ) (move : RingMove) (moves : List RingMove) (own : Own) → with_acts (after_move own p move) (acts_of p moves) ≡ with_acts own (acts_of p (move ∷ moves))
-one_more p move moves own = go (p == move.proc)
-  where
-    go : (b : Bool)
-        → with_acts (if b then with_act own move.act else own) (acts_of p moves)
-        ≡ with_acts own (map (λ (m : RingMove). m.act) (if b then move ∷ filter (λ (m : RingMove). p == m.proc) moves else filter (λ (m : RingMove). p == m.proc) moves))
-    go true = refl
-    go false = refl
+one_more p move moves own = grind arith
 
 pub own_moves : (w : World) (moves : List RingMove) (p : ℕ) (own : Own) → IsAsOwn w p own → IsAsOwn (run w moves) p (with_acts own (acts_of p moves))
 own_moves w [] p own h = h
@@ -114,48 +93,37 @@ sent_by_same first w each other same h = record {
   of_own = λ p x c. h.of_own p x (rw (same p) c);
 }
 
--- its own act sends what its move sends
-sent-with_act : (w : World) (p : ℕ) (act : Act) (own : Own) → IsAsOwn w p own → (with_act own act).sent ≡ own.sent ++ new_of (act_on (w.state p) act)
-sent-with_act w p act own h = rw h.state (sent-own_after own act (act_on own.state act))
-
 sent_by_move : (first : List Packet) (w : World) (each : ℕ → Own) (move : RingMove) → IsSentBy first w each → IsSentBy first (happens w move) (λ p. after_move (each p) p move)
 sent_by_move first w each move h =
-    by_new (new_of (act_on (w.state move.proc) move.act)) (sent-world_after w move.proc move.act (act_on (w.state move.proc) move.act))
-    (sent-with_act w move.proc move.act (each move.proc) (h.own move.proc))
-  where
-    by_new : (new : List Packet) → (happens w move).sent ≡ w.sent ++ new → (with_act (each move.proc) move.act).sent ≡ (each move.proc).sent ++ new
-        → IsSentBy first (happens w move) (λ p. after_move (each p) p move)
-    by_new new grown mine = record {
+    let new = new_of (act_on (w.state move.proc) move.act) in
+    let grown : (happens w move).sent ≡ w.sent ++ new = sent-world_after w move.proc move.act (act_on (w.state move.proc) move.act) in
+    let mine : (with_act (each move.proc) move.act).sent ≡ (each move.proc).sent ++ new =
+    rw (h.own move.proc).state (sent-own_after (each move.proc) move.act (act_on (each move.proc).state move.act)) in
+    record {
       own = λ p. own_moved w move p (each p) (h.own p);
       by = λ x c. let c' : Contains (w.sent ++ new) x = rw (← grown) c in elim (Contains-append_cases w.sent new x c') [
-        | inl old ↦ elim (h.by x old) [ inl c ↦ inl c | inr found ↦ inr (found.0, kept found.0 (found.0 == move.proc) refl x found.1) ]
-        | inr here ↦ inr (move.proc, own_new (move.proc == move.proc) (eq-eqb move.proc move.proc refl) x here)
+        | inl old ↦ elim (h.by x old) [
+          | inl c ↦ inl c
+          | inr found ↦ inr (
+            found.0,
+            cond_both (found.0 == move.proc) _ _ (λ (own : Own). Contains own.sent x)
+                (λ mine. in_longer (each found.0).sent _ x (own_sends (each found.0) (move.act ∷ [])) found.1) (λ other. found.1),
+          )
+        ]
+        | inr here ↦ inr (move.proc, rw (eq-eqb move.proc move.proc refl, mine) (Contains-append_right (each move.proc).sent new x here))
       ];
-      of_first = λ x c. stays x (h.of_first x c);
-      of_own = λ p x c. back p (p == move.proc) refl x c;
+      of_first = λ x c. rw grown (Contains-append_left w.sent new x (h.of_first x c));
+      of_own = λ p x. cond_both (p == move.proc) _ _ (λ (own : Own). Contains own.sent x → Contains (happens w move).sent x)
+          (λ is c. (
+          let P : ℕ → Type 0 = λ q. Contains (with_act (each q) move.act).sent x in
+          let c' : Contains ((each move.proc).sent ++ new) x = rw (← mine) (subst P (eqb-true p move.proc is) c) in
+          elim (Contains-append_cases (each move.proc).sent new x c') [
+            | inl old ↦ rw grown (Contains-append_left w.sent new x (h.of_own move.proc x old))
+            | inr here ↦ rw grown (Contains-append_right w.sent new x here)
+          ]
+          ))
+          (λ other c. rw grown (Contains-append_left w.sent new x (h.of_own p x c)));
     }
-      where
-        stays : (x : Packet) → Contains w.sent x → Contains (happens w move).sent x
-        stays x c = rw grown (Contains-append_left w.sent new x c)
-
-        kept : (p : ℕ) (b : Bool) → (p == move.proc) ≡ b → (x : Packet) → Contains (each p).sent x → Contains (if b then with_act (each p) move.act else each p).sent x
-        kept p true is x c = in_longer (each p).sent (with_act (each p) move.act).sent x (own_sends (each p) (move.act ∷ [])) c
-        kept p false is x c = c
-
-        own_new : (b : Bool) → b ≡ true → (x : Packet) → Contains new x → Contains (if b then with_act (each move.proc) move.act else each move.proc).sent x
-        own_new true is x c = rw mine (Contains-append_right (each move.proc).sent new x c)
-        own_new false is x c = absurd cc
-
-        back : (p : ℕ) (b : Bool) → (p == move.proc) ≡ b → (x : Packet) → Contains (if b then with_act (each p) move.act else each p).sent x → Contains (happens w move).sent x
-        back p true is x c =
-            let same : p ≡ move.proc = eqb-true p move.proc is in
-            let P : ℕ → Type 0 = λ q. Contains (with_act (each q) move.act).sent x in
-            let at_proc : Contains ((each move.proc).sent ++ new) x = rw (← mine) (subst P same c) in
-            elim (Contains-append_cases (each move.proc).sent new x at_proc) [
-              | inl old ↦ stays x (h.of_own move.proc x old)
-              | inr here ↦ rw grown (Contains-append_right w.sent new x here)
-            ]
-        back p false is x c = stays x (h.of_own p x c)
 
 pub sent_by_moves : (first : List Packet) (w : World) (each : ℕ → Own) (moves : List RingMove) → IsSentBy first w each → IsSentBy first (run w moves) (λ p. with_acts (each p) (acts_of p moves))
 sent_by_moves first w each [] h = h

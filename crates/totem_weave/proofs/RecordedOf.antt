@@ -1,28 +1,16 @@
 -- The ring knows its members by identifier: what is recorded of an identifier is what the book of its member's life reports.
-use Rattle.totem_weave.proofs.Common.{◌≡◌, ℕ, zero, suc, ◌==◌, ◌<◌, ◌⊎◌, inl, inr, List, [], ◌∷◌, map, length, slice_get, Some, Bool, true, false, if◌then◌else◌, refl, sym, ◌∙◌, ap, subst, eqb-true, arith, Contains, IsStrictlyIncreasing, eq-eqb, length-map, Contains-append_right, RingName, id_of, Act, ids_of, Closed, recorded, recorded_of, AreTracksOf}
+use Rattle.totem_weave.proofs.Common.{nat_tests, cond_both, ◌≡◌, ℕ, zero, suc, ◌==◌, ◌<◌, ◌⊎◌, inl, inr, List, [], ◌∷◌, map, length, slice_get, Some, refl, sym, ◌∙◌, ap, eqb-true, arith, Contains, IsStrictlyIncreasing, length-map, Contains-append_right, RingName, id_of, Act, ids_of, Closed, recorded, recorded_of, AreTracksOf}
 use Rattle.totem_weave.specs.declared.track.Track.{Track}
 use Rattle.totem_weave.proofs.RisingIds.{rises, id_at}
 use Rattle.totem_weave.proofs.TracksOf.{SayOf, OfMembers}
-
-pub same_cons : {X : Type 0} {x y : X} {xs ys : List X} → x ≡ y → xs ≡ ys → x ∷ xs ≡ y ∷ ys
-same_cons {X} {x} {y} {xs} {ys} head tail = ap (λ z. z ∷ xs) head ∙ ap (λ zs. y ∷ zs) tail
 
 -- the first member of an identifier is the one that is meant
 recorded_of_first : (ring : RingName) (books : List Closed) (members : List ℕ) (k p : ℕ) → slice_get members k ≡ Some p
     → ((j q : ℕ) → j < k → slice_get members j ≡ Some q → id_of q < id_of p) → recorded_of ring books members (id_of p) ≡ recorded ring books p
 recorded_of_first ring books [] k p at below = absurd cc
-recorded_of_first ring books (q ∷ members) zero p at below =
-    let same : q ≡ p = cc in
-    let own : recorded_of ring books (q ∷ members) (id_of q) ≡ recorded ring books q =
-    ap (λ (b : Bool). if b then recorded ring books q else recorded_of ring books members (id_of q)) (eq-eqb (id_of q) (id_of q) refl) in
-    subst (λ (r : ℕ). recorded_of ring books (q ∷ members) (id_of r) ≡ recorded ring books r) same own
+recorded_of_first ring books (q ∷ members) zero p at below = grind (arith, nat_tests)
 recorded_of_first ring books (q ∷ members) (suc k) p at below =
-    go (id_of p == id_of q) refl (recorded_of_first ring books members k p at (λ j r lt at_j. below (suc j) r (omega arith) at_j))
-  where
-    go : (b : Bool) → (id_of p == id_of q) ≡ b → recorded_of ring books members (id_of p) ≡ recorded ring books p
-        → (if b then recorded ring books q else recorded_of ring books members (id_of p)) ≡ recorded ring books p
-    go true is rest = (let less = below 0 q (omega arith) refl in absurd (omega (arith, less, eqb-true (id_of p) (id_of q) is)))
-    go false is rest = rest
+    grind (arith, nat_tests, below 0 q (omega arith) refl, recorded_of_first ring books members k p at (λ j r lt at_j. below (suc j) r (omega arith) at_j))
 
 -- what is recorded of a member's identifier is what is recorded of the member
 pub recorded_at : (ring : RingName) (books : List Closed) (members : List ℕ) (k p : ℕ) → IsStrictlyIncreasing (ids_of members) → slice_get members k ≡ Some p
@@ -33,18 +21,15 @@ recorded_at ring books members k p rising at =
 -- who is no member recorded nothing
 pub recorded_of_members : (ring : RingName) (books : List Closed) (members : List ℕ) → OfMembers (recorded_of ring books members) (ids_of members)
 recorded_of_members ring books [] id = inl refl
-recorded_of_members ring books (p ∷ members) id = go (id == id_of p) refl (recorded_of_members ring books members id)
-  where
-    go : (b : Bool) → (id == id_of p) ≡ b → (recorded_of ring books members id ≡ []) ⊎ Contains (ids_of members) id
-        → ((if b then recorded ring books p else recorded_of ring books members id) ≡ []) ⊎ Contains (ids_of (p ∷ members)) id
-    go true is rest = inr (0, omega arith, sym (eqb-true id (id_of p) is))
-    go false is rest = elim rest [ inl none ↦ inl none | inr member ↦ inr (Contains-append_right (id_of p ∷ []) (ids_of members) id member) ]
+recorded_of_members ring books (p ∷ members) id =
+    cond_both (id == id_of p) _ _ (λ acts. (acts ≡ []) ⊎ Contains (ids_of (p ∷ members)) id) (λ is. inr (0, omega arith, sym (eqb-true id (id_of p) is)))
+    (λ other. elim (recorded_of_members ring books members id) [ inl none ↦ inl none | inr member ↦ inr (Contains-append_right (id_of p ∷ []) (ids_of members) id member) ])
 
 -- what is said of each member is said of its identifier
 by_ids : (f g : ℕ → List Act) (members : List ℕ) → ((k p : ℕ) → slice_get members k ≡ Some p → f (id_of p) ≡ g p)
     → map {B = ℕ × List Act} (λ p. (id_of p, g p)) members ≡ map {B = ℕ × List Act} (λ id. (id, f id)) (ids_of members)
 by_ids f g [] each = refl
-by_ids f g (p ∷ members) each = same_cons (ap (λ acts. (id_of p, acts)) (sym (each 0 p refl))) (by_ids f g members (λ k q at. each (suc k) q at))
+by_ids f g (p ∷ members) each = rw (each 0 p refl, by_ids f g members (λ k q at. each (suc k) q at))
 
 -- the tracks of books say of each identifier what is recorded of it
 pub tracks_say : (ring : RingName) (books : List Closed) (members : List ℕ) (tracks : List Track) → IsStrictlyIncreasing (ids_of members) → AreTracksOf ring books members tracks
@@ -66,12 +51,5 @@ pub track_at : (ring : RingName) (books : List Closed) (members : List ℕ) (tra
     → slice_get members k ≡ Some p → slice_get tracks k ≡ Some t → IsTrackOf ring books p t
 track_at ring books [] tracks k p t are at_p at_t = absurd cc
 track_at ring books (q ∷ members) [] k p t are at_p at_t = absurd cc
-track_at ring books (q ∷ members) (u ∷ tracks) zero p t are at_p at_t =
-    let first : ◌≡◌ {A = ℕ × List Act} (u.proc, u.acts.items) (id_of q, recorded ring books q) = cc in
-    let member : q ≡ p = cc in
-    let track : u ≡ t = cc in
-    let own : IsTrackOf ring books q u = record { proc = ap (λ x. x.0) first; acts = ap (λ x. x.1) first } in
-    subst (λ (v : Track). IsTrackOf ring books p v) track (subst (λ (r : ℕ). IsTrackOf ring books r u) member own)
-track_at ring books (q ∷ members) (u ∷ tracks) (suc k) p t are at_p at_t =
-    let others : AreTracksOf ring books members tracks = cc in
-    track_at ring books members tracks k p t others at_p at_t
+track_at ring books (q ∷ members) (u ∷ tracks) zero p t are at_p at_t = grind arith
+track_at ring books (q ∷ members) (u ∷ tracks) (suc k) p t are at_p at_t = grind (arith, track_at ring books members tracks k p t)

@@ -5,11 +5,7 @@ use Rattle.std.proofs.lemmas.List.Kept.{AllPairs-from_increasing}
 -- the one in front is the lesser
 pub rises : (ns : List ℕ) (j k m n : ℕ) → IsStrictlyIncreasing ns → slice_get ns j ≡ Some m → slice_get ns k ≡ Some n → j < k → m < n
 rises ns j k m n rising at_j at_k lt =
-    let pairs = AllPairs-from_increasing ns rising in
-    let less = pairs j k 0 lt (slice_get_within ns k n at_k) in
-    let at_m : get_or ns j 0 ≡ m = get_or_from_slice_get ns j m 0 at_j in
-    let at_n : get_or ns k 0 ≡ n = get_or_from_slice_get ns k n 0 at_k in
-    omega (arith, less, at_m, at_n)
+    grind (arith, AllPairs-from_increasing ns rising j k 0 lt, slice_get_within ns k n at_k, get_or_from_slice_get ns j m 0 at_j, get_or_from_slice_get ns k n 0 at_k)
 
 pub id_at : (members : List ℕ) (k p : ℕ) → slice_get members k ≡ Some p → slice_get (ids_of members) k ≡ Some (id_of p)
 id_at members k p at = slice_get-map id_of members k ∙ rw at refl

@@ -21,19 +21,12 @@ is_said f [] (t ∷ ts) e = absurd cc
 is_said f (p ∷ ps) (t ∷ ts) e =
     let first : ◌≡◌ {A = ℕ × List Act} (t.proc, t.acts.items) (p, f p) = cc in
     let others : SayOf f ps ts = cc in
-    let proc : t.proc ≡ p = ap (λ x. x.0) first in
     let rest = is_said f ps ts others in
-    record {
-      procs = ap (λ q. q ∷ procs_of ts) proc ∙ ap (λ qs. p ∷ qs) rest.procs;
-      acts = go proc (ap (λ x. x.1) first) rest;
-    }
+    record { procs = grind arith; acts = said rest first }
   where
-    go : t.proc ≡ p → t.acts.items ≡ f p → IsSaid f ps ts → (k : ℕ) (u : Track) → slice_get (t ∷ ts) k ≡ Some u → u.acts.items ≡ f u.proc
-    go proc acts rest zero u at =
-        let same : t ≡ u = cc in
-        let P : Track → Type 0 = λ v. v.acts.items ≡ f v.proc in
-        subst P same (acts ∙ ap f (sym proc))
-    go proc acts rest (suc k) u at = rest.acts k u at
+    said : IsSaid f ps ts → ◌≡◌ {A = ℕ × List Act} (t.proc, t.acts.items) (p, f p) → (k : ℕ) (u : Track) → slice_get (t ∷ ts) k ≡ Some u → u.acts.items ≡ f u.proc
+    said rest first zero u at = grind arith
+    said rest first (suc k) u at = rest.acts k u at
 
 proc_at : (tracks : List Track) (k : ℕ) (t : Track) → slice_get tracks k ≡ Some t → slice_get (procs_of tracks) k ≡ Some t.proc
 proc_at tracks k t at = slice_get-map (λ (u : Track). u.proc) tracks k ∙ rw at refl
@@ -43,13 +36,7 @@ pub rises_at : (tracks : List Track) (j k : ℕ) (t u : Track) → IsStrictlyInc
 rises_at tracks j k t u rising at_j at_k lt = rises (procs_of tracks) j k t.proc u.proc rising (proc_at tracks j t at_j) (proc_at tracks k u at_k) lt
 
 pub rising_are_apart : (tracks : List Track) → IsStrictlyIncreasing (procs_of tracks) → AreApart tracks
-rising_are_apart tracks rising j k t u at_j at_k same = elim (cases_eq j k) [
-  | inl here ↦ here
-  | inr other ↦ elim (cases_lt j k) [
-    | inl lt ↦ (let less = rises_at tracks j k t u rising at_j at_k lt in absurd (omega (arith, less, same)))
-    | inr ge ↦ (let less = rises_at tracks k j u t rising at_k at_j (omega arith) in absurd (omega (arith, less, same)))
-  ]
-]
+rising_are_apart tracks rising j k t u at_j at_k same = grind (arith, rises_at tracks j k t u rising at_j at_k, rises_at tracks k j u t rising at_k at_j)
 
 -- a member has its track
 track_of_member : (tracks : List Track) (p : ℕ) → Contains (procs_of tracks) p → (k : ℕ) × (t : Track) × (slice_get tracks k ≡ Some t) × (p ≡ t.proc)

@@ -1,5 +1,5 @@
 -- A weave with one more move.
-use Rattle.totem_weave.proofs.Common.{◌≡◌, ◌≢◌, ℕ, zero, suc, ◌+◌, ◌==◌, ◌<◌, ◌≤◌, ◌⊎◌, inl, inr, List, [], ◌∷◌, ◌++◌, map, set, length, get_or, slice_get, Bool, true, false, if◌then◌else◌, Option, Some, None, Result, Ok, Err, refl, sym, ◌∙◌, ap, subst, append-nil, eqb-true, arith, Contains, IsOk, cases_eq, eq-eqb, ne_eqb, get_or-set_same, get_or-set_other, length-set, length_push, slice_get_read, slice_get_within, get_or_from_slice_get, slice_get-get_or, slice_get-map, RingName, Packet, RingFault, RingOut, Act, RingMove, Ring, Done, act_on, World, happens, world_after, run, MayCome, IsSchedule, IsPrefixOf, Sending, acts_of, CanAct, NoneRefused, IsWeave, IsStuck, next_step, AreOne, IsIndexOf, AddsAll, IsTaken, IsHeldUp, TakesNext, procs_of, steps_of, AreApart, start_of, seat_after, IsUnderWay, IsHeldUpAt, IsThrough, IsFirstLeft}
+use Rattle.totem_weave.proofs.Common.{nat_tests, common_steps, ◌≡◌, ◌≢◌, ℕ, zero, suc, ◌+◌, ◌==◌, ◌<◌, ◌≤◌, ◌⊎◌, inl, inr, List, [], ◌∷◌, ◌++◌, map, set, length, get_or, slice_get, Bool, true, false, if◌then◌else◌, Option, Some, None, Result, Ok, Err, refl, sym, ◌∙◌, ap, subst, append-nil, eqb-true, arith, Contains, IsOk, cases_eq, eq-eqb, ne_eqb, length-set, length_push, slice_get_read, slice_get_within, get_or_from_slice_get, slice_get-get_or, slice_get-map, RingName, Packet, RingFault, RingOut, Act, RingMove, Ring, Done, act_on, World, happens, world_after, run, MayCome, IsSchedule, IsPrefixOf, Sending, acts_of, CanAct, NoneRefused, IsWeave, IsStuck, next_step, AreOne, IsIndexOf, AddsAll, IsTaken, IsHeldUp, TakesNext, procs_of, steps_of, AreApart, start_of, seat_after, IsUnderWay, IsHeldUpAt, IsThrough, IsFirstLeft}
 use Rattle.totem_ring.proofs.Prefixes.{goes_on}
 use Rattle.totem_weave.specs.declared.track.Track.{Track}
 use Rattle.totem_weave.specs.declared.seat.Seat.{Seat}
@@ -7,7 +7,7 @@ use Rattle.totem_weave.specs.declared.weaver.Weaver.{Weaver}
 use Rattle.totem_weave.specs.declared.sent.Sent.{Sent}
 use Rattle.totem_weave.proofs.Indexing.{sent_are_one, coming_is, may_come_is}
 use Rattle.totem_weave.proofs.OthersActs.{members-run}
-use Rattle.totem_weave.proofs.Greatest.{same_from_length, acts_of-append, acts_of-own, acts_of-other}
+use Rattle.totem_weave.proofs.Greatest.{same_from_length, acts_of-append}
 
 -- one move more at the end
 run-snoc : (w : World) (moves : List RingMove) (move : RingMove) → run w (moves ++ move ∷ []) ≡ happens (run w moves) move
@@ -22,20 +22,12 @@ refused-snoc : (w : World) (moves : List RingMove) (move : RingMove) → NoneRef
 refused-snoc w [] move none taken = (taken, tt)
 refused-snoc w (m ∷ moves) move none taken = (none.0, refused-snoc (happens w m) moves move none.1 taken)
 
-apart_rest : (t : Track) (ts : List Track) → AreApart (t ∷ ts) → AreApart ts
-apart_rest t ts apart j k u v at_j at_k same = let next : suc j ≡ suc k = apart (suc j) (suc k) u v at_j at_k same in cc
-
 -- the steps of a track's process are its acts
 pub steps_of-at : (tracks : List Track) (k : ℕ) (t : Track) → AreApart tracks → slice_get tracks k ≡ Some t → steps_of tracks t.proc ≡ t.acts.items
 steps_of-at [] k t apart at = absurd cc
-steps_of-at (u ∷ us) zero t apart at =
-    let same : u ≡ t = cc in
-    rw same (ap (λ (b : Bool). if b then t.acts.items else steps_of us t.proc) (eq-eqb t.proc t.proc refl))
-steps_of-at (u ∷ us) (suc k) t apart at = go (t.proc == u.proc) refl (steps_of-at us k t (apart_rest u us apart) at)
-  where
-    go : (b : Bool) → (t.proc == u.proc) ≡ b → steps_of us t.proc ≡ t.acts.items → (if b then u.acts.items else steps_of us t.proc) ≡ t.acts.items
-    go true is rest = let none : suc k ≡ zero = apart (suc k) zero t u at refl (eqb-true t.proc u.proc is) in absurd cc
-    go false is rest = rest
+steps_of-at (u ∷ us) zero t apart at = grind (arith, nat_tests)
+steps_of-at (u ∷ us) (suc k) t apart at =
+    grind (arith, nat_tests, apart (suc k) zero t u at refl, steps_of-at us k t (λ i j v w at_i at_j same. let next : suc i ≡ suc j = apart (suc i) (suc j) v w at_i at_j same in cc) at)
 
 -- a process has a track, or no steps
 pub track_or_none : (tracks : List Track) (p : ℕ) → ((k : ℕ) × (t : Track) × (slice_get tracks k ≡ Some t) × (p ≡ t.proc)) ⊎ (steps_of tracks p ≡ [])
@@ -53,15 +45,10 @@ member_is tracks k t at =
     (k, slice_get_within (procs_of tracks) k t.proc there, get_or_from_slice_get (procs_of tracks) k t.proc t.proc there)
 
 slice_get-set_same : {X : Type 0} (xs : List X) (k : ℕ) (x : X) → k < length xs → slice_get (set xs k x) k ≡ Some x
-slice_get-set_same xs k x lt =
-    let within : k < length (set xs k x) = rw length-set lt in
-    slice_get-get_or (set xs k x) k x within ∙ ap Some (get_or-set_same xs k x x lt)
+slice_get-set_same xs k x lt = grind (arith, common_steps, slice_get-get_or (set xs k x) k x)
 
 slice_get-set_other : {X : Type 0} (xs : List X) (i k : ℕ) (x y : X) → k ≢ i → slice_get xs k ≡ Some y → slice_get (set xs i x) k ≡ Some y
-slice_get-set_other xs i k x y other at =
-    let lt : k < length xs = slice_get_within xs k y at in
-    let within : k < length (set xs i x) = rw length-set lt in
-    slice_get-get_or (set xs i x) k y within ∙ ap Some (get_or-set_other xs i k x y other ∙ get_or_from_slice_get xs k y y at)
+slice_get-set_other xs i k x y other at = grind (arith, common_steps, slice_get-get_or (set xs i x) k y, slice_get_within xs k y at, get_or_from_slice_get xs k y y at)
 
 -- a member that can't take its next step
 pub held_up_at : (tracks : List Track) (w : Weaver) (place : ℕ) (t : Track) (new : Seat) → AreApart tracks → IsUnderWay tracks w → slice_get tracks place ≡ Some t
@@ -108,10 +95,10 @@ abbrev pub the_move : Track → Act → RingMove
 the_move t act = record { proc = t.proc; act = act }
 
 acts_of-mine : (p : ℕ) (moves : List RingMove) (move : RingMove) → (p == move.proc) ≡ true → acts_of p (moves ++ move ∷ []) ≡ acts_of p moves ++ move.act ∷ []
-acts_of-mine p moves move is = acts_of-append p moves (move ∷ []) ∙ ap (λ acts. acts_of p moves ++ acts) (acts_of-own p move [] is)
+acts_of-mine p moves move is = acts_of-append p moves (move ∷ []) ∙ rw is
 
 acts_of-theirs : (p : ℕ) (moves : List RingMove) (move : RingMove) → (p == move.proc) ≡ false → acts_of p (moves ++ move ∷ []) ≡ acts_of p moves
-acts_of-theirs p moves move is = acts_of-append p moves (move ∷ []) ∙ ap (λ acts. acts_of p moves ++ acts) (acts_of-other p move [] is) ∙ append-nil (acts_of p moves)
+acts_of-theirs p moves move is = acts_of-append p moves (move ∷ []) ∙ rw is (append-nil (acts_of p moves))
 
 weave_more : (ring : RingName) (tracks : List Track) (moves : List RingMove) (t : Track) (act : Act) (done : Done) → IsNext ring tracks moves t act done
     → IsWeave (start_of ring tracks) (steps_of tracks) moves → IsWeave (start_of ring tracks) (steps_of tracks) (moves ++ the_move t act ∷ [])
@@ -139,7 +126,7 @@ state_elsewhere : (w : World) (p : ℕ) (act : Act) (done : Done) (q : ℕ) → 
 state_elsewhere w p act done q is = ap (λ (b : Bool). if b then done.state else w.state q) is
 
 seat_is : (seat : Seat) (state : Ring) (next : ℕ) → seat.state ≡ state → seat.next ≡ next → seat ≡ record { state = state; next = next }
-seat_is seat state next same_state same_next = ap (λ s. let new : Seat = record { state = s; next = seat.next } in new) same_state ∙ ap (λ n. let new : Seat = record { state = state; next = n } in new) same_next
+seat_is seat state next same_state same_next = rw (← same_state, ← same_next)
 
 -- its seat after the step
 seat_there : (ring : RingName) (tracks : List Track) (moves : List RingMove) (t : Track) (act : Act) (done : Done) (seat : Seat) → IsNext ring tracks moves t act done
