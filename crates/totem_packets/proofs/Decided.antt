@@ -1,12 +1,13 @@
 -- The laws of the bytes of packets.
-use Rattle.totem_packets.proofs.Common.{◌==◌, ◌⊎◌, IfOk, ◌≡◌, ◌≢◌, ℕ, ◌<◌, ◌↔◌, List, [], ◌∷◌, ◌++◌, length, false, cond, Result, Ok, Err, refl, sym, ap, subst, ◌∙◌, append_assoc, arith, inl, inr, w8, eqb-true, eqb-false, ne_eqb, append-nil, nil_from_length, length-append, ◌>>=◌, Parsed, AreBytes, Gives, IsOfNoKind, HasMore, IsFirstWrong, IsPacket, bind_ok, taken, guard_then, parsed_is}
+use Rattle.totem_packets.proofs.Common.{◌==◌, ◌⊎◌, IfOk, ◌≡◌, ◌≢◌, ℕ, ◌<◌, ◌↔◌, List, [], ◌∷◌, ◌++◌, length, false, cond, Result, Ok, Err, refl, sym, ap, subst, ◌∙◌, append_assoc, arith, w8, eqb-true, eqb-false, ne_eqb, append-nil, nil_from_length, length-append, ◌>>=◌, Parsed, AreBytes, Gives, IsOfNoKind, HasMore, IsFirstWrong, IsPacket, bind_ok, taken, guard_then, parsed_is}
+use Rattle.std.proofs.lemmas.Bool.Decides.{nat_tests}
 use Rattle.totem_packets.specs.declared.fault.PacketFault.{PacketFault}
 use Rattle.totem_packets.specs.declared.fault.PacketFault.TheVariants.{Short, Kind, Range, Trailing, Memory}
 use Rattle.totem_packets.specs.declared.packet.Packet as packet
 use Rattle.totem_packets.specs.Grammar.{packet_of, packet_at, decode_packet}
 use Rattle.totem_packets.specs.Spelling.{packet_bytes}
 use Rattle.totem_packets.proofs.FirstByte.{kind_at, none_at}
-use Rattle.totem_packets.proofs.Following.{Follows, HasFaultOf, IsOfField}
+use Rattle.totem_packets.proofs.Following.{Follows}
 use Rattle.totem_packets.proofs.Staying.{IsParser, IsField, bind_field, cond_field, fault_field, number_field, message_packet_field, token_packet_field, join_packet_field, commit_packet_field, later_commit_packet_field}
 use Rattle.totem_packets.proofs.TakenPackets.{packet_taking, packet_again}
 
@@ -16,10 +17,6 @@ use Rattle.totem_packets.proofs.TakenPackets.{packet_taking, packet_again}
 whole_fault : (bytes : List ℕ) (f : PacketFault) → packet_at bytes ≡ Err f → decode_packet bytes ≡ Err f
 unfolding decode_packet
 whole_fault bytes f e = rw e refl
-
-whole_ok : (bytes : List ℕ) (p : packet.Packet) → packet_at bytes ≡ Ok (p, []) → decode_packet bytes ≡ Ok p
-unfolding decode_packet
-whole_ok bytes p e = rw e refl
 
 whole_more : (bytes : List ℕ) (p : packet.Packet) (b : ℕ) (rest : List ℕ) → packet_at bytes ≡ Ok (p, b ∷ rest) → decode_packet bytes ≡ Err Trailing
 unfolding decode_packet
@@ -57,7 +54,8 @@ alone : (p : packet.Packet) → IsPacket p → packet_at (packet_bytes p) ≡ Ok
 alone p fits = ap packet_at (sym (append-nil (packet_bytes p))) ∙ packet_again p [] fits
 
 pub spelled_read : (p : packet.Packet) → IsPacket p → decode_packet (packet_bytes p) ≡ Ok p
-spelled_read p fits = whole_ok (packet_bytes p) p (alone p fits)
+unfolding decode_packet
+spelled_read p fits = rw (alone p fits) refl
 
 pub begins_no_other : (a b : packet.Packet) (more rest : List ℕ) → IsPacket a → IsPacket b → packet_bytes a ++ more ≡ packet_bytes b ++ rest → (a ≡ b) × (more ≡ rest)
 begins_no_other a b more rest fits others e = parsed_is a b more rest (sym (packet_again a more fits) ∙ ap packet_at e ∙ packet_again b rest others)
@@ -73,15 +71,7 @@ IsOfPacket Memory = ⊥
 
 -- a field's faults are a packet's
 widen : {Y : Type 0} (parse : List ℕ → Parsed Y) → IsField parse → IsParser IsOfPacket parse
-widen {Y = Y} parse field = record { stays = field.stays; fault = λ bytes. go (parse bytes) (field.fault bytes) }
-  where
-    go : (r : Parsed Y) → HasFaultOf IsOfField r → HasFaultOf IsOfPacket r
-    go (Ok x) h = tt
-    go (Err Short) h = tt
-    go (Err Range) h = tt
-    go (Err Kind) h = tt
-    go (Err Trailing) h = h
-    go (Err Memory) h = h
+widen parse field = record { stays = field.stays; fault = λ bytes. grind (arith, field.fault bytes) }
 
 packet_parser : IsParser IsOfPacket packet_at
 unfolding packet_at packet_of
@@ -147,9 +137,9 @@ kind_of : (kind : ℕ) (rest : List ℕ) → packet_of kind rest ≡ Err Kind �
 unfolding packet_of
 kind_of kind rest e = grind (arith, past, message_packet_field, token_packet_field, join_packet_field, commit_packet_field, later_commit_packet_field)
 
-kind_from : (kind : ℕ) (rest : List ℕ) → kind ≢ 1 → kind ≢ 2 → kind ≢ 3 → kind ≢ 4 → kind ≢ 5 → packet_of kind rest ≡ Err Kind
+kind_from : (kind : ℕ) (rest : List ℕ) → (kind ≡ 0) ⊎ (5 < kind) → packet_of kind rest ≡ Err Kind
 unfolding packet_of
-kind_from kind rest a b c d f = rw (ne_eqb _ _ a, ne_eqb _ _ b, ne_eqb _ _ c, ne_eqb _ _ d, ne_eqb _ _ f) refl
+kind_from kind rest other = grind (arith, nat_tests)
 
 pub kind_is_first : (bytes : List ℕ) → (decode_packet bytes ≡ Err Kind) ↔ IsOfNoKind bytes
 kind_is_first bytes = (λ e. there bytes e, λ h. back bytes h)
@@ -160,10 +150,7 @@ kind_is_first bytes = (λ e. there bytes e, λ h. back bytes h)
 
     back : (bytes : List ℕ) → IsOfNoKind bytes → decode_packet bytes ≡ Err Kind
     back [] h = absurd h
-    back (kind ∷ rest) h = whole_fault (kind ∷ rest) Kind (packet_kind kind rest ∙ elim h [
-      | inl e ↦ kind_from kind rest (λ k. omega (arith, e, k)) (λ k. omega (arith, e, k)) (λ k. omega (arith, e, k)) (λ k. omega (arith, e, k)) (λ k. omega (arith, e, k))
-      | inr e ↦ kind_from kind rest (λ k. omega (arith, e, k)) (λ k. omega (arith, e, k)) (λ k. omega (arith, e, k)) (λ k. omega (arith, e, k)) (λ k. omega (arith, e, k))
-    ])
+    back (kind ∷ rest) h = whole_fault (kind ∷ rest) Kind (packet_kind kind rest ∙ kind_from kind rest h)
 
 -- ---- the faults of a packet
 

@@ -1,5 +1,7 @@
 -- The lives that a packet can give: where it doesn't carry them, each is the first.
-use Rattle.totem_packets.proofs.Common.{◌≡◌, ℕ, ◌<◌, List, [], ◌∷◌, Bool, true, false, ◌||◌, refl, arith, All, nat_lt, ltb-false, le-ltb, All-cons, All-head, All-tail, IsCommitMember, reported_life, has_later_life}
+use Rattle.totem_packets.proofs.Common.{◌≡◌, ℕ, List, false, refl, arith, All, nat_lt, le-ltb, IsCommitMember, reported_life, has_later_life}
+use Rattle.std.proofs.lemmas.Bool.Decides.{nat_tests}
+use Rattle.std.proofs.lemmas.List.Folds.{list_any_none, list_any_at}
 use Rattle.totem_packets.specs.declared.commit_member.CommitMember.{CommitMember}
 use Rattle.totem_packets.specs.declared.lives.Lives.{Lives}
 use Rattle.totem_packets.specs.declared.lives.Lives.TheVariants.{Untold, Told}
@@ -22,23 +24,9 @@ gives_each members = λ k d within. tt
 
 -- where reports carry no lives, none is above the first
 pub none_later : (members : List CommitMember) → GivesLives Untold members → has_later_life members ≡ false
-none_later [] given = refl
-none_later (m ∷ ms) given =
-    let first : nat_lt 1 (reported_life m.report) ≡ false = le-ltb _ _ (omega (arith, All-head (λ (m : CommitMember). reported_life m.report ≡ 1) m ms given)) in
-    rw first (none_later ms (All-tail (λ (m : CommitMember). reported_life m.report ≡ 1) m ms given))
-
--- a life of a member is at least 1
-life_positive : (m : CommitMember) → IsCommitMember m → 0 < reported_life m.report
-life_positive m is = grind arith
+none_later members given = list_any_none (λ m. nat_lt 1 (reported_life m.report)) members (λ k d within. le-ltb _ _ (omega (arith, given k d within)))
 
 -- where none is above the first, reports need not carry lives
 pub first_each : (members : List CommitMember) → All IsCommitMember members → has_later_life members ≡ false → GivesLives Untold members
-first_each [] each none = λ k d within. absurd (omega arith)
-first_each (m ∷ ms) each none = go (nat_lt 1 (reported_life m.report)) refl none (first_each ms (All-tail IsCommitMember m ms each))
-  where
-    go : (t : Bool) → nat_lt 1 (reported_life m.report) ≡ t → (t || has_later_life ms) ≡ false → (has_later_life ms ≡ false → GivesLives Untold ms) → GivesLives Untold (m ∷ ms)
-    go true e none others = absurd cc
-    go false e none others =
-        All-cons (λ (m : CommitMember). reported_life m.report ≡ 1) m ms
-        (omega (arith, ltb-false _ _ e, life_positive m (All-head IsCommitMember m ms each)))
-        (others none)
+first_each members each none = λ k d within.
+    grind (arith, nat_tests, list_any_at (λ m. nat_lt 1 (reported_life m.report)) members k d, each k d within)

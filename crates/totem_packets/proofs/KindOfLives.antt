@@ -1,6 +1,6 @@
 -- The first byte of a packet, and whether a member reports from a later life.
 use Rattle.std.proofs.Common.{arith}
-use Rattle.totem_packets.proofs.Common.{nat_lt, ◌||◌, ◌≡◌, ℕ, zero, suc, ◌<◌, ◌↔◌, List, [], ◌∷◌, slice_get, Some, Bool, true, false, refl, ltb-true, lt-ltb, has_later_life, reported_life, TellsLaterLife}
+use Rattle.totem_packets.proofs.Common.{nat_lt, ◌||◌, ◌≡◌, ℕ, zero, suc, ◌<◌, ◌↔◌, List, [], ◌∷◌, slice_get, Some, true, refl, ltb-true, lt-ltb, cases_Bool, inl, inr, has_later_life, reported_life, TellsLaterLife}
 use Rattle.std.proofs.lemmas.Map.Keys.{any_passes_from_place}
 use Rattle.totem_packets.specs.declared.commit_member.CommitMember.{CommitMember}
 use Rattle.totem_packets.specs.declared.packet.Packet as packet
@@ -12,14 +12,13 @@ Later members = (at : ℕ) × (member : CommitMember) × (slice_get members at �
 
 later_at : (members : List CommitMember) → has_later_life members ≡ true → Later members
 later_at [] has = absurd cc
-later_at (m ∷ members) has = by (nat_lt 1 (reported_life m.report)) refl (later_at members)
-  where
-    further : Later members → Later (m ∷ members)
-    further (at, member, is, later) = (suc at, member, is, later)
-
-    by : (first : Bool) → nat_lt 1 (reported_life m.report) ≡ first → (has_later_life members ≡ true → Later members) → Later (m ∷ members)
-    by true is rest = (zero, m, refl, ltb-true _ _ is)
-    by false is rest = further (rest (let h : (nat_lt 1 (reported_life m.report) || has_later_life members) ≡ true = has in rw is at h))
+later_at (m ∷ members) has = elim (cases_Bool (nat_lt 1 (reported_life m.report))) [
+  | inl is ↦ (zero, m, refl, ltb-true _ _ is)
+  | inr is ↦
+      let h : (nat_lt 1 (reported_life m.report) || has_later_life members) ≡ true = has in
+      let further = later_at members (rw is at h) in
+      (suc further.0, further.1, further.2, further.3)
+]
 
 -- a member with a later life makes the test true
 later_of : (members : List CommitMember) (at : ℕ) (member : CommitMember) → slice_get members at ≡ Some member → 1 < reported_life member.report → has_later_life members ≡ true

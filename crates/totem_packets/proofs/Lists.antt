@@ -1,7 +1,13 @@
 -- What is read as an ascending list keeps the rules of the list.
-use Rattle.totem_packets.proofs.Common.{All, ◌≡◌, ℕ, zero, suc, ◌<◌, ◌≤◌, List, [], ◌∷◌, length, Ok, refl, ap, arith, Width, w8, w16, w32, ltb-true, leb-true, IsProcess, ◌>>=◌, Parsed, IsNumber, IsRequests, IsProcesses, after, guard_then, parsed_is}
+use Rattle.totem_packets.proofs.Common.{All, ◌≡◌, ℕ, zero, suc, ◌<◌, ◌≤◌, List, [], length, Result, Ok, Err, refl, arith, Width, w8, w16, w32, ltb-true, leb-true, IsProcess, ◌>>=◌, Parsed, IsNumber, IsRequests, IsProcesses, after, guard_then, parsed_is}
 use Rattle.totem_packets.specs.Fields.{above_at, up_to_at, rising_at}
 use Rattle.totem_packets.proofs.Chains.{Rises, pairs_rise}
+
+-- what was read first, and what was read then
+pub first_read : {A B E : Type 0} (r : Result (A × List ℕ) E) (f : A × List ℕ → Result B E) (y : B) → (r >>= f) ≡ Ok y
+    → (x : A) × (rest : List ℕ) × (r ≡ Ok (x, rest)) × (f (x, rest) ≡ Ok y)
+first_read (Ok x) f y e = (x.0, x.1, refl, e)
+first_read (Err d) f y e = absurd cc
 
 -- a number that was read is above the given one
 pub above_is : (w : Width) (least : ℕ) (bytes : List ℕ) (n : ℕ) (rest : List ℕ) → above_at w least bytes ≡ Ok (n, rest) → least < n
@@ -25,11 +31,7 @@ pub record IsRow {Y : Type 0} (number_of : Y → ℕ) (count last : ℕ) (ys : L
 pub row_is : {Y : Type 0} (one_above : ℕ → List ℕ → Parsed Y) (number_of : Y → ℕ) → IsAbove one_above number_of → (count last : ℕ) (bytes : List ℕ) (ys : List Y) (rest : List ℕ) → rising_at one_above number_of count last bytes ≡ Ok (ys, rest) → IsRow number_of count last ys
 unfolding rising_at
 row_is one_above number_of one zero last bytes ys rest e = rw (← (parsed_is [] ys bytes rest e).0) (record { rises = tt; long = refl })
-row_is one_above number_of one (suc n) last bytes ys rest e =
-    after (one_above last bytes) (λ first. rising_at one_above number_of n (number_of first.0) first.1 >>= λ others. Ok (first.0 ∷ others.0, others.1)) (ys, rest) e (λ first mid e1 more.
-    after (rising_at one_above number_of n (number_of first) mid) (λ others. Ok (first ∷ others.0, others.1)) (ys, rest) more (λ others left e2 made.
-    let row = row_is one_above number_of one n (number_of first) mid others left e2 in
-    rw (← (parsed_is (first ∷ others) ys left rest made).0) (record { rises = (one.above last bytes first mid e1, row.rises); long = ap suc row.long })))
+row_is one_above number_of one (suc n) last bytes ys rest e = grind (arith, first_read, one.above, row_is one_above number_of one n)
 
 pub numbers_above : (w : Width) → IsAbove (above_at w) (λ n. n)
 numbers_above w = record { above = λ last bytes y rest e. above_is w last bytes y rest e }

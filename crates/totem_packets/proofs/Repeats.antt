@@ -1,15 +1,11 @@
 -- Reading one element after the other, as a loop does.
-use Rattle.totem_packets.proofs.Common.{◌≡◌, ℕ, suc, ◌-◌, ◌+◌, ◌≤◌, ◌<◌, List, [], ◌∷◌, ◌++◌, Ok, Err, refl, sym, ap, ◌∙◌, append_assoc, arith, append-nil, ◌>>=◌, Parsed, Fails}
+use Rattle.totem_packets.proofs.Common.{◌≡◌, ℕ, suc, ◌-◌, ◌+◌, ◌≤◌, ◌<◌, List, [], ◌∷◌, ◌++◌, Ok, append_assoc, arith, append-nil, ◌>>=◌, Parsed, Fails}
 use Rattle.totem_packets.specs.declared.fault.PacketFault.{PacketFault}
 use Rattle.totem_packets.specs.Fields.{rising_at}
 
 -- what was read before, and what is still to be read
 abbrev pub with_front : {Y : Type 0} → List Y → Parsed (List Y) → Parsed (List Y)
 with_front front read = read >>= λ x. Ok (front ++ x.0, x.1)
-
-regroup : {Y : Type 0} (front : List Y) (y : Y) (read : Parsed (List Y)) → with_front front (read >>= λ x. Ok (y ∷ x.0, x.1)) ≡ with_front (front ++ y ∷ []) read
-regroup {Y = Y} front y (Ok x) = ap (λ (ys : List Y). Ok (ys, x.1)) (simp append_assoc)
-regroup front y (Err f) = refl
 
 -- the list so far and the result for the remaining bytes make the result for all bytes
 pub record IsReadTo {Y : Type 0} (one_above : ℕ → List ℕ → Parsed Y) (number_of : Y → ℕ) (front : List Y) (count i last : ℕ) (bytes : List ℕ) (total : Parsed (List Y)) : Type 0 where
@@ -19,9 +15,7 @@ pub goes_on : {Y : Type 0} (one_above : ℕ → List ℕ → Parsed Y) (number_o
     → IsReadTo one_above number_of front count i last bytes total → IsReadTo one_above number_of (front ++ y ∷ []) count (i + 1) (number_of y) after total
 unfolding rising_at
 goes_on one_above number_of front count i last bytes y after total lt h to =
-    let k : count - i ≡ suc (count - (i + 1)) = omega arith in
-    let one : with_front front (rising_at one_above number_of (count - i) last bytes) ≡ with_front (front ++ y ∷ []) (rising_at one_above number_of (count - (i + 1)) (number_of y) after) = rw (k, h) (regroup front y (rising_at one_above number_of (count - (i + 1)) (number_of y) after)) in
-    record { so_far = sym one ∙ to.so_far }
+    let k : count - i ≡ suc (count - (i + 1)) = omega arith in grind (arith, append_assoc)
 
 pub ends : {Y : Type 0} (one_above : ℕ → List ℕ → Parsed Y) (number_of : Y → ℕ) (fault : PacketFault) (front : List Y) (count i last : ℕ) (bytes : List ℕ) (total : Parsed (List Y)) → i < count → Fails fault (one_above last bytes)
     → IsReadTo one_above number_of front count i last bytes total → Fails fault total
@@ -31,6 +25,4 @@ ends one_above number_of fault front count i last bytes total lt h to = grind ar
 pub is_done : {Y : Type 0} (one_above : ℕ → List ℕ → Parsed Y) (number_of : Y → ℕ) (front : List Y) (count i last : ℕ) (bytes : List ℕ) (total : Parsed (List Y)) → count ≤ i → IsReadTo one_above number_of front count i last bytes total → total ≡ Ok (front, bytes)
 unfolding rising_at
 is_done {Y = Y} one_above number_of front count i last bytes total le to =
-    let k : count - i ≡ 0 = omega arith in
-    let one : with_front front (rising_at one_above number_of (count - i) last bytes) ≡ Ok (front, bytes) = rw k (ap (λ (ys : List Y). Ok (ys, bytes)) (append-nil front)) in
-    sym to.so_far ∙ one
+    let k : count - i ≡ 0 = omega arith in grind (arith, append-nil)

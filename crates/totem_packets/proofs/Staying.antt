@@ -1,8 +1,5 @@
 -- A parser's result does not change with what follows, unless there were too few bytes; and a field's fault is Short or Range.
-use Rattle.totem_packets.proofs.Common.{◌==◌, ℕ, zero, suc, List, [], ◌++◌, Bool, true, false, cond, Ok, Err, refl, arith, Width, w8, w16, w32, w64, byte_len, ltb-false, le-ltb, take-append-le, drop-append-le, length-append, ◌>>=◌, Parsed}
-use Rattle.totem_names.specs.declared.message.Service.{Service}
-use Rattle.totem_names.specs.declared.message.Service.TheVariants.{Agreed, Safe}
-use Rattle.totem_packets.specs.declared.commit.Round.TheVariants.{First, Second}
+use Rattle.totem_packets.proofs.Common.{ℕ, zero, suc, List, [], ◌++◌, Bool, true, false, cond, Ok, Err, refl, arith, Width, w8, w16, byte_len, ltb-false, le-ltb, take-append-le, drop-append-le, length-append, ◌>>=◌, Parsed}
 use Rattle.totem_packets.specs.declared.fault.PacketFault.{PacketFault}
 use Rattle.totem_packets.specs.declared.fault.PacketFault.TheVariants.{Range}
 use Rattle.totem_packets.specs.declared.lives.Lives.{Lives}
@@ -70,107 +67,51 @@ rising_field one_above number_of one (suc n) last = bind_field _ _ (one last) (�
 
 pub ring_field : IsField ring_at
 unfolding ring_at
-ring_field = bind_field _ _ (above_field w32 0) (λ seq. bind_field _ _ (above_field w16 0) (λ rep. gives_field _))
+ring_field = search (bind_field, gives_field, above_field)
 
-pub payload_field : IsField payload_at
-unfolding payload_at
-payload_field = bind_field _ _ (up_to_field w16 1024) (λ len. bytes_field len)
-
-pub maybe_field : IsField maybe_at
-unfolding maybe_at
-maybe_field = bind_field _ _ (number_field w16) (λ n. gives_field _)
-
-pub list_field : (w : Width) (most : ℕ) → IsField (list_at w most)
+list_field : (w : Width) (most : ℕ) → IsField (list_at w most)
 unfolding list_at
 list_field w most = bind_field _ _ (up_to_field w8 most) (λ count. rising_field (above_at w) (λ n. n) (above_field w) count 0)
 
--- ---- messages
-
-app_field : (service : Service) → IsField (app_at service)
-unfolding app_at
-app_field service = bind_field _ _ payload_field (λ payload. gives_field _)
-
-old_field : (service : Service) → IsField (old_at service)
-unfolding old_at
-old_field service = bind_field _ _ ring_field (λ ring. bind_field _ _ (above_field w32 0) (λ number. bind_field _ _ (above_field w16 0) (λ sender. bind_field _ _ payload_field (λ payload. gives_field _))))
-
-body_field : IsField body_at
-unfolding body_at body_of
-body_field = bind_field _ _ (number_field w8) (λ kind.
-    cond_field _ _ _ (app_field Agreed) (cond_field _ _ _ (app_field Safe) (cond_field _ _ _ (old_field Agreed) (cond_field _ _ _ (old_field Safe) (cond_field _ _ _ (gives_field _) range_field)))))
-
-pub message_field : IsField message_at
-unfolding message_at
-message_field = bind_field _ _ ring_field (λ ring. bind_field _ _ (above_field w32 0) (λ number. bind_field _ _ (above_field w16 0) (λ sender. bind_field _ _ body_field (λ body. gives_field _))))
-
--- ---- tokens and joins
-
-pub token_field : IsField token_at
-unfolding token_at
-token_field = bind_field _ _ ring_field (λ ring. bind_field _ _ (above_field w64 0) (λ token_seq. bind_field _ _ (number_field w32) (λ seq. bind_field _ _ (number_field w32) (λ aru. bind_field _ _ maybe_field (λ aru_id. bind_field _ _ (list_field w32 64) (λ rtr. gives_field _))))))
-
-pub join_field : IsField join_at
-unfolding join_at
-join_field = bind_field _ _ (above_field w16 0) (λ sender. bind_field _ _ (above_field w32 0) (λ seq. bind_field _ _ (list_field w16 32) (λ processes. bind_field _ _ (list_field w16 32) (λ failed. gives_field _))))
-
--- ---- commit tokens
-
-round_field : IsField round_at
-unfolding round_at
-round_field = bind_field _ _ (number_field w8) (λ round. cond_field (round == 1) _ _ (gives_field First) (cond_field (round == 2) _ _ (gives_field Second) range_field))
+-- what packets are made of
+ruleset parts = (bind_field, cond_field, gives_field, range_field, bytes_field, number_field, above_field, up_to_field, ring_field, list_field)
 
 life_field : (lives : Lives) → IsField (life_at lives)
 unfolding life_at
 life_field Untold = gives_field 1
 life_field Told = above_field w16 0
 
-report_field : (lives : Lives) → IsField (report_at lives)
-unfolding report_at
-report_field lives = bind_field _ _ (life_field lives) (λ life. bind_field _ _ ring_field (λ ring. bind_field _ _ (number_field w32) (λ aru. bind_field _ _ (number_field w32) (λ delivered. bind_field _ _ (list_field w16 32) (λ obligation. gives_field _)))))
-
-filled_field : (lives : Lives) → IsField (filled_at lives)
-unfolding filled_at
-filled_field lives = bind_field _ _ (report_field lives) (λ report. gives_field _)
-
-maybe_report_field : (lives : Lives) → IsField (maybe_report_at lives)
-unfolding maybe_report_at
-maybe_report_field lives = bind_field _ _ (number_field w8) (λ filled. cond_field _ _ _ (gives_field _) (cond_field _ _ _ (filled_field lives) range_field))
-
 member_field : (lives : Lives) (last : ℕ) → IsField (member_at lives last)
-unfolding member_at
-member_field lives last = bind_field _ _ (above_field w16 last) (λ proc. bind_field _ _ (maybe_report_field lives) (λ report. gives_field _))
+unfolding member_at maybe_report_at filled_at report_at
+member_field lives last = search (parts, life_field) depth 40
 
 members_field : (lives : Lives) → IsField (members_at lives)
 unfolding members_at
-members_field lives = bind_field _ _ (up_to_field w8 32) (λ count. cond_field _ _ _ range_field (rising_field (member_at lives) (λ m. m.proc) (member_field lives) count 0))
+members_field lives = search (parts, rising_field (member_at lives) (λ m. m.proc) (member_field lives)) depth 40
 
-pub commit_field : (lives : Lives) → IsField (commit_at lives)
-unfolding commit_at
-commit_field lives = bind_field _ _ ring_field (λ ring. bind_field _ _ round_field (λ round. bind_field _ _ (members_field lives) (λ members. gives_field _)))
-
--- a test after a parser is made as soon as the last field is read, and what follows does not change it
-pub later_commit_field : IsField later_commit_at
-unfolding later_commit_at
-later_commit_field = bind_field _ _ (commit_field Told) (λ token. cond_field _ _ _ (gives_field token) range_field)
+commit_field : (lives : Lives) → IsField (commit_at lives)
+unfolding commit_at round_at
+commit_field lives = search (parts, members_field) depth 40
 
 -- ---- what the kinds of packets read
 
 pub message_packet_field : IsField message_packet_at
-unfolding message_packet_at
-message_packet_field = bind_field _ _ message_field (λ message. gives_field _)
+unfolding message_packet_at message_at body_at body_of app_at old_at payload_at
+message_packet_field = search parts depth 40
 
 pub token_packet_field : IsField token_packet_at
-unfolding token_packet_at
-token_packet_field = bind_field _ _ token_field (λ token. gives_field _)
+unfolding token_packet_at token_at maybe_at
+token_packet_field = search parts depth 40
 
 pub join_packet_field : IsField join_packet_at
-unfolding join_packet_at
-join_packet_field = bind_field _ _ join_field (λ join. gives_field _)
+unfolding join_packet_at join_at
+join_packet_field = search parts depth 40
 
 pub commit_packet_field : IsField commit_packet_at
 unfolding commit_packet_at
-commit_packet_field = bind_field _ _ (commit_field Untold) (λ token. gives_field _)
+commit_packet_field = search (parts, commit_field) depth 40
 
+-- a test after a parser is made as soon as the last field is read, and what follows does not change it
 pub later_commit_packet_field : IsField later_commit_packet_at
-unfolding later_commit_packet_at
-later_commit_packet_field = bind_field _ _ later_commit_field (λ token. gives_field _)
+unfolding later_commit_packet_at later_commit_at
+later_commit_packet_field = search (parts, commit_field) depth 40

@@ -1,5 +1,6 @@
 -- A field that is read is spelled so, and what is spelled so is read again.
-use Rattle.totem_packets.proofs.Common.{nat_lt, nat_le, ◌==◌, IfSome, ◌≡◌, ℕ, ◌+◌, ◌%◌, ◌^◌, ◌<◌, ◌≤◌, Bool, true, false, cond, List, [], ◌∷◌, ◌++◌, length, take, drop, Option, Some, None, Ok, Err, refl, sym, ap, ◌∙◌, append_assoc, arith, Width, w8, w16, w32, w64, byte_len, from_be_bytes, to_be_bytes, cases_lt, ltb-false, ltb-true, le-ltb, lt-ltb, leb-true, le-leb, eqb-true, eqb-false, ne_eqb, take_at, drop_at, take-append-drop, length-append, length-take, get_or-drop, get_or-take, get_or_past, RingName, IsProcess, IsRing, IsUpTo, IsNumber, ◌>>=◌, Parsed, AreBytes, after, guard_else, parsed_is, append-nil}
+use Rattle.totem_packets.proofs.Common.{nat_lt, nat_le, ◌==◌, IfSome, ◌≡◌, ℕ, ◌+◌, ◌%◌, ◌^◌, ◌<◌, ◌≤◌, Bool, true, false, cond, List, [], ◌∷◌, ◌++◌, length, take, drop, Option, Some, None, Ok, Err, refl, sym, ap, ◌∙◌, append_assoc, arith, Width, w8, w16, w32, w64, byte_len, from_be_bytes, to_be_bytes, cases_lt, ltb-false, ltb-true, le-ltb, lt-ltb, leb-true, le-leb, eqb-true, ne_eqb, take_at, drop_at, take-append-drop, length-append, length-take, get_or-drop, get_or-take, get_or_past, RingName, IsProcess, IsRing, IsUpTo, IsNumber, ◌>>=◌, Parsed, AreBytes, after, guard_else, parsed_is, append-nil}
+use Rattle.std.proofs.lemmas.Bool.Decides.{nat_tests}
 use Rattle.std.proofs.lemmas.Nat.{be_bytes_2, be_bytes_4, be_bytes_8, from_be_bytes-to_be_bytes_2, from_be_bytes-to_be_bytes_4, from_be_bytes-to_be_bytes_8}
 use Rattle.totem_packets.specs.declared.fault.PacketFault.{PacketFault}
 use Rattle.totem_packets.specs.declared.fault.PacketFault.TheVariants.{Short, Range}
@@ -189,11 +190,7 @@ payload_again payload rest few =
 
 pub maybe_taking : IsTaking (Spells (λ o. number_bytes w16 (number_or_zero o)) (λ o. IfSome o IsProcess)) maybe_at
 unfolding maybe_at
-maybe_taking = bind_taking _ _ (number_taking w16 (2 ^ 16) wide16) (λ n small. gives_taking _ (go n small (n == 0) refl))
-  where
-    go : (n : ℕ) → n < 2 ^ 16 → (t : Bool) → (n == 0) ≡ t → Spells (λ o. number_bytes w16 (number_or_zero o)) (λ o. IfSome o IsProcess) (cond t None (Some n)) (number_bytes w16 n ++ [])
-    go n small true e = (append-nil _ ∙ ap (number_bytes w16) (eqb-true _ _ e), tt)
-    go n small false e = (append-nil _, record { positive = omega (arith, eqb-false _ _ e); small = omega arith })
+maybe_taking = bind_taking _ _ (number_taking w16 (2 ^ 16) wide16) (λ n small. gives_taking _ (grind (arith, nat_tests, append-nil)))
 
 pub maybe_again : (o : Option ℕ) (rest : List ℕ) → IfSome o IsProcess → maybe_at (number_bytes w16 (number_or_zero o) ++ rest) ≡ Ok (o, rest)
 unfolding maybe_at

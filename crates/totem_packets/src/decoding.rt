@@ -52,7 +52,7 @@ fn join(reader: &mut Reader) -> Result<Join, PacketFault>
 }
 
 /// Reads a packet, which more bytes may follow.
-#[tactic(auto, using(crate::proofs::Falling::passes_on), unfolding(crate::specs::Grammar::packet_at, crate::specs::Grammar::packet_of, crate::specs::Grammar::message_packet_at, crate::specs::Grammar::token_packet_at, crate::specs::Grammar::join_packet_at, crate::specs::Grammar::commit_packet_at, crate::specs::Grammar::later_commit_packet_at))]
+#[tactic(auto, using(crate::proofs::Falling::passes_on, crate::proofs::FirstByte::kind_is_read), unfolding(crate::specs::Grammar::packet_at, crate::specs::Grammar::packet_of, crate::specs::Grammar::message_packet_at, crate::specs::Grammar::token_packet_at, crate::specs::Grammar::join_packet_at, crate::specs::Grammar::commit_packet_at, crate::specs::Grammar::later_commit_packet_at))]
 fn packet(alloc: Global, reader: &mut Reader) -> Result<Packet, PacketFault>
     ensures reads { Reads (λ x. x) result reader.new (packet_at reader.old) }
     ensures memory { result ≡ Err PacketFault.Memory → IsOfKind reader.old }

@@ -27,6 +27,7 @@ impl CommitMember {
 
 impl CommitMembers {
     /// Returns the members' processes.
+    #[tactic(auto, using(crate::proofs::OldRingFacts::all_are, std::proofs::lemmas::List::take_all))]
     pub fn processes(&self) -> Processes
         ensures { result ≡ processes_of self.now }
     {
@@ -38,6 +39,7 @@ impl CommitMembers {
     }
 
     /// Returns the members, each in the life that it reports from. A member that has not reported counts as being in its first life.
+    #[tactic(auto, using(crate::proofs::RankFacts::ids_of_members, std::proofs::lemmas::List::take_all))]
     pub fn lives(&self, alloc: Global) -> Result<Vec<Proc>, AllocError>
         ensures value { IfOk result (λ p. p.items ≡ member_ranks self.now) }
         ensures ids { IfOk result (λ p. map id_of p.items ≡ processes_of self.now) }
@@ -86,6 +88,7 @@ impl CommitMembers {
     }
 
     /// Returns the transitional set: the members that come from the ring `old`.
+    #[tactic(auto, using(crate::proofs::OldRingFacts::members_are, std::proofs::lemmas::List::take_all))]
     pub fn transitional_set(&self, old: &RingId) -> Processes
         ensures { result ≡ transitional_set old.now self.now }
     {
@@ -99,6 +102,7 @@ impl CommitMembers {
     }
 
     /// Returns the transitional set, each member in the life that it reports from.
+    #[tactic(auto, using(crate::proofs::RankFacts::ids_of_transitional, std::proofs::lemmas::List::take_all))]
     pub fn transitional_lives(&self, alloc: Global, old: &RingId) -> Result<Vec<Proc>, AllocError>
         ensures value { IfOk result (λ p. p.items ≡ transitional_ranks old.now self.now) }
         ensures ids { IfOk result (λ p. map id_of p.items ≡ transitional_set old.now self.now) }
@@ -147,7 +151,7 @@ impl CommitMembers {
 
     /// Returns the obligation union: the transitional set of the ring `old` and all obligation sets that its members
     /// reported, unless that would be more than 32 processes.
-    #[tactic(auto, using(crate::proofs::Longer::rises_set, crate::proofs::Longer::rises_union))]
+    #[tactic(auto, using(crate::proofs::Longer::obligations))]
     pub fn obligation_union(&self, old: &RingId) -> Result<Processes, TooMany>
         ensures { Makes result (obligation_union old.now self.now) }
     {

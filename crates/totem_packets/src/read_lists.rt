@@ -56,7 +56,7 @@ pub fn requests(alloc: Global, reader: &mut Reader) -> Result<Requests, PacketFa
 }
 
 /// Reads a count, and then that many processes of a set.
-#[tactic(auto, using(crate::proofs::Falling::passes_on, crate::proofs::Lists::are_processes), unfolding(crate::specs::Fields::list_at))]
+#[tactic(auto, using(crate::proofs::Falling::passes_on, crate::proofs::Lists::are_processes, crate::proofs::Lists::up_to_is), unfolding(crate::specs::Fields::list_at))]
 pub fn process_set(reader: &mut Reader) -> Result<Processes, PacketFault>
     ensures { Reads (λ x. x) result reader.new (list_at w16 32 reader.old) }
 {
