@@ -1,8 +1,9 @@
 -- Every packet that a step sends is from the lists.
-use Rattle.totem_ring.proofs.Common.{◌≡◌, ℕ, List, [], ◌∷◌, ◌++◌, map, cond, Option, Some, None, refl, subst, All, filter_map, cons_option, nat_cmp, is_eq, Ordering, Less, Equal, Greater, All-nil, All-cons, Message, Token, Held, message_at, Sending, broadcasts}
+use Rattle.totem_ring.proofs.Common.{arith, ◌≡◌, ℕ, List, [], ◌∷◌, ◌++◌, map, Some, All, filter_map, All-nil, All-cons, Message, Token, Held, message_at, Sending, broadcasts}
 use Rattle.totem_ring.proofs.Nth.{IsNth, IsOf}
 use Rattle.totem_ring.proofs.HeldOnes.{AreOf, StandIn}
 use Rattle.totem_ring.proofs.Numbering.{AreNumbered}
+use Rattle.std.proofs.lemmas.Bool.Decides.{nat_tests}
 
 abbrev pub AllFit : List Token → List Message → List Sending → Type 0
 AllFit tokens msgs [] = Unit {0}
@@ -26,17 +27,8 @@ at_number msgs numbers n m nth = record { before = nth.before; after = numbers.n
 -- a message that is found is from the list
 found : (msgs : List Message) (held : Held) (n : ℕ) (m : Message) → AreNumbered msgs → AreOf msgs held → message_at held n ≡ Some m → IsNth msgs m.number m
 found msgs [] n m numbers h e = absurd cc
-found msgs (e ∷ es) n m numbers h is = go (nat_cmp n e.0) is (λ is. found msgs es n m numbers h.1 is)
-  where
-    go : (o : Ordering) → cond (is_eq o) (Some e.1) (message_at es n) ≡ Some m → (message_at es n ≡ Some m → IsNth msgs m.number m) → IsNth msgs m.number m
-    go Less is rest = rest is
-    go Equal is rest = let same : e.1 ≡ m = cc in let P : Message → Type 0 = λ x. IsNth msgs x.number x in subst P same (at_number msgs numbers e.0 e.1 h.0)
-    go Greater is rest = rest is
+found msgs (e ∷ es) n m numbers h is = grind (arith, nat_tests, at_number, found msgs es n m)
 
 pub requested_stand : (msgs : List Message) (held : Held) (rtr : List ℕ) → AreNumbered msgs → AreOf msgs held → StandIn msgs (filter_map (message_at held) rtr)
 requested_stand msgs held [] numbers h = tt
-requested_stand msgs held (n ∷ ns) numbers h = go (message_at held n) (λ m e. found msgs held n m numbers h e) (requested_stand msgs held ns numbers h)
-  where
-    go : (o : Option Message) → ((m : Message) → o ≡ Some m → IsNth msgs m.number m) → StandIn msgs (filter_map (message_at held) ns) → StandIn msgs (cons_option o (filter_map (message_at held) ns))
-    go None is rest = rest
-    go (Some m) is rest = (is m refl, rest)
+requested_stand msgs held (n ∷ ns) numbers h = grind (arith, found, requested_stand msgs held ns)

@@ -1,6 +1,7 @@
 -- Held messages that are all from one list.
-use Rattle.totem_ring.proofs.Common.{◌≡◌, ℕ, ◌<◌, List, [], ◌∷◌, ◌++◌, nat_cmp, MatchOrdering, match_ordering, ranks, Ordering, Less, Equal, Greater, insert_entry, Message, Held, with_message, with_messages}
+use Rattle.totem_ring.proofs.Common.{arith, ℕ, List, [], ◌∷◌, ◌++◌, nat_cmp, insert_entry, Message, Held, with_message, with_messages}
 use Rattle.totem_ring.proofs.Nth.{IsNth, IsNth-append}
+use Rattle.std.proofs.lemmas.Bool.Decides.{nat_tests}
 
 abbrev pub AreOf : List Message → Held → Type 0
 AreOf msgs [] = Unit {0}
@@ -12,13 +13,7 @@ AreOf-append msgs new (e ∷ es) h = (IsNth-append msgs new e.0 e.1 h.0, AreOf-a
 
 AreOf-insert : (msgs : List Message) (held : Held) (n : ℕ) (m : Message) → AreOf msgs held → IsNth msgs n m → AreOf msgs (insert_entry nat_cmp held n m)
 AreOf-insert msgs [] n m h nth = (nth, tt)
-AreOf-insert msgs (e ∷ es) n m h nth = go (nat_cmp n e.0) (ranks n e.0) (AreOf-insert msgs es n m h.1 nth)
-  where
-    go : (o : Ordering) → MatchOrdering o (n < e.0) (n ≡ e.0) (e.0 < n) → AreOf msgs (insert_entry nat_cmp es n m)
-        → AreOf msgs (match_ordering o ((n, m) ∷ e ∷ es) ((e.0, m) ∷ es) (e ∷ insert_entry nat_cmp es n m))
-    go Less below rest = (nth, h)
-    go Equal same rest = (rw same at nth, h.1)
-    go Greater above rest = (h.0, rest)
+AreOf-insert msgs (e ∷ es) n m h nth = grind (arith, nat_tests, AreOf-insert msgs es n m)
 
 pub AreOf-with_message : (msgs : List Message) (held : Held) (m : Message) → AreOf msgs held → IsNth msgs m.number m → AreOf msgs (with_message held m)
 AreOf-with_message msgs held m h nth = AreOf-insert msgs held m.number m h nth

@@ -1,6 +1,7 @@
 -- The last of the held messages.
-use Rattle.totem_ring.proofs.Common.{◌≡◌, ℕ, zero, suc, ◌+◌, ◌<◌, ◌||◌, nat_lt, [], ◌∷◌, length, slice_get, Bool, true, false, Some, refl, sym, ◌∙◌, ap, arith, lt-ltb, ltb-true, Message, Held, holds_above, RisesFrom}
+use Rattle.totem_ring.proofs.Common.{◌≡◌, ℕ, zero, suc, ◌+◌, ◌<◌, nat_lt, [], ◌∷◌, length, slice_get, Some, ◌∙◌, ap, arith, Message, Held, holds_above, RisesFrom}
 use Rattle.std.proofs.Math.Bool.{or-false}
+use Rattle.std.proofs.lemmas.Bool.Decides.{nat_tests}
 
 -- every element is above the lower bound of the list
 above_at : (low k : ℕ) (es : Held) (e : ℕ × Message) → RisesFrom low es → slice_get es k ≡ Some e → low < e.0
@@ -13,9 +14,4 @@ pub last_above : (low k seq : ℕ) (es : Held) (e : ℕ × Message) → RisesFro
 last_above low k seq [] e h len at = absurd cc
 last_above low zero seq (x ∷ []) e h len at = let same : x ≡ e = cc in or-false (nat_lt seq x.0) ∙ ap (λ (y : ℕ × Message). nat_lt seq y.0) same
 last_above low zero seq (x ∷ y ∷ ys) e h len at = absurd (omega arith)
-last_above low (suc k) seq (x ∷ xs) e h len at =
-    go (nat_lt seq x.0) refl (last_above x.0 k seq xs e h.2 (omega arith) at) (above_at x.0 k xs e h.2 at)
-  where
-    go : (b : Bool) → nat_lt seq x.0 ≡ b → holds_above xs seq ≡ nat_lt seq e.0 → x.0 < e.0 → b || holds_above xs seq ≡ nat_lt seq e.0
-    go true is rest below = let under : seq < x.0 = ltb-true seq x.0 is in sym (lt-ltb seq e.0 (omega arith))
-    go false is rest below = rest
+last_above low (suc k) seq (x ∷ xs) e h len at = grind (arith, nat_tests, above_at x.0 k xs e, last_above x.0 k seq xs e)

@@ -1,6 +1,8 @@
 -- The walk over the missing numbers.
-use Rattle.totem_ring.proofs.Common.{◌≡◌, ℕ, zero, suc, ◌+◌, ◌-◌, ◌<◌, ◌≤◌, List, [], ◌∷◌, ◌++◌, length, take, get_or, Bool, true, false, not, cond, refl, sym, ◌∙◌, ap, arith, le-ltb, lt-ltb, inl, inr, filter, cases_lt, with_number, numbers_above, with_requests, RingName, take_more, length-take-le, Body, Message, Ring, Held, holds, aru_of, missing, numbered}
+use Rattle.totem_ring.proofs.Common.{◌≡◌, ℕ, zero, suc, ◌+◌, ◌-◌, ◌<◌, ◌≤◌, List, [], ◌∷◌, ◌++◌, length, Bool, true, false, not, cond, refl, sym, ◌∙◌, ap, arith, le-ltb, filter, cases_lt, with_number, numbers_above, with_requests, Body, Ring, Held, holds, aru_of, missing, numbered}
+use Rattle.std.proofs.lemmas.Grind.{common_steps}
 use Rattle.totem_ring.proofs.Rising.{whole_holds}
+use Rattle.std.proofs.lemmas.Bool.Decides.{nat_tests}
 
 -- what is missing above n
 abbrev pub gaps : Held → ℕ → ℕ → List ℕ
@@ -18,14 +20,7 @@ no_gaps held n seq le = let none : seq - n ≡ 0 = omega arith in ap (λ count. 
 -- up to the aru nothing is missing
 gaps_from : (held : Held) (seq k : ℕ) → k ≤ aru_of held → gaps held k seq ≡ gaps held 0 seq
 gaps_from held seq zero le = refl
-gaps_from held seq (suc k) le = elim (cases_lt k seq) [
-  | inl lt ↦ (
-      let at : holds held (k + 1) ≡ true = whole_holds 0 (k + 1) held (omega arith) (omega arith) in
-      let step : suc k ≡ k + 1 = omega arith in
-      ap (λ n. gaps held n seq) step ∙ sym (gap_held held k seq true lt at) ∙ gaps_from held seq k (omega arith)
-      )
-  | inr ge ↦ no_gaps held (suc k) seq (omega arith) ∙ sym (no_gaps held k seq ge) ∙ gaps_from held seq k (omega arith)
-]
+gaps_from held seq (suc k) le = grind (arith, cases_lt k seq, whole_holds 0 (k + 1) held, gap_held held k seq true, no_gaps, gaps_from held seq k)
 
 -- the requests so far with those still to be added
 pub record IsAsking (rtr before : List ℕ) (held : Held) (n seq : ℕ) : Type 0 where
@@ -45,31 +40,16 @@ pub asking_past : (rtr before : List ℕ) (held : Held) (n seq : ℕ) → IsAski
 asking_past rtr before held n seq h lt at = record { all = sym (ap (with_requests rtr) (gap_held held n seq true lt at)) ∙ h.all }
 
 pub asking_more : (rtr more before : List ℕ) (held : Held) (n seq : ℕ) → IsAsking rtr before held n seq → n < seq → holds held (n + 1) ≡ false → length rtr < 64 → more ≡ with_number rtr (n + 1) → IsAsking more before held (n + 1) seq
-asking_more rtr more before held n seq h lt at room is = record {
-  all =
-      ap (λ ns. with_requests ns (gaps held (n + 1) seq)) is
-      ∙ sym (ap (λ (b : Bool). with_requests (cond b (with_number rtr (n + 1)) rtr) (gaps held (n + 1) seq)) (lt-ltb (length rtr) 64 room))
-      ∙ sym (ap (with_requests rtr) (gap_held held n seq false lt at))
-      ∙ h.all;
-}
+asking_more rtr more before held n seq h lt at room is = grind (arith, nat_tests, ap (with_requests rtr) (gap_held held n seq false lt at))
 
 pub asking_there : (rtr before : List ℕ) (held : Held) (n seq : ℕ) → IsAsking rtr before held n seq → n < seq → holds held (n + 1) ≡ false → length rtr < 64 → with_number rtr (n + 1) ≡ rtr → IsAsking rtr before held (n + 1) seq
 asking_there rtr before held n seq h lt at room is = asking_more rtr rtr before held n seq h lt at room (sym is)
 
 -- one more number is given
 pub numbered_push : (s : Ring) (seq : ℕ) (bodies : List Body) (body : Body) → numbered s seq (bodies ++ body ∷ []) ≡ numbered s seq bodies ++ record { ring = s.ring; number = (seq + length bodies) + 1; sender = s.me; body = body } ∷ []
-numbered_push s seq [] body =
-    let none : seq ≡ seq + 0 = omega arith in
-    ap (λ (n : ℕ). record { ring = s.ring; number = n + 1; sender = s.me; body = body } ∷ []) none
-numbered_push s seq (b ∷ bs) body =
-    let same : (seq + 1) + length bs ≡ seq + suc (length bs) = omega arith in
-    ap (λ ms. record { ring = s.ring; number = seq + 1; sender = s.me; body = b } ∷ ms) (numbered_push s (seq + 1) bs body
-    ∙ ap (λ (n : ℕ). numbered s (seq + 1) bs ++ record { ring = s.ring; number = n + 1; sender = s.me; body = body } ∷ []) same)
+numbered_push s seq [] body = grind arith
+numbered_push s seq (b ∷ bs) body = grind (arith, numbered_push s (seq + 1) bs body)
 
-pub numbered_of : (s : Ring) (seq i given number me : ℕ) (ring : RingName) (bodies waiting : List Body) (own items : List Message) (body copy : Body) → bodies ≡ waiting
-    → own ≡ numbered s seq (take i waiting) → i < length bodies → given ≡ seq + i → body ≡ get_or bodies i body → copy ≡ body → number ≡ given + 1 → ring ≡ s.ring → me ≡ s.me
-    → items ≡ own ++ record { ring = ring; number = number; sender = me; body = copy } ∷ [] → items ≡ numbered s seq (take (i + 1) waiting)
-numbered_of s seq i given number me ring bodies waiting own items body copy whole far lt count at same is ring_is me_is put =
-    let len : length (take i bodies) ≡ i = length-take-le i bodies (omega arith) in
-    let the_number : number ≡ (seq + length (take i bodies)) + 1 = omega (arith, len) in
-    rw (← whole) (rw (put, far, ← whole, ring_is, me_is, the_number, same ∙ at) (sym (numbered_push s seq (take i bodies) (get_or bodies i body)) ∙ ap (numbered s seq) (sym (take_more bodies i body lt))))
+pub ruleset numbering = (common_steps, numbered_push)
+
+pub ruleset asking = (asking_starts, asking_full, asking_past, asking_more, asking_there)

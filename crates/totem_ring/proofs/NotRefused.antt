@@ -1,6 +1,6 @@
 -- The tests that a token passes if it isn't refused.
 use Rattle.std.proofs.Common.{arith}
-use Rattle.totem_ring.proofs.Common.{◌≡◌, ◌<◌, Bool, true, false, not, if◌then◌else◌, ◌&&◌, [], Some, None, refl, ap, Token, Ring, taker_of, token_refusal, given}
+use Rattle.totem_ring.proofs.Common.{◌≡◌, ◌<◌, Bool, true, false, not, if◌then◌else◌, [], Some, None, ap, Token, Ring, taker_of, token_refusal, given}
 use Rattle.std.proofs.lemmas.List.{append-nil}
 use Rattle.totem_ring.specs.declared.fault.RingFault.TheVariants.{OtherRing, Repeat, Range}
 
@@ -12,12 +12,8 @@ pub record IsTaken (s : Ring) (t : Token) : Type 0 where
 pub passed : (a b c : Bool) → (if not a then Some OtherRing else if b then Some Repeat else if not c then Some Range else None) ≡ None → (b ≡ false) × (c ≡ true)
 passed a b c h = grind arith
 
-first_of_three : (a b c : Bool) → (a && b && c) ≡ true → a ≡ true
-first_of_three true b c h = refl
-first_of_three false b c h = h
-
 pub token_is_taken : (s : Ring) (t : Token) → token_refusal s t ≡ None → IsTaken s t
-token_is_taken s t h = grind (arith, passed, first_of_three)
+token_is_taken s t h = grind (arith, passed)
 
 -- if no bodies are given, nothing more is waiting
 pub given_nothing : (s : Ring) (t : Token) → token_refusal (given s []) t ≡ token_refusal s t

@@ -1,5 +1,5 @@
 -- Every schedule keeps the one order.
-use Rattle.totem_ring.proofs.Common.{◌≡◌, ℕ, List, [], ◌∷◌, ◌++◌, Option, Some, None, Ok, refl, sym, ◌∙◌, ap, append_assoc, append-nil, arith, Contains, All-nil, All-cons, All-contains, RingName, Body, Message, Token, Ring, first_token, message_refusal, token_refusal, Done, act_on, submit, on_message, after_message, holding, on_token, after_token, on_resend, resent, kept_after, World, start, happens, world_after, MayCome, IsSchedule, run, submitted, IsPrefixOf, IsOneOrder, OneOrder, bodies_of}
+use Rattle.totem_ring.proofs.Common.{◌≡◌, ℕ, List, [], ◌∷◌, ◌++◌, Option, Ok, refl, sym, ◌∙◌, ap, append_assoc, append-nil, arith, Contains, All-nil, All-cons, All-contains, RingName, Body, Message, Token, Ring, first_token, message_refusal, token_refusal, Done, act_on, submit, on_message, after_message, holding, on_token, after_token, on_resend, resent, kept_after, World, start, happens, world_after, MayCome, IsSchedule, run, submitted, IsPrefixOf, IsOneOrder, OneOrder, bodies_of}
 use Rattle.totem_packets.specs.declared.packet.Packet.TheVariants.{Message as AMessage, Token as AToken}
 use Rattle.totem_ring.specs.declared.moves.Act.{Act}
 use Rattle.totem_ring.specs.declared.moves.Act.TheVariants.{Submit as DoesSubmit, Message as GetsMessage, Token as GetsToken, Resend as DoesResend}
@@ -48,15 +48,7 @@ message_keeps w p m h sent = unless_refused_keeps w p (GetsMessage m) (message_r
     let tokens : List Token = h.earlier ++ h.newest ∷ [] in
     let nth : IsNth h.msgs m.number m = All-contains (IsOf tokens h.msgs) w.sent (AMessage m) h.keeping.sent sent in
     let held : Ring = record (holding (w.state p) m) { kept = kept_after (w.state p).kept m.number } in
-    let holding : Keeps w.members tokens h.msgs p held (w.up p) (w.accepted p) = record {
-      me = mine.me;
-      members = mine.members;
-      held = AreOf-with_message h.msgs (w.state p).held m mine.held nth;
-      handed = mine.handed;
-      begins = mine.begins;
-      bodies = mine.bodies;
-      kept = kept_or_gone tokens (w.state p).kept m.number mine.kept;
-    } in
+    let holding : Keeps w.members tokens h.msgs p held (w.up p) (w.accepted p) = grind (arith, AreOf-with_message, kept_or_gone) in
     rw append-nil (Keeps-hand_up w.members tokens h.msgs p held (w.up p) (w.accepted p) holding)
     ))
 
@@ -64,8 +56,7 @@ token_keeps : (w : World) (p : ℕ) (t : Token) → HasOrder w → Contains w.se
 token_keeps w p t h sent = unless_refused_keeps w p (GetsToken t) (token_refusal (w.state p) t) (after_token (w.state p) t) h (λ passed. visit_keeps w p t h sent (token_is_taken (w.state p) t passed))
 
 resent_fit : (tokens : List Token) (msgs : List Message) (s : Ring) (kept : Option Token) → KeptIsOf tokens kept → AllFit tokens msgs (resent s kept)
-resent_fit tokens msgs s None h = tt
-resent_fit tokens msgs s (Some t) h = (h, tt)
+resent_fit tokens msgs s kept h = grind arith
 
 resend_keeps : (w : World) (p : ℕ) → HasOrder w → HasOrder (world_after w p DoesResend (Ok (on_resend (w.state p))))
 resend_keeps w p h = let mine = h.keeping.each p in same_tokens w p DoesResend (on_resend (w.state p)) h refl (resent_fit (h.earlier ++ h.newest ∷ []) h.msgs (w.state p) (w.state p).kept mine.kept) (rw (append-nil, append-nil) mine)

@@ -1,11 +1,16 @@
 -- Lists of which one is a prefix of the other.
 use Rattle.std.proofs.Common.{arith}
-use Rattle.totem_ring.proofs.Common.{◌≡◌, ℕ, zero, suc, ◌⊎◌, inl, inr, List, [], ◌∷◌, ◌++◌, length, slice_get, Some, None, refl, sym, ◌∙◌, ap, append_assoc, map-append, filter-append, Message, IsPrefixOf, bodies_of}
+use Rattle.std.proofs.lemmas.Option.{slice_get_within}
+use Rattle.totem_ring.proofs.Common.{◌≡◌, ℕ, zero, suc, ◌⊎◌, inl, inr, List, [], ◌∷◌, ◌++◌, length, slice_get, Some, refl, sym, ◌∙◌, ap, append_assoc, length-append, map-append, filter-append, Message, IsPrefixOf, bodies_of}
 
 pub slice_get-append : {X : Type 0} (xs ys : List X) (k : ℕ) (x : X) → slice_get xs k ≡ Some x → slice_get (xs ++ ys) k ≡ Some x
 slice_get-append [] ys k x h = absurd cc
 slice_get-append (y ∷ xs) ys zero x h = h
 slice_get-append (y ∷ xs) ys (suc k) x h = slice_get-append xs ys k x h
+
+pub slice_get_mid : {X : Type 0} (xs : List X) (y : X) (ys : List X) → slice_get (xs ++ y ∷ ys) (length xs) ≡ Some y
+slice_get_mid [] y ys = refl
+slice_get_mid (x ∷ xs) y ys = slice_get_mid xs y ys
 
 -- of two prefixes of a list one is a prefix of the other
 pub one_begins : {X : Type 0} (xs ys zs : List X) → IsPrefixOf xs zs → IsPrefixOf ys zs → IsPrefixOf xs ys ⊎ IsPrefixOf ys xs
@@ -26,17 +31,11 @@ begins_longer xs ys more (rest, e) = (rest ++ more, sym (append_assoc xs rest mo
 
 -- a longer prefix has the element after the prefix
 pub goes_on : {X : Type 0} (xs zs : List X) (x : X) → IsPrefixOf xs zs → slice_get zs (length xs) ≡ Some x → IsPrefixOf (xs ++ x ∷ []) zs
-goes_on [] zs x ([], e) h = let none : slice_get zs 0 ≡ None = rw (← e) refl in absurd cc
-goes_on {X} [] zs x (r ∷ rest, e) h =
-    let first : slice_get zs 0 ≡ Some r = rw (← e) refl in
+goes_on xs zs x ([], e) h = absurd (omega (arith, slice_get_within zs (length xs) x h, ap length e, length-append xs []))
+goes_on xs zs x (r ∷ rest, e) h =
+    let first : slice_get zs (length xs) ≡ Some r = rw (← e) (slice_get_mid xs r rest) in
     let same : x ≡ r = cc in
-    (rest, rw same e)
-goes_on (y ∷ xs) [] x (rest, e) h = absurd cc
-goes_on (y ∷ xs) (z ∷ zs) x (rest, e) h =
-    let heads : y ≡ z = cc in
-    let tails : xs ++ rest ≡ zs = cc in
-    let more = goes_on xs zs x (rest, tails) h in
-    (more.0, (let e' = more.1 in let joined : y ∷ ((xs ++ x ∷ []) ++ more.0) ≡ z ∷ zs = cc in joined))
+    (rest, rw same (append_assoc xs (r ∷ []) rest ∙ e))
 
 pub bodies_of-append : (p : ℕ) (xs ys : List Message) → bodies_of p (xs ++ ys) ≡ bodies_of p xs ++ bodies_of p ys
 bodies_of-append p xs ys = grind (arith, filter-append, map-append)

@@ -1,6 +1,6 @@
 -- The invariant of every schedule, over two lists: the tokens in the order in which they were made, and the messages by number.
 use Rattle.std.proofs.Common.{arith}
-use Rattle.totem_ring.proofs.Common.{◌≡◌, ℕ, ◌+◌, ◌==◌, ◌<◌, List, [], ◌∷◌, ◌++◌, length, Bool, true, false, if◌then◌else◌, Option, Some, None, Ok, refl, ◌∙◌, ap, append-nil, eqb-true, length-append, All-append, Body, Message, Token, Ring, taker_of, handed_up, after_hand_up, Done, unless_refused, World, world_after, submitted, IsPrefixOf, bodies_of}
+use Rattle.totem_ring.proofs.Common.{◌≡◌, ℕ, ◌+◌, ◌<◌, List, [], ◌∷◌, ◌++◌, length, Option, Some, None, Ok, refl, append-nil, length-append, All-append, Body, Message, Token, Ring, taker_of, handed_up, after_hand_up, Done, unless_refused, World, world_after, submitted, IsPrefixOf, bodies_of}
 use Rattle.std.specs.Prelude.{All, ⊤}
 use Rattle.totem_ring.specs.declared.fault.RingFault.{RingFault}
 use Rattle.totem_ring.specs.declared.moves.Act.{Act}
@@ -10,6 +10,7 @@ use Rattle.totem_ring.proofs.HeldOnes.{AreOf, AreOf-append}
 use Rattle.totem_ring.proofs.GoingUp.{going_up_begins}
 use Rattle.totem_ring.proofs.Numbering.{AreNumbered}
 use Rattle.totem_ring.proofs.Fitting.{AllFit, All-packets}
+use Rattle.std.proofs.lemmas.Bool.Decides.{nat_tests}
 
 abbrev pub KeptIsOf : List Token → Option Token → Type 0
 KeptIsOf tokens None = ⊤
@@ -46,15 +47,8 @@ kept_longer tokens more (Some t) h = IsNth-append tokens more t.token_seq t h
 -- a member that does nothing while other members make more
 pub Keeps-longer : (members : List ℕ) (tokens more : List Token) (msgs new : List Message) (p : ℕ) (s : Ring) (up : List Message) (accepted : List Body)
     → bodies_of p new ≡ [] → Keeps members tokens msgs p s up accepted → Keeps members (tokens ++ more) (msgs ++ new) p s up accepted
-Keeps-longer members tokens more msgs new p s up accepted silent h = record {
-  me = h.me;
-  members = h.members;
-  held = AreOf-append msgs new s.held h.held;
-  handed = h.handed;
-  begins = begins_longer up msgs new h.begins;
-  bodies = ap (λ bodies. bodies ++ s.waiting) (bodies_of-append p msgs new ∙ ap (λ bodies. bodies_of p msgs ++ bodies) silent ∙ append-nil (bodies_of p msgs)) ∙ h.bodies;
-  kept = kept_longer tokens more s.kept h.kept;
-}
+Keeps-longer members tokens more msgs new p s up accepted silent h =
+    grind (arith, AreOf-append, begins_longer, bodies_of-append, append-nil, kept_longer)
 
 -- delivering to the node keeps the order
 pub Keeps-hand_up : (members : List ℕ) (tokens : List Token) (msgs : List Message) (p : ℕ) (s : Ring) (up : List Message) (accepted : List Body)
@@ -70,18 +64,9 @@ Keeping-same_tokens w earlier newest msgs p act done h same_last fit mine = reco
   sent = All-append (IsOf (earlier ++ newest ∷ []) msgs) w.sent _ h.sent (All-packets (earlier ++ newest ∷ []) msgs done.packets fit);
   numbers = h.numbers;
   seq = h.seq;
-  taken = λ t below. taken (taker_of w.members (t + 1)) t (h.taken t below) (taker_of w.members (t + 1) == p) refl;
-  each = λ q. each q (q == p) refl;
+  taken = λ t below. grind (arith, nat_tests, h.taken t);
+  each = λ q. grind (arith, nat_tests, mine, h.each q);
 }
-  where
-    taken : (q t : ℕ) → t < (w.state q).last → (b : Bool) → (q == p) ≡ b → t < (if b then done.state else w.state q).last
-    taken q t below true is = let at_p : t < (w.state p).last = rw (eqb-true q p is) at below in rw same_last at_p
-    taken q t below false is = below
-
-    each : (q : ℕ) (b : Bool) → (q == p) ≡ b
-        → Keeps w.members (earlier ++ newest ∷ []) msgs q (if b then done.state else w.state q) (if b then w.up p ++ done.handed else w.up q) (if b then w.accepted p ++ submitted act else w.accepted q)
-    each q true is = rw (eqb-true q p is) mine
-    each q false is = h.each q
 
 -- a step that keeps the order if it isn't refused keeps the order
 pub unless_refused_keeps : (w : World) (p : ℕ) (act : Act) (refusal : Option RingFault) (done : Done)

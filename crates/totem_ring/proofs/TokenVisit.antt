@@ -1,16 +1,17 @@
 -- A visit keeps the order: only the newest token can be taken, and only by one member.
-use Rattle.totem_ring.proofs.Common.{◌≡◌, ℕ, ◌+◌, ◌==◌, ◌<◌, inl, inr, List, [], ◌∷◌, ◌++◌, length, Bool, true, false, if◌then◌else◌, Some, Ok, refl, sym, ◌∙◌, ap, subst, append-nil, eqb-true, eq-eqb, ne_eqb, length-append, arith, Contains, filter_map, eqb-false, cases_lt, All-append, All-weaker, Message, Token, Ring, taker_of, message_at, with_messages, handed_up, after_hand_up, visit, arrival, answer_requests, number_waiting, set_aru, request_missing, hand_up_safe, leaving, numbered, broadcasts, Done, World, world_after, bodies_of}
+use Rattle.totem_ring.proofs.Common.{◌≡◌, ℕ, ◌+◌, ◌==◌, List, [], ◌∷◌, ◌++◌, length, false, Some, Ok, refl, sym, ◌∙◌, ap, subst, append-nil, eq-eqb, ne_eqb, length-append, arith, Contains, filter_map, eqb-false, All-append, All-weaker, Message, Token, Ring, message_at, with_messages, handed_up, after_hand_up, visit, arrival, answer_requests, number_waiting, set_aru, request_missing, hand_up_safe, leaving, numbered, broadcasts, Done, World, world_after, bodies_of}
 use Rattle.totem_ring.specs.declared.outcome.To.{To}
 use Rattle.std.proofs.lemmas.Option.{slice_get_within}
 use Rattle.totem_packets.specs.declared.packet.Packet.TheVariants.{Token as AToken}
 use Rattle.totem_ring.specs.declared.moves.Act.TheVariants.{Token as GetsToken}
-use Rattle.totem_ring.proofs.Prefixes.{begins_longer, bodies_of-append}
+use Rattle.totem_ring.proofs.Prefixes.{slice_get_mid, begins_longer, bodies_of-append}
 use Rattle.totem_ring.proofs.Nth.{IsNth, IsOf, IsOf-append}
 use Rattle.totem_ring.proofs.HeldOnes.{StandIn, AreOf-append, AreOf-with_messages, StandIn-append}
-use Rattle.totem_ring.proofs.Numbering.{slice_get_push, slice_get_mid, length-numbered, numbered_stand, AreNumbered-numbered, bodies_of-own, bodies_of-others}
+use Rattle.totem_ring.proofs.Numbering.{slice_get_push, length-numbered, numbered_stand, AreNumbered-numbered, bodies_of-own, bodies_of-others}
 use Rattle.totem_ring.proofs.Fitting.{AllFit, AllFit-append, AllFit-broadcasts, All-packets, requested_stand}
 use Rattle.totem_ring.proofs.RingInvariant.{Keeps, Keeping, HasOrder, Keeps-longer, Keeps-hand_up, kept_longer}
 use Rattle.totem_ring.proofs.NotRefused.{IsTaken}
+use Rattle.std.proofs.lemmas.Bool.Decides.{nat_tests}
 
 -- a token that is taken is the newest
 pub newest_is_taken : (w : World) (earlier : List Token) (newest : Token) (msgs : List Message) (p : ℕ) (t : Token)
@@ -66,54 +67,18 @@ module _ (w : World) (earlier : List Token) (t : Token) (msgs : List Message) (p
   own = bodies_of-own p s t.seq s.waiting (eq-eqb s.me p (h.each p).me)
 
   before : Keeps w.members (tokens ++ next ∷ []) (msgs ++ new) p (numbered_ring s new safe_to sent_aru) (w.up p) (w.accepted p)
-  before = record {
-    me = (h.each p).me;
-    members = (h.each p).members;
-    held = AreOf-with_messages (msgs ++ new) s.held new (AreOf-append msgs new s.held (h.each p).held) new_stand;
-    handed = (h.each p).handed;
-    begins = begins_longer (w.up p) msgs new (h.each p).begins;
-    bodies = append-nil (bodies_of p (msgs ++ new)) ∙ bodies_of-append p msgs new ∙ ap (λ bodies. bodies_of p msgs ++ bodies) own ∙ (h.each p).bodies;
-    kept = kept_longer tokens (next ∷ []) s.kept (h.each p).kept;
-  }
+  before =
+      grind (arith, AreOf-with_messages, AreOf-append, begins_longer, bodies_of-append, append-nil, kept_longer, own, new_stand, h.each p)
 
   mine : Keeps w.members (tokens ++ next ∷ []) (msgs ++ new) p (visit_done s t safe_to sent_aru asked to next).state (w.up p ++ (visit_done s t safe_to sent_aru asked to next).handed) (w.accepted p ++ [])
-  mine = let up = Keeps-hand_up w.members (tokens ++ next ∷ []) (msgs ++ new) p (numbered_ring s new safe_to sent_aru) (w.up p) (w.accepted p) before in
-      record {
-        me = up.me;
-        members = up.members;
-        held = up.held;
-        handed = up.handed;
-        begins = up.begins;
-        bodies = up.bodies ∙ sym (append-nil (w.accepted p));
-        kept = next_nth;
-      }
+  mine =
+      let up = Keeps-hand_up w.members (tokens ++ next ∷ []) (msgs ++ new) p (numbered_ring s new safe_to sent_aru) (w.up p) (w.accepted p) before in
+      grind (arith, append-nil, next_nth)
 
   other : (q : ℕ) → (q == p) ≡ false → Keeps w.members (tokens ++ next ∷ []) (msgs ++ new) q (w.state q) (w.up q) (w.accepted q)
   other q is = Keeps-longer w.members tokens (next ∷ []) msgs new q (w.state q) (w.up q) (w.accepted q)
       (bodies_of-others q s t.seq s.waiting (ne_eqb s.me q (λ same. eqb-false q p is (sym same ∙ (h.each p).me))))
       (h.each q)
-
-  each : (q : ℕ) (b : Bool) → (q == p) ≡ b
-      → Keeps w.members (tokens ++ next ∷ []) (msgs ++ new) q (if b then (visit_done s t safe_to sent_aru asked to next).state else w.state q)
-      (if b then w.up p ++ (visit_done s t safe_to sent_aru asked to next).handed else w.up q) (if b then w.accepted p ++ [] else w.accepted q)
-  each q true is = rw (eqb-true q p is) mine
-  each q false is = other q is
-
-  -- the member that took it
-  taker : (q k : ℕ) → k < length tokens → (k < length earlier → k < (w.state q).last) → (k ≡ length earlier → q ≡ p) → (b : Bool) → (q == p) ≡ b
-      → k < (if b then (visit_done s t safe_to sent_aru asked to next).state else w.state q).last
-  taker q k below earlier_taken last_taken true is = let len : length tokens ≡ length earlier + 1 = length-append earlier (t ∷ []) in omega (arith, place)
-  taker q k below earlier_taken last_taken false is =
-      let len : length tokens ≡ length earlier + 1 = length-append earlier (t ∷ []) in
-      elim (cases_lt k (length earlier)) [
-        | inl lt ↦ earlier_taken lt
-        | inr ge ↦ (let same : k ≡ length earlier = omega arith in absurd (eqb-false q p is (last_taken same)))
-      ]
-
-  taken_by : (k : ℕ) → k ≡ length earlier → taker_of w.members (k + 1) ≡ p
-  taken_by k same =
-      let at : k + 1 ≡ t.token_seq = ap (λ n. n + 1) same ∙ sym place in
-      rw (at, ← (h.each p).members) (taken.mine ∙ (h.each p).me)
 
   pub newest_visit : Keeping (world_after w p (GetsToken t) (Ok (visit_done s t safe_to sent_aru asked to next))) tokens next (msgs ++ new)
   newest_visit = record {
@@ -122,8 +87,8 @@ module _ (w : World) (earlier : List Token) (t : Token) (msgs : List Message) (p
         (All-packets (tokens ++ next ∷ []) (msgs ++ new) (visit_done s t safe_to sent_aru asked to next).packets fit);
     numbers = AreNumbered-numbered msgs s t.seq s.waiting h.seq h.numbers;
     seq = length-append msgs new ∙ ap (λ n. length msgs + n) (length-numbered s t.seq s.waiting) ∙ ap (λ n. n + length s.waiting) h.seq ∙ sym next_seq;
-    taken = λ k below. taker (taker_of w.members (k + 1)) k below (h.taken k) (taken_by k) (taker_of w.members (k + 1) == p) refl;
-    each = λ q. each q (q == p) refl;
+    taken = λ k below. grind (arith, nat_tests, h.taken k, taken.mine, (h.each p).me, (h.each p).members, length-append earlier (t ∷ []));
+    each = λ q. grind (arith, nat_tests, mine, other q);
   }
 
 pub visit_keeps : (w : World) (p : ℕ) (t : Token) → HasOrder w → Contains w.sent (AToken t) → IsTaken (w.state p) t

@@ -1,6 +1,6 @@
 -- Steps that can be taken back.
 use Rattle.std.proofs.Common.{arith}
-use Rattle.totem_ring.proofs.Common.{◌≡◌, ℕ, ◌+◌, [], length, Option, Some, None, Ok, Err, refl, Message, Token, Ring, Held, with_message, going_up, message_refusal, Done, unless_refused, on_message, kept_after, AnswersUndoably, taken_back, kept_again}
+use Rattle.totem_ring.proofs.Common.{◌≡◌, ℕ, ◌+◌, [], length, Option, None, Ok, Err, Message, Token, Ring, Held, with_message, going_up, message_refusal, Done, unless_refused, on_message, kept_after, AnswersUndoably, taken_back, kept_again}
 use Rattle.totem_ring.specs.declared.fault.RingFault.{RingFault}
 use Rattle.totem_ring.specs.declared.fault.RingFault.TheVariants.{Memory}
 use Rattle.totem_ring.specs.declared.outcome.RingOut.{RingOut}
@@ -12,13 +12,11 @@ use Rattle.totem_ring.proofs.Holding.{not_held}
 
 -- a step that isn't refused, and can be taken back
 pub undoably : (refusal : Option RingFault) (done : Done) (out : RingOut) (undo : RingUndo) (old new : Ring) → refusal ≡ None → IsDone out new done → taken_back undo new ≡ old → AnswersUndoably (Ok (out, undo)) old new (unless_refused refusal done)
-undoably None done out undo old new passed h back = record { is_done = h; undone = back }
-undoably (Some fault) done out undo old new passed h back = absurd cc
+undoably refusal done out undo old new passed h back = grind arith
 
 -- out of memory is a possible result of a step that isn't refused
 pub undoable_memory : (refusal : Option RingFault) (done : Done) (old new : Ring) → refusal ≡ None → new ≡ old → AnswersUndoably (Err Memory) old new (unless_refused refusal done)
-undoable_memory None done old new passed same = record { unchanged = same; fault_is = refl }
-undoable_memory (Some fault) done old new passed same = absurd cc
+undoable_memory refusal done old new passed same = grind arith
 
 -- the code of a message does its step, which can be taken back
 pub message_comes : (s : Ring) (m : Message) (held : Held) (n : ℕ) (kept forgotten : Option Token) (out : RingOut)

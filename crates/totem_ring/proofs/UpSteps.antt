@@ -1,6 +1,7 @@
 -- The steps of a walk over the messages to deliver.
 use Rattle.totem_ring.proofs.Common.{◌≡◌, ℕ, ◌+◌, ◌^◌, ◌<◌, ◌≤◌, List, [], ◌∷◌, ◌++◌, Some, None, true, false, ap, sym, ◌∙◌, arith, append-nil, append_assoc, Message, Held, message_at, holds, going_up, may_go_up, RisesFrom, IsWholeTo}
 use Rattle.totem_ring.proofs.Rising.{none_past, going_none, going_at}
+use Rattle.std.proofs.lemmas.List.{length-append}
 
 -- the list so far with what is still to be added
 pub record IsSoFar (up : List Message) (n handed safe_to : ℕ) (held : Held) : Type 0 where
@@ -21,14 +22,9 @@ ends_full up n handed safe_to held rises far full = ends_none up n handed safe_t
 
 pub one_more : (up items : List Message) (n handed safe_to : ℕ) (held : Held) (m copy : Message) → RisesFrom 0 held → IsSoFar up n handed safe_to held → message_at held (n + 1) ≡ Some m → may_go_up safe_to (n + 1, m) ≡ true
     → copy ≡ m → items ≡ up ++ copy ∷ [] → IsSoFar items (n + 1) handed safe_to held
-one_more up items n handed safe_to held m copy rises far at may same is = record {
-  all =
-      ap (λ ms. ms ++ going_up (n + 1) safe_to held) is
-      ∙ append_assoc up (copy ∷ []) (going_up (n + 1) safe_to held)
-      ∙ ap (λ x. up ++ (x ∷ going_up (n + 1) safe_to held)) same
-      ∙ ap (λ ms. up ++ ms) (sym (going_at 0 n safe_to held m true rises at may))
-      ∙ far.all;
-}
+one_more up items n handed safe_to held m copy rises far at may same is = grind (arith, append_assoc, going_at 0 n safe_to held m true)
 
 pub whole_full : (low n : ℕ) (held : Held) → RisesFrom 0 held → n < 2 ^ 32 → 4294967295 ≤ n → low ≤ n → ((k : ℕ) → low < k → k ≤ n → holds held k ≡ true) → IsWholeTo held low 4294967295
 whole_full low n held rises small full begins whole = grind (arith, none_past)
+
+pub ruleset steps = (ends_none, ends_waits, ends_full, one_more, length-append)

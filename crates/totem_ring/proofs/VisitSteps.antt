@@ -1,5 +1,5 @@
 -- Facts that the code of a visit needs.
-use Rattle.totem_ring.proofs.Common.{◌≡◌, ℕ, ◌+◌, ◌-◌, ◌^◌, ◌<◌, ◌≤◌, nat_lt, List, [], ◌∷◌, length, None, false, ◌∙◌, arith, ltb-false, All, and_parts, not-true, or_parts, All-nil, All-cons, Body, Message, Token, up_to, Ring, Held, with_message, with_messages, token_refusal, holds_above, numbered}
+use Rattle.totem_ring.proofs.Common.{◌≡◌, ℕ, ◌+◌, ◌-◌, ◌^◌, ◌<◌, ◌≤◌, List, [], ◌∷◌, length, None, false, ◌∙◌, arith, All, and_parts, not-true, All-nil, All-cons, Body, Message, Token, up_to, Ring, Held, with_message, with_messages, token_refusal, holds_above, numbered}
 use Rattle.totem_ring.proofs.NotRefused.{passed}
 use Rattle.totem_ring.proofs.Holding.{Grows, Grows-insert}
 use Rattle.totem_ring.proofs.HoldingMore.{up_to-all}
@@ -22,12 +22,6 @@ pub Grows-messages : (held : Held) (ms : List Message) → Grows held (with_mess
 Grows-messages held [] = record { still = λ q h. h }
 Grows-messages held (m ∷ ms) = record { still = λ q h. (Grows-messages (with_message held m) ms).still q ((Grows-insert held m.number m).still q h) }
 
-none_is_above : (seq : ℕ) (held : Held) → holds_above held seq ≡ false → All (λ (e : ℕ × Message). e.0 ≤ seq) held
-none_is_above seq [] h = All-nil (λ (e : ℕ × Message). e.0 ≤ seq)
-none_is_above seq (e ∷ es) h =
-    let both = or_parts (nat_lt seq e.0) (holds_above es seq) h in
-    All-cons (λ (e : ℕ × Message). e.0 ≤ seq) e es (ltb-false seq e.0 both.0) (none_is_above seq es both.1)
-
 -- removing what is above seq leaves what was held before
 pub forgotten : (held new newer : Held) (seq : ℕ) → holds_above held seq ≡ false → up_to seq new ≡ up_to seq held → newer ≡ up_to seq new → newer ≡ held
-forgotten held new newer seq none below is = is ∙ below ∙ up_to-all seq held (none_is_above seq held none)
+forgotten held new newer seq none below is = is ∙ below ∙ up_to-all seq held none

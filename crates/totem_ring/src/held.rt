@@ -100,6 +100,7 @@ impl Held {
     }
 
     /// Adds a copy of this message.
+    #[tactic(auto, using(crate::proofs::Holding::one_more))]
     pub fn hold(&mut self, message: &Message) -> Result<(), AllocError>
         ensures ok { OnOk result (self.new ≡ with_message self.old message.now) }
         ensures err { OnErr result (self.new ≡ self.old) }
@@ -143,6 +144,7 @@ impl Held {
     }
 
     /// Returns copies of the messages to deliver to the node next, in order (docs/PROTOCOL.md, "The ring", "Hand up").
+    #[tactic(auto, using(crate::proofs::UpSteps::steps))]
     pub fn going_up(
         &self,
         alloc: Global,
@@ -167,6 +169,7 @@ impl Held {
     }
 
     /// Returns copies of the held messages that have one of these numbers.
+    #[tactic(auto, using(crate::proofs::HoldingMore::steps))]
     pub fn asked(&self, alloc: Global, numbers: &[Number]) -> Result<Vec<Message>, AllocError>
         ensures { IfOk result (λ found. found.items ≡ filter_map (message_at self.now) numbers.now) }
     {
@@ -180,6 +183,7 @@ impl Held {
         Ok(found)
     }
 
+    #[tactic(auto, using(crate::proofs::HoldingMore::steps))]
     pub fn try_clone(&self, alloc: Global) -> Result<Held, AllocError>
         ensures { IfOk result (λ h. h ≡ self.now) }
     {

@@ -39,6 +39,7 @@ fn place_in(numbers: &[Number], number: u32) -> Option<usize>
 }
 
 /// Returns the numbers in the list that are not held.
+#[tactic(auto, using(crate::proofs::HoldingMore::steps))]
 fn still_asked(alloc: Global, held: &Held, numbers: &[Number]) -> Result<Vec<Number>, AllocError>
     ensures { IfOk result (λ rtr. rtr.items ≡ filter (λ n. not (holds held.now n)) numbers.now) }
 {
@@ -64,6 +65,7 @@ pub fn answer(alloc: Global, held: &Held, numbers: &Requests) -> Result<Answered
 }
 
 /// Adds requests for the numbers up to `seq` that are not held, the least first, until `rtr` has 64 numbers.
+#[tactic(auto, using(crate::proofs::Missing::asking))]
 pub fn ask_missing(rtr: &mut Vec<Number>, held: &Held, seq: u32) -> Result<(), AllocError>
     ensures { OnOk result (rtr.new.items ≡ with_requests rtr.old.items (missing held.now seq)) }
 {

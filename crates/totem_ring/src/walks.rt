@@ -36,6 +36,7 @@ pub fn put(
 }
 
 /// Adds copies of these messages, whose numbers have to be above `seq`. At `Err` some of them may have been added.
+#[tactic(auto, using(crate::proofs::HoldingMore::steps))]
 pub fn add_all(
     messages: &mut BTreeMap<u32, Message>,
     seq: u32,

@@ -21,6 +21,7 @@ impl RingState {
     ghost use Rattle.totem_ring.specs.Undoing.{AnswersUndoably, IsDoneUndoably, IsVisitedUndoably};
 
     /// Makes messages of the waiting bodies, numbered from `seq` + 1.
+    #[tactic(auto, using(crate::proofs::Missing::numbering))]
     fn numbered(&self, alloc: Global, seq: u32) -> Result<Vec<Message>, AllocError>
         requires { seq + length self.now.waiting < 2 ^ 32 }
         ensures { IfOk result (λ own. own.items ≡ numbered self.now seq self.now.waiting) }
@@ -40,6 +41,7 @@ impl RingState {
     }
 
     /// Returns the token as it leaves: `seq` is the last number given, and `rtr` has the numbers still asked for.
+    #[tactic(auto, using(crate::proofs::Asking::asked_are))]
     fn token_left(&self, token: &Token, seq: u32, mut rtr: Vec<Number>) -> Result<Token, AllocError>
         requires room { token.now.token_seq + 1 < 2 ^ 64 }
         requires rules { IsRequests rtr.items }
