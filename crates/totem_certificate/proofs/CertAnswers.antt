@@ -3,13 +3,13 @@ use Rattle.totem_certificate.proofs.Common.{◌≡◌, ℕ, List, [], ◌++◌, 
 use Rattle.totem_names.specs.declared.fault.ReadError.{ReadError}
 use Rattle.totem_names.specs.declared.fault.ReadError.TheVariants as errors
 use Rattle.totem_names.specs.declared.fault.TextFault.TheVariants as text
-use Rattle.totem_names.specs.Numbers.{word_at}
 use Rattle.totem_certificate.specs.CertGrammar.{cert_words, lines_at, cert_at}
 use Rattle.totem_evs.specs.Heads.{header_at}
 use Rattle.totem_certificate.specs.CertFaults.{cert_fault}
 use Rattle.totem_certificate.specs.Reading.{IsRead, ReadsCert}
 use Rattle.totem_certificate.proofs.LinesFromLeft.{is_certificate}
 use Rattle.totem_certificate.proofs.SpelledCert.{of_text, lines_is, cert_is}
+use Rattle.totem_certificate.proofs.SteadyCert.{cert_empty}
 use Rattle.totem_certificate.proofs.OwnFaults.{own_fault}
 
 -- what was taken is the text of what was read
@@ -19,23 +19,18 @@ was_read old new cert h =
     let same : h.read ≡ cert_text cert = sym (append-nil h.read) ∙ found.1 ∙ append-nil (cert_text cert) in
     record { is = found.0; taken = h; text = subst (λ (read : List ℕ). Consumes old.remaining new.remaining read) same h.taken }
 
--- no certificate is read from nothing
-cert_none : cert_at [] ≡ Err text.Truncated
-unfolding cert_at header_at word_at
-cert_none = refl
-
 -- a reader's error, passed on
 pub passed_on : (old new : Seen) (e : ReadError) → Reads {Y = CertRecord} old new (Err e) cert_at → ReadsCert old new (Err (cert_fault e))
 passed_on old new errors.Memory h = h
 passed_on old new errors.Read h = h
-passed_on old new (errors.Text text.Header) h = breaks_at old new cert_at text.Header cert_none refl h
-passed_on old new (errors.Text text.Word) h = breaks_at old new cert_at text.Word cert_none refl h
-passed_on old new (errors.Text text.Number) h = breaks_at old new cert_at text.Number cert_none refl h
-passed_on old new (errors.Text text.Order) h = breaks_at old new cert_at text.Order cert_none refl h
+passed_on old new (errors.Text text.Header) h = breaks_at old new cert_at text.Header cert_empty refl h
+passed_on old new (errors.Text text.Word) h = breaks_at old new cert_at text.Word cert_empty refl h
+passed_on old new (errors.Text text.Number) h = breaks_at old new cert_at text.Number cert_empty refl h
+passed_on old new (errors.Text text.Order) h = breaks_at old new cert_at text.Order cert_empty refl h
 passed_on old new (errors.Text text.Members) h = absurd (own_fault h.read text.Members h.broken)
 passed_on old new (errors.Text text.End) h = absurd (own_fault h.read text.End h.broken)
 passed_on old new (errors.Text text.Truncated) h = h
-passed_on old new (errors.Text text.TooMany) h = breaks_at old new cert_at text.TooMany cert_none refl h
+passed_on old new (errors.Text text.TooMany) h = breaks_at old new cert_at text.TooMany cert_empty refl h
 
 -- ---- the first line, and then the others
 
@@ -48,10 +43,6 @@ lines_after version bytes = lines_at version 33 0 bytes >>= read_as version
 pub header_read : (a b : Seen) (version : Version) → Comes a b (header_at cert_words) (λ more. Ok (version, more)) → Comes a b cert_at (lines_after version)
 unfolding cert_at
 header_read a b version h = called a a b cert_at (header_at cert_words) (λ v. lines_after v.0 v.1) version (begins a cert_at) h
-
-pub header_failed : (a b : Seen) (e : ReadError) → Reads {Y = Version} a b (Err e) (header_at cert_words) → Reads {Y = CertRecord} a b (Err e) cert_at
-unfolding cert_at
-header_failed a b e h = failed a a b cert_at (header_at cert_words) (λ v. lines_after v.0 v.1) e (begins a cert_at) h
 
 pub lines_failed : (a b c : Seen) (version : Version) (e : ReadError) → Comes a b cert_at (lines_after version) → Reads {Y = List Numbering} b c (Err e) (lines_at version 33 0) → Reads {Y = CertRecord} a c (Err e) cert_at
 lines_failed a b c version e so_far h = failed a b c cert_at (lines_at version 33 0) (read_as version) e so_far h

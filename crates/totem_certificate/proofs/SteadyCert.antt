@@ -16,7 +16,7 @@ pub cert_steady : Steady cert_at
 unfolding cert_at
 cert_steady = bind_steady _ _ (header_steady cert_words) (λ v. bind_steady _ _ (records_steady cert_words (λ version p. numbers_at 1000000) numbering (λ version p. numbers_steady 1000000) v 33 0) (λ lines. gives_steady _))
 
-cert_empty : cert_at [] ≡ Err faults.Truncated
+pub cert_empty : cert_at [] ≡ Err faults.Truncated
 unfolding cert_at header_at word_at
 cert_empty = refl
 

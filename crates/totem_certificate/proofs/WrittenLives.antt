@@ -2,8 +2,6 @@
 use Rattle.std.proofs.Common.{arith}
 use Rattle.totem_certificate.proofs.Common.{◌≡◌, List, true, false, All, Version, Two, writes_lives, Numbering, HasFirstLife, IsFirstVersion, IsLineIn, IsCertificateIn, IsCertificateOf}
 
--- ---- any lives
-
 -- ---- lives that are written, or are first
 
 line_with : (version : Version) (line : Numbering) → (writes_lives version ≡ false → HasFirstLife line) → IsLineIn Two line → IsLineIn version line

@@ -60,6 +60,7 @@ fn read_lines<S: Source>(
 }
 
 // Reads a certificate from its first line on.
+#[tactic(auto, using(totem_evs::proofs::ReaderSteps::reader_steps), unfolding(crate::specs::CertGrammar::cert_at))]
 fn read_text<S: Source>(alloc: Global, source: &mut S) -> Result<Certificate, ReadError>
     ensures { Reads (seen S.remaining S.failures source.old)
         (seen S.remaining S.failures source.new) result cert_at }

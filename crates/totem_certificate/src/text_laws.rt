@@ -33,23 +33,27 @@ pub fn a_fault_is_no_text()
 {}
 
 /// The grammar gives neither a fault of members nor one of bytes after the last line.
+#[tactic(auto, using(crate::proofs::OwnFaults::own_fault))]
 pub fn faults_are_its_own()
     ensures { (bytes : List ℕ) (fault : TextFault) → cert_at bytes ≡ Err fault → IsOwnFault fault }
 {}
 
 /// A fault other than that of a text that ends too soon is the fault of the first byte that breaks a rule of the grammar.
+#[tactic(auto, using(crate::proofs::SteadyCert::cert_first_break))]
 pub fn fault_is_first()
     ensures { (bytes : List ℕ) (fault : TextFault) → is_short fault ≡ false → cert_at bytes ≡ Err fault → FirstBreak cert_at bytes fault }
 {}
 
 /// If the grammar finds the input too short, some text of a certificate continues it, with one exception: the last process
 /// need not be above the one before, since the order of a process is judged only at the byte after it.
+#[tactic(auto, using(crate::proofs::CertGoesOn::cut_front))]
 pub fn cut_text_goes_on()
     ensures { (bytes : List ℕ) → cert_at bytes ≡ Err Truncated → IsLooseFront bytes }
 {}
 
 /// At each other fault, some text of a certificate continues, in the same sense, the bytes before the first one that
 /// breaks a rule of the grammar; no certificate's text begins with that byte too.
+#[tactic(auto, using(crate::proofs::CertGoesOn::first_wrong))]
 pub fn fault_byte_is_first()
     ensures { (bytes : List ℕ) (fault : TextFault) → cert_at bytes ≡ Err fault → is_short fault ≡ false → (break : FirstBreak cert_at bytes fault) × IsFirstWrong break.front break.byte }
 {}

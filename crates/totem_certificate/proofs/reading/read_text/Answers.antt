@@ -1,11 +1,6 @@
 use Rattle.std.proofs.lemmas.Result.{err_from_is_err_and}
-use Rattle.totem_certificate.proofs.CertAnswers.{header_read, header_failed, lines_failed, lines_read, is_read}
+use Rattle.totem_certificate.proofs.CertAnswers.{header_read, lines_failed, lines_read, is_read}
 use Rattle.totem_certificate.proofs.reading.read_text.Goals as goal
-
-pub returns-in_err-version : goal.returns-in_err-version
-returns-in_err-version g c =
-    let p = err_from_is_err_and c.from_residual.result c.from_residual.ensures.1 in
-    rw (p.1, p.2) (header_failed _ _ _ c.in_err-version.ensures.read)
 
 pub returns-in_err-lines : goal.returns-in_err-lines
 returns-in_err-lines g c =
