@@ -1,30 +1,19 @@
 -- The change before another one, and what may follow it.
-use Rattle.totem_judge_run.proofs.Common.{◌≡◌, ◌↔◌, ℕ, ◌+◌, inl, inr, List, slice_get, Option, Some, None, sym, ◌∙◌, arith, All, Contains, RingId, ConfId, Regular, Transitional, Entry, Conf, ChangesWith, IsChange, IsRegular, IsTransitional, ChangesNext, less_or_not, NoneBefore, StandsBefore, IsLastBefore, ComesFrom}
+use Rattle.totem_evs.proofs.NextChanges.{no_change}
+use Rattle.totem_judge_run.proofs.Common.{below_more, ◌<◌, ◌≡◌, ◌↔◌, ℕ, ◌+◌, inl, inr, List, slice_get, Option, Some, None, sym, ◌∙◌, arith, All, Contains, RingId, ConfId, Regular, Transitional, Entry, Conf, ChangesWith, IsChange, IsRegular, IsTransitional, ChangesNext, NoneBefore, StandsBefore, IsLastBefore, ComesFrom}
 use Rattle.totem_judge_run.specs.Succession.{IsWrongSuccession}
 use Rattle.totem_judge_run.proofs.Decisions.{neither_below, all_or_not, same_ring_or_not}
 
 -- ---- along a log
 
-changes_not : (log : List Entry) (k : ℕ) (e : Entry) → slice_get log k ≡ Some e → ((x : ConfId) (ms : List ℕ) → e ≡ Conf x ms → ⊥) → IsChange log k → ⊥
-changes_not log k e at not_conf (x, (ms, at_k)) = not_conf x ms cc
-
 -- an entry that is no change leaves it
 pub still_before : (log : List Entry) (at : ℕ) (before : Option ℕ) (e : Entry) → slice_get log at ≡ Some e → ((x : ConfId) (ms : List ℕ) → e ≡ Conf x ms → ⊥) → IsLastBefore log at before → IsLastBefore log (at + 1) before
-still_before log at None e here not_conf last = record {
-  none = λ k lt change. elim (less_or_not k at) [
-    | inl under ↦ last.none k under change
-    | inr (inl over) ↦ omega arith
-    | inr (inr same) ↦ changes_not log at e here not_conf (rw same at change)
-  ];
-}
+still_before log at None e here not_conf last = record { none = below_more (λ k. IsChange log k → ⊥) at last.none (no_change log at e here not_conf) }
 still_before log at (Some i) e here not_conf last = record {
   change = last.change;
-  earlier = (let lt = last.earlier in omega arith);
-  none_between = λ k later lt change. elim (less_or_not k at) [
-    | inl under ↦ last.none_between k later under change
-    | inr (inl over) ↦ omega arith
-    | inr (inr same) ↦ changes_not log at e here not_conf (rw same at change)
-  ];
+  earlier = omega (arith, last.earlier);
+  none_between = λ k later lt. below_more (λ j. i < j → IsChange log j → ⊥) at (λ j under after. last.none_between j after under)
+      (λ after. no_change log at e here not_conf) k lt later;
 }
 
 pub now_before : (log : List Entry) (at : ℕ) (e : Entry) (x : ConfId) (ms : List ℕ) → slice_get log at ≡ Some e → e ≡ Conf x ms → StandsBefore log (at + 1) at

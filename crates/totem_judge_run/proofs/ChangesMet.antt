@@ -1,5 +1,5 @@
 -- Entering the changes of a run, one after the other.
-use Rattle.totem_judge_run.proofs.Common.{below_more, ◌≡◌, ℕ, ◌+◌, ◌<◌, ◌≤◌, inl, inr, List, [], ◌∷◌, ◌++◌, length, slice_get, Option, Some, None, Result, IfOk, Bool, true, false, cond, refl, sym, ◌∙◌, ap, arith, Contains, IsTrue, OnTrue, slice_get_within, RingId, ConfId, Regular, Transitional, Entry, Conf, Log, ChangesWith, log_of, ChangesNext, TakesTurns, HasOneOrigin, log_of_cases, before_push, stands_before, stands_last, ChangesAgree, first_to, IsLastBefore, ComesFrom, IsMet, Keeps, Meets, IsRight, Enters, AreRight, EntersLog}
+use Rattle.totem_judge_run.proofs.Common.{below_more, ◌≡◌, ℕ, ◌+◌, ◌<◌, ◌≤◌, inl, inr, List, [], ◌∷◌, ◌++◌, length, slice_get, Option, Some, Result, IfOk, Bool, true, false, cond, refl, sym, ◌∙◌, arith, Contains, IsTrue, OnTrue, slice_get_within, RingId, ConfId, Regular, Transitional, Entry, Conf, Log, ChangesWith, log_of, ChangesNext, TakesTurns, HasOneOrigin, log_of_cases, before_push, stands_before, stands_last, ChangesAgree, first_to, IsLastBefore, ComesFrom, IsMet, Keeps, Meets, IsRight, Enters, AreRight, EntersLog}
 use Rattle.std.specs.BTreeMap as tree
 use Rattle.totem_names.proofs.Exact.{exact_conf, equal_at, apart_or_at}
 use Rattle.totem_judge_run.specs.declared.changes_2_3.FirstChange.{FirstChange}
@@ -15,8 +15,7 @@ still_first : (old new : FirstChanges) (y : ConfId) (change f : FirstChange) (o 
 still_first old new y change f o h k m p = grind (arith, stands_before)
 
 none_first : (firsts : FirstChanges) (x : ConfId) (o : Option ℕ) (f : FirstChange) → o ≡ tree.get conf_order firsts.index x → ((i : ℕ) → o ≡ Some i → ⊥) → first_to firsts x ≡ Some f → ⊥
-none_first firsts x None f is none at = (let nowhere : first_to firsts x ≡ None = rw (← is) refl in cc)
-none_first firsts x (Some i) f is none at = none i refl
+none_first firsts x o f is none at = grind arith
 
 -- it is the first one
 pub met_first : (old new : FirstChanges) (x : ConfId) (o : Option ℕ) (change : FirstChange) (n : ℕ) → o ≡ tree.get conf_order old.index x → ((i : ℕ) → o ≡ Some i → ⊥) → new.list.items ≡ old.list.items ++ change ∷ []
@@ -42,10 +41,7 @@ pub indexed_more : (list more : List FirstChange) (old new : tree.BTreeMap ConfI
 indexed_more list more old new o change n ok is none last updates items so = record { each = λ k f at. here ok k f (rw items at at) }
   where
     kept : (k : ℕ) (f : FirstChange) → slice_get list k ≡ Some f → tree.get conf_order new f.conf.now ≡ Some k
-    kept k f at = elim (apart_or_at conf_order change.conf.now f.conf.now) [
-      | inl here ↦ (let same : change.conf.now ≡ f.conf.now = exact_conf change.conf.now f.conf.now (equal_at (conf_order change.conf.now f.conf.now) here) in absurd (none k (is ∙ rw same (so.each k f at))))
-      | inr apart ↦ updates.2 f.conf.now apart ∙ so.each k f at
-    ]
+    kept k f at = grind (arith, apart_or_at, exact_conf, equal_at)
 
     here : (ok : Bool) (k : ℕ) (f : FirstChange) → slice_get (cond ok (list ++ change ∷ []) list) k ≡ Some f → tree.get conf_order new f.conf.now ≡ Some k
     here false k f at = kept k f at
@@ -107,21 +103,13 @@ module _ (run : List Log) (firsts : FirstChanges) (k : ℕ) (end : length run �
     right : IsRight firsts log i x ms
 
   right_in : (p i : ℕ) (x : ConfId) (ms : List ℕ) → ChangesWith (log_of run p) i x ms → RightIn p i x ms
-  right_in p i x ms at = elim (log_of_cases run p) [
-    | inl none ↦ absurd (let there : slice_get {X = Entry} [] i ≡ Some (Conf x ms) = rw none at at in cc)
-    | inr (j, log, at_log, procs, is) ↦
-        let there : ChangesWith log.entries i x ms = rw is at at in
-        let within = slice_get_within run j log at_log in
-        record { log = log; proc = procs; entries = is; right = (so.each j (omega arith) log at_log).each i (slice_get_within log.entries i (Conf x ms) there) x ms there }
-  ]
+  right_in p i x ms at = grind (arith, log_of_cases, slice_get_within)
 
   not_wrong : (p i j : ℕ) (x y : ConfId) (ms ns : List ℕ) → ChangesNext (log_of run p) i j x y ms ns → IsWrongSuccession x ms y ns → ⊥
   not_wrong p i j x y ms ns next = (let h = right_in p j y ns next.second in h.right.turns i x ms (rw h.entries at next))
 
   one_met : (x : ConfId) (ms ns : List ℕ) (c d : RingId) → IsMet firsts x ms c → IsMet firsts x ns d → (ms ≡ ns) × (c ≡ d)
-  one_met x ms ns c d h g =
-      let same : h.change ≡ g.change = (let a = h.is in let b = g.is in cc) in
-      (sym h.members ∙ ap (λ (f : FirstChange). f.members.now) same ∙ g.members, sym h.from ∙ ap (λ (f : FirstChange). f.from.now) same ∙ g.from)
+  one_met x ms ns c d h g = grind arith
 
   all_one : (p i q j : ℕ) (x : ConfId) (ms ns : List ℕ) → ChangesWith (log_of run p) i x ms → ChangesWith (log_of run q) j x ns → ms ≡ ns
   all_one p i q j x ms ns a b =

@@ -1,4 +1,4 @@
--- The names that most proofs here cite, passed on from one place. Declares nothing.
+-- The names that most proofs here cite, passed on from one place. Declares a set of lemmas.
 pub use Rattle.std.proofs.Common.{refl, ◌∙◌, ap, arith, ◌≡◌, length, ◌<◌, sym, ℕ, List, inl, inr, ◌+◌, Some, slice_get, [], ◌≤◌, false, ◌∷◌, Bool, ◌↔◌, IsTrue, None, Option, take, ◌++◌, Contains, below_more, suc, get_or, true, ◌⊎◌, ◌-◌, All, AllPairs, Err, IfOk, Ok, Result, rules, zero, Global, MatchOption, Vec, append_assoc, cond, option_to_list, ◌==◌, ◌≢◌}
 pub use Rattle.totem_evs.proofs.Common.{slice_get_within, ConfId, log_of, RunRecord, StaysInPlace, IsChange, MsgId, RingId, get_or_from_slice_get, slice_get-get_or, Regular, ChangesTo, Transitional, take_all, IsTransitional, Place, Contains-append_left, StandsIn, TakesTurns, IsRegular, Com, Follows, IsFirstChange, IsNextChange, IsFailure, append-nil, take_more, All-cons, All-nil, All-push, Contains-append_cases, Contains-append_right, Contains-push, Contains-push_cases, HasCertificate, Certified, IsBelow, Numbering, number_at, Delivers, IsEvent, IsClosedBy, id_of, life_of}
 pub use Rattle.totem_names.proofs.Common.{get_or_default}
@@ -24,3 +24,6 @@ pub use Rattle.totem_judge_run.specs.Ends.{IsLast, GoesOn, HasNoChange, HasNoLog
 pub use Rattle.totem_judge_run.specs.FirstChanges.{IsLastBefore, AreRight, ComesFrom, Enters, Keeps, EntersLog, IsMet, IsRight, Meets, NoneBefore, StandsBefore, first_to}
 pub use Rattle.totem_judge_run.specs.Once.{IsNoSendBetween, messages_in, sent_in, message_in, message_order, AddsSend, RisesByOrder}
 pub use Rattle.totem_judge_run.specs.Orderly.{AllStayInPlace, ChangesAgree, IsOrderly, SendsAreOnce, DeliveriesAreOnce}
+
+-- the steps of a loop that gathers, element by element
+pub ruleset gathered = (common_steps, filter_map-append, at_read)

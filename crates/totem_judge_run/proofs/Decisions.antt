@@ -1,5 +1,5 @@
 -- Facts that hold or do not.
-use Rattle.totem_judge_run.proofs.Common.{◌≡◌, ℕ, suc, ◌+◌, ◌<◌, ◌≤◌, ◌⊎◌, inl, inr, List, [], ◌∷◌, length, get_or, take, false, IsTrue, ◌↔◌, refl, ap, arith, All, Contains, All-nil, All-cons, All-head, All-tail, All-push, take_more, take_all, get_or_from_slice_get, slice_get-get_or, RingId, ConfId, Regular, Transitional, IsRegular, IsTransitional, less_or_not}
+use Rattle.totem_judge_run.proofs.Common.{◌≡◌, ℕ, suc, ◌+◌, ◌<◌, ◌≤◌, ◌⊎◌, inl, inr, List, [], ◌∷◌, length, get_or, take, false, IsTrue, ◌↔◌, refl, ap, arith, All, Contains, All-nil, All-cons, All-head, All-tail, All-push, take_more, take_all, get_or_from_slice_get, slice_get-get_or, RingId, ConfId, IsRegular, IsTransitional, less_or_not}
 use Rattle.std.proofs.lemmas.Bool.{cases_eq}
 use Rattle.std.proofs.lemmas.Map.Made.{Contains-tail}
 
@@ -9,8 +9,7 @@ both_or_not h k = grind arith
 
 -- a fact that holds exactly where another does
 pub same_or_not : {P Q : Type 0} → P ⊎ (P → ⊥) → (P → Q) → (Q → P) → Q ⊎ (Q → ⊥)
-same_or_not (inl p) to from = inl (to p)
-same_or_not (inr never) to from = inr (λ q. never (from q))
+same_or_not h to from = grind arith
 
 pub below_or_not : (a b : ℕ) → (a < b) ⊎ (a < b → ⊥)
 below_or_not a b = grind (arith, less_or_not)
@@ -43,8 +42,7 @@ pub same_ring_or_not : (c d : RingId) → (c ≡ d) ⊎ (c ≡ d → ⊥)
 same_ring_or_not c d = same_or_not (both_or_not (cases_eq c.seq d.seq) (cases_eq c.rep d.rep)) (λ h. same_ring c d h.0 h.1) (λ e. (ap (λ (r : RingId). r.seq) e, ap (λ (r : RingId). r.rep) e))
 
 pub regular_or_transitional : (x : ConfId) → IsRegular x ⊎ IsTransitional x
-regular_or_transitional (Regular c) = inl tt
-regular_or_transitional (Transitional least next) = inr tt
+regular_or_transitional x = grind arith
 
 -- loops over a list of processes
 pub all_in_itself : (ms ns : List ℕ) → ms ≡ ns → All (Contains ms) ns

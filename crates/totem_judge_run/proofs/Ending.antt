@@ -1,16 +1,14 @@
 -- In which configuration a log ends: that of its last change.
-use Rattle.totem_judge_run.proofs.Common.{◌≡◌, ◌↔◌, ◌-◌, ◌+◌, ◌<◌, ℕ, inl, inr, List, [], ◌∷◌, ◌++◌, length, slice_get, Option, None, Some, Bool, false, IsTrue, refl, arith, slice_get_within, ConfId, Entry, Fail, Log, StaysInPlace, LastChange, EndsIn, less_or_not, Along, along_more, GoesOn, IsLast, StandsAtEnd, EndsNowhere, IsEnd}
+use Rattle.totem_judge_run.proofs.LogEnds.{fails_last}
+use Rattle.totem_judge_run.proofs.Common.{◌≡◌, ◌↔◌, ◌-◌, ◌+◌, ◌<◌, ℕ, List, [], ◌∷◌, ◌++◌, length, slice_get, Option, None, Some, Bool, false, IsTrue, arith, ConfId, Entry, Fail, Log, StaysInPlace, LastChange, EndsIn, Along, along_more, GoesOn, IsLast, StandsAtEnd, EndsNowhere, IsEnd}
 
 -- a log that fails has the failure at its end
 pub goes_on : (log : List Entry) (e : Entry) → StaysInPlace log → 0 < length log → slice_get log (length log - 1) ≡ Some e → ((x : ConfId) → e ≡ Fail x → ⊥) → GoesOn log
 goes_on log e stays some at not_fail = record {
   never = λ i x fails.
-      let within = slice_get_within log i (Fail x) fails in
-      elim (less_or_not i (length log - 1)) [
-        | inl under ↦ stays.final i (length log - 1) x fails under (omega arith)
-        | inr (inl over) ↦ omega arith
-        | inr (inr same) ↦ (let here : slice_get log (length log - 1) ≡ Some (Fail x) = rw same at fails in not_fail x cc)
-      ];
+      let last : i ≡ length log - 1 = omega (arith, fails_last log i x stays fails) in
+      let here : slice_get log (length log - 1) ≡ Some (Fail x) = rw last at fails in
+      not_fail x cc;
 }
 
 -- a log without a failure ends where its last change is
@@ -38,8 +36,7 @@ pub end_nowhere : (log : List Entry) (last : Option ℕ) → last ≡ None → I
 end_nowhere log last is end = rw is at end
 
 pub end_nowhere_but : (log : List Entry) (last : Option ℕ) → IsEnd log last → ((i : ℕ) → last ≡ Some i → ⊥) → EndsNowhere log
-end_nowhere_but log None end not = end
-end_nowhere_but log (Some i) end not = absurd (not i refl)
+end_nowhere_but log last end not = grind arith
 
 -- those for the first n logs
 abbrev pub EndsBefore : List Log → ℕ → List (Option ℕ) → Type 0

@@ -1,5 +1,5 @@
 -- Whether the members of a quiet log's last configuration end there too.
-use Rattle.totem_judge_run.proofs.Common.{below_more, ◌≡◌, ◌↔◌, ◌+◌, ◌<◌, ◌≤◌, ℕ, inl, inr, List, [], ◌∷◌, ◌++◌, length, get_or, slice_get, Some, Bool, IsTrue, sym, ◌∙◌, ap, arith, slice_get_read, slice_get_within, get_or_from_slice_get, slice_get-get_or, ConfId, Place, Entry, Conf, Log, IsQuiet, ending_of, log_of, IsLastChange, SharesEnd, EndsTogether, Rising, log_of_cases, log_of_at, in_order, less_or_not, GoesOn, HasNoChange, StandsLast, IsLast, IsLogEnd, LogShares, IsLogOf, HasNoLog, AllShare, SomeStrays, StraysAt, EndsWithAll, Along, along_more}
+use Rattle.totem_judge_run.proofs.Common.{below_more, AllWithin, ◌≡◌, ◌↔◌, ◌+◌, ◌<◌, ◌≤◌, ℕ, inl, inr, List, [], ◌∷◌, ◌++◌, length, get_or, slice_get, Some, Bool, IsTrue, sym, ◌∙◌, ap, arith, slice_get_read, slice_get_within, get_or_from_slice_get, ConfId, Place, Entry, Conf, Log, IsQuiet, ending_of, log_of, IsLastChange, SharesEnd, EndsTogether, Rising, log_of_cases, log_of_at, in_order, less_or_not, GoesOn, HasNoChange, StandsLast, IsLast, IsLogEnd, LogShares, IsLogOf, HasNoLog, AllShare, SomeStrays, StraysAt, EndsWithAll, Along, along_more}
 use Rattle.totem_evs.specs.declared.ending.Ending.TheVariants.{Quiet}
 use Rattle.totem_evs.specs.declared.spec.SpecNo.TheVariants as spec
 use Rattle.totem_evs.specs.ChangeFaults.{EndsAlone, BreaksEnd}
@@ -20,15 +20,8 @@ ends_more run n log end ends at goes last before = along_more (λ (l : Log) (e :
 
 -- ---- finding the log of a process
 
--- none of the first n logs is p's
-pub record NoLogBefore (run : List Log) (p n : ℕ) : Type 0 where
-  pub none : (j : ℕ) → j < n → (log : Log) → slice_get run j ≡ Some log → log.proc ≡ p → ⊥
-
-pub no_log_more : (run : List Log) (p n : ℕ) (log : Log) → slice_get run n ≡ Some log → (log.proc ≡ p → ⊥) → NoLogBefore run p n → NoLogBefore run p (n + 1)
-no_log_more run p n log at other before = grind arith
-
-pub no_log : (run : List Log) (p n : ℕ) → length run ≤ n → NoLogBefore run p n → HasNoLog run p
-no_log run p n end before = record { none = λ (j, log, lt, at, same). before.none j (omega arith) log (rw at at (slice_get-get_or run j log lt)) same }
+pub no_log : (run : List Log) (p n : ℕ) → length run ≤ n → AllWithin (λ log. log.proc ≡ p → ⊥) run 0 n → HasNoLog run p
+no_log run p n end before = record { none = λ (j, log, lt, at, same). rw at at (before j log (omega arith) (omega arith)) same }
 
 -- what is read at the index of p's log is p's log
 pub read_there : (run logs : List Log) (p k : ℕ) (log : Log) → logs ≡ run → IsLogOf run p k → log ≡ get_or logs k log → (slice_get run k ≡ Some log) × (log.proc ≡ p)
@@ -67,17 +60,8 @@ shared run k log x p b rising at proc decides = (λ t. to (decides.0 t), λ h. d
 
 -- ---- whether all members do
 
--- the first n members share the end
-pub record ShareBefore (run : List Log) (x : ConfId) (ms : List ℕ) (n : ℕ) : Type 0 where
-  pub each : (j : ℕ) → j < n → (q : ℕ) → slice_get ms j ≡ Some q → SharesEnd run x q
-
-pub share_more : (run : List Log) (x : ConfId) (ms : List ℕ) (n r : ℕ) → slice_get ms n ≡ Some r → SharesEnd run x r → ShareBefore run x ms n → ShareBefore run x ms (n + 1)
-share_more run x ms n r at shares before = record {
-  each = below_more (λ j. (q : ℕ) → slice_get ms j ≡ Some q → SharesEnd run x q) n before.each (λ q at_n. (let one : r ≡ q = cc in rw one at shares));
-}
-
-pub all_share : (run : List Log) (x : ConfId) (ms : List ℕ) (n : ℕ) → length ms ≤ n → ShareBefore run x ms n → AllShare run x ms
-all_share run x ms n end before = record { each = λ q (j, lt, is). before.each j (omega arith) q (rw (← is) (slice_get-get_or ms j q lt)) }
+pub all_share : (run : List Log) (x : ConfId) (ms : List ℕ) (n : ℕ) → length ms ≤ n → AllWithin (SharesEnd run x) ms 0 n → AllShare run x ms
+all_share run x ms n end before = record { each = λ q (j, lt, is). rw is at (before j q (omega arith) (omega arith)) }
 
 -- ---- whether the members of a log's last change do
 
@@ -127,12 +111,9 @@ all_together run k rising end before = λ p i x ms q quiet last among. elim (log
       i x ms q (rw found.4 at last) among
 ]
 
--- none of the first k logs is quiet
-pub record NoneQuietBefore (run : List Log) (k : ℕ) : Type 0 where
-  pub none : (j : ℕ) (log : Log) → j < k → slice_get run j ≡ Some log → log.ending ≡ Quiet → ⊥
-
-pub none_alone : (run : List Log) (k : ℕ) → Rising run → length run ≤ k → NoneQuietBefore run k → EndsTogether run
-none_alone run k rising end before = all_together run k rising end (record { each = λ j lt log at quiet. absurd (before.none j log lt at quiet) })
+pub none_alone : (run : List Log) (k : ℕ) → Rising run → length run ≤ k → AllWithin (λ log. log.ending ≡ Quiet → ⊥) run 0 k → EndsTogether run
+none_alone run k rising end before = all_together run k rising end
+    (record { each = λ j lt log at quiet. absurd (before j log (omega arith) lt (rw (get_or_from_slice_get run j log log at) quiet)) })
 
 -- the first quiet log that ends without a member, after those that end with all, is the first event
 pub least_end : (run : List Log) (k i n : ℕ) (log : Log) → Rising run → slice_get run k ≡ Some log → log.ending ≡ Quiet → StraysAt run log.entries i → TogetherBefore run k → n ≡ i + 1

@@ -1,5 +1,5 @@
 -- The order of what is pending.
-use Rattle.totem_judge_run.proofs.Common.{◌≡◌, ◌⊎◌, ◌<◌, ◌≤◌, ◌+◌, ◌-◌, ℕ, false, inl, inr, get_or, length, List, Bool, true, sym, ap, ◌∙◌, arith, Result, Ok, Err, IfOk, Vec, Global, [], Contains, AllPairs, nat_cmp, is_eq, is_ge, eq_by_cmp, ordering_then, MatchOrdering, get_or_default, id_of, life_of, RingId, MsgId, Log, PendingBelow, ArePending, less_or_not, IsInOrder, HoldsPending}
+use Rattle.totem_judge_run.proofs.Common.{get_or_default, inl, inr, ◌≡◌, ◌⊎◌, ◌<◌, ◌+◌, ◌-◌, ℕ, false, get_or, length, List, Bool, true, sym, ap, ◌∙◌, arith, Result, Ok, Err, IfOk, Vec, Global, [], Contains, AllPairs, nat_cmp, is_eq, is_ge, eq_by_cmp, ordering_then, MatchOrdering, RingId, MsgId, Log, PendingBelow, ArePending, less_or_not, IsInOrder, HoldsPending}
 use Rattle.std.specs.declared.cmp.Ordering.{Ordering}
 use Rattle.std.specs.declared.cmp.Ordering.TheVariants.{Less, Equal}
 use Rattle.std.specs.Cmp.{IsEquivalence}
@@ -7,7 +7,7 @@ use Rattle.std.specs.declared.alloc.AllocError.{AllocError}
 use Rattle.std.specs.List.Retain.{IsFiltered, DiffersFromLast}
 use Rattle.std.specs.List.Sorted.{IsPermutation, IsSorted}
 use Rattle.std.proofs.lemmas.Map.Lookups.{CmpEqualImpliesEq}
-use Rattle.std.proofs.lemmas.Map.Keys.{Less-from_sorted}
+use Rattle.std.proofs.lemmas.Map.Keys.{Less-from_sorted, sorted_from_all_adjacent}
 use Rattle.std.proofs.lemmas.List.Filters.{dedup_is}
 use Rattle.std.proofs.lemmas.List.Kept.{IsStrictlySortedBy-dedup, Contains-dedup, Contains-from_dedup}
 use Rattle.std.proofs.lemmas.List.Sorted.{Contains-permutation, IsPermutation-sym}
@@ -36,17 +36,13 @@ same_pending : (x : Pending) (p : ℕ) (m : MsgId) → x.proc ≡ p → x.msg �
 same_pending x p m procs msgs = (let of : ℕ → MsgId → Pending = λ q n. record { proc = q; msg = n } in ap (λ (q : ℕ). of q x.msg) procs ∙ ap (λ (n : MsgId). of p n) msgs)
 
 pub exact_pending : CmpEqualImpliesEq pending.cmp-value.it
-exact_pending a b e = let h = both_equal (life.cmp-value.it a.proc b.proc) (message.cmp-value.it a.msg b.msg) e in
-    same_pending a b.proc b.msg (exact_proc a.proc b.proc h.0) (exact_message a.msg b.msg h.1)
+exact_pending a b e = grind (arith, both_equal, same_pending, exact_proc, exact_message)
 
 message_below : (m n : MsgId) → message.cmp-value.it m n ≡ Less → MessageBelow m n
 message_below m n e = grind (arith, less_first, below_from_less, exact_ring, compared)
 
 proc_below : (a b : ℕ) → life.cmp-value.it a b ≡ Less → a < b
-proc_below a b e = (below_is_less a b).0 (elim (less_first (nat_cmp (id_of a) (id_of b)) (nat_cmp (life_of a) (life_of b)) e) [
-  | inl lt ↦ inl (compared (id_of a) (id_of b) Less (sym lt))
-  | inr (same, lt) ↦ inr (compared (id_of a) (id_of b) Equal (sym same), compared (life_of a) (life_of b) Less (sym lt))
-])
+proc_below a b e = grind (arith, below_is_less, less_first, compared)
 
 pending_below : (a b : Pending) → pending.cmp-value.it a b ≡ Less → PendingBelow a b
 pending_below a b e = grind (arith, less_first, proc_below, exact_proc, message_below)
@@ -68,35 +64,24 @@ ordered_once E equivalent ties list sorted ordered moved rises filtered = rw (de
   );
 })
 
--- the first n elements are in ascending order
-pub record AscendTo (list : List Pending) (n : ℕ) : Type 0 where
-  pub each : (i j : ℕ) (d : Pending) → i < j → j < n → pending.cmp-value.it (get_or list i d) (get_or list j d) ≡ Less
+-- each of the first n elements is below the next
+abbrev pub RisesTo : List Pending → ℕ → Type 0
+RisesTo list n = (k : ℕ) (d : Pending) → k + 1 < n → pending.cmp-value.it (get_or list k d) (get_or list (k + 1) d) ≡ Less
 
--- the element at n is above the one before it
-pub ascend_more : (list : List Pending) (n : ℕ) (a b : Pending) → 0 < n → a ≡ get_or list (n - 1) a → b ≡ get_or list n b → n < length list → is_ge (pending.cmp-value.it a b) ≡ false → AscendTo list n → AscendTo list (n + 1)
-ascend_more list n a b positive at_a at_b within above before = record {
-  each = λ i j d lt until. elim (less_or_not j n) [
-    | inl under ↦ before.each i j d lt under
-    | inr (inl over) ↦ absurd (omega arith)
-    | inr (inr same) ↦ rw same (last i d (omega arith))
-  ];
-}
-  where
-    less : pending.cmp-value.it a b ≡ Less
-    less = below_is (pending.cmp-value.it a b) above
+pub ascend_more : (list : List Pending) (n : ℕ) (a b : Pending) → 0 < n → a ≡ get_or list (n - 1) a → b ≡ get_or list n b → n < length list → is_ge (pending.cmp-value.it a b) ≡ false
+    → RisesTo list n → RisesTo list (n + 1)
+ascend_more list n a b positive at_a at_b within above before k d lt = elim (less_or_not (k + 1) n) [
+  | inl under ↦ before k d under
+  | inr (inl over) ↦ absurd (omega arith)
+  | inr (inr same) ↦
+      let at : k ≡ n - 1 = omega arith in
+      rw (same, at, get_or_default list (n - 1) d a (omega arith), get_or_default list n d b within, ← at_a, ← at_b)
+      (below_is (pending.cmp-value.it a b) above)
+]
 
-    step : (d : Pending) → pending.cmp-value.it (get_or list (n - 1) d) (get_or list n d) ≡ Less
-    step d = rw (get_or_default list (n - 1) d a (omega arith), get_or_default list n d b within, ← at_a, ← at_b) less
-
-    last : (i : ℕ) (d : Pending) → i < n → pending.cmp-value.it (get_or list i d) (get_or list n d) ≡ Less
-    last i d lt = elim (less_or_not i (n - 1)) [
-      | inl under ↦ total-law.trans (get_or list i d) (get_or list (n - 1) d) (get_or list n d) (before.each i (n - 1) d under (omega arith)) (step d)
-      | inr (inl over) ↦ absurd (omega arith)
-      | inr (inr same) ↦ rw same (step d)
-    ]
-
-pub ascending : (list : List Pending) (n : ℕ) → length list ≤ n → AscendTo list n → AllPairs PendingBelow list
-ascending list n whole all = λ i j d lt within. pending_below _ _ (all.each i j d lt (omega arith))
+pub ascending : (list : List Pending) → RisesTo list (length list) → AllPairs PendingBelow list
+ascending list rises = λ i j d lt within. pending_below _ _
+    (Less-from_sorted pending.cmp-value.it list i j d (sorted_from_all_adjacent total-law list d (λ k next. rises k d next)) lt within)
 
 pub are_pending : (run : List Log) (list ordered : List Pending) → HoldsPending run list → IsInOrder list ordered → ArePending run ordered
 are_pending run list ordered holds is = record {

@@ -1,5 +1,5 @@
 -- What holds of each log of a run, log after log; and that they stay in place.
-use Rattle.totem_judge_run.proofs.Common.{below_more, ◌≡◌, ℕ, ◌+◌, ◌<◌, ◌≤◌, inl, inr, List, [], length, slice_get, Some, refl, arith, slice_get_within, Place, Entry, Log, StaysInPlace, log_of, log_of_cases, AllStayInPlace}
+use Rattle.totem_judge_run.proofs.Common.{slice_get_read, below_more, ◌≡◌, ℕ, ◌+◌, ◌<◌, ◌≤◌, List, [], length, slice_get, Some, refl, arith, slice_get_within, Place, Entry, Log, StaysInPlace, log_of, log_of_cases, AllStayInPlace}
 
 module _ (P : List Entry → Type 0) where
   -- P holds of each log before the one at k
@@ -7,15 +7,12 @@ module _ (P : List Entry → Type 0) where
     pub each : (j : ℕ) (log : Log) → j < k → slice_get run j ≡ Some log → P log.entries
 
   pub one_more : (run : List Log) (k : ℕ) (log : Log) → slice_get run k ≡ Some log → P log.entries → EachBefore run k → EachBefore run (k + 1)
-  one_more run k log at here before = record {
-    each = λ j l lt at_j. below_more (λ i. (g : Log) → slice_get run i ≡ Some g → P g.entries) k (λ i under g at_g. before.each i g under at_g) (λ g at_g. (let same : log ≡ g = cc in rw same at here)) j lt l at_j;
-  }
+  one_more run k log at here before = grind (arith, below_more)
 
   pub each_process : (run : List Log) (k : ℕ) → P [] → length run ≤ k → EachBefore run k → (p : ℕ) → P (log_of run p)
-  each_process run k empty end before p = elim (log_of_cases run p) [
-    | inl none ↦ rw none empty
-    | inr found ↦ rw found.4 (before.each found.0 found.1 (omega (arith, slice_get_within run found.0 found.1 found.2)) found.2)
-  ]
+  each_process run k empty end before p = grind (arith, log_of_cases, slice_get_within)
+
+pub ruleset log_by_log = (slice_get_read, one_more, each_process)
 
 empty_placed : StaysInPlace []
 empty_placed = grind arith

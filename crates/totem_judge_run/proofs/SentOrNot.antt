@@ -1,7 +1,9 @@
 -- A message was sent for a delivery, or it was not.
-use Rattle.totem_judge_run.proofs.Common.{below_more, ◌≡◌, ℕ, zero, suc, ◌<◌, ◌⊎◌, inl, inr, List, [], ◌∷◌, length, slice_get, Option, Some, None, refl, ap, arith, slice_get_within, RingId, ConfId, Regular, Transitional, MsgId, Entry, Conf, Send, Deliver, Fail, Log, log_of, ChangesTo, IsChange, IsTransitional, IsFirstChange, IsNextChange, Follows, Com, IsChangeTo, log_of_cases, one_next, same_first}
+use Rattle.totem_judge_run.proofs.Common.{below_more, ◌≡◌, ℕ, zero, suc, ◌<◌, ◌⊎◌, inl, inr, List, [], ◌∷◌, length, slice_get, Option, Some, None, refl, ap, arith, slice_get_within, RingId, ConfId, Regular, MsgId, Entry, Conf, Send, Log, log_of, ChangesTo, IsChange, IsTransitional, IsFirstChange, IsNextChange, Follows, Com, IsChangeTo, log_of_cases, one_next, same_first}
 use Rattle.std.proofs.lemmas.Bool.{cases_eq}
+use Rattle.totem_evs.specs.Events.{Sends}
 use Rattle.totem_judge_run.specs.Sent.{WasSentTo, IsSendTo}
+use Rattle.totem_judge_run.proofs.Staying.{same_change}
 use Rattle.totem_judge_run.proofs.Decisions.{both_or_not, same_or_not, below_or_not, same_ring_or_not}
 
 pub same_conf_or_not : (x y : ConfId) → (x ≡ y) ⊎ (x ≡ y → ⊥)
@@ -32,14 +34,11 @@ first_before log P decide (suc n) = elim (first_before log P decide n) [ inl fou
     more : NoneHas log P n → ((e : Entry) → slice_get log n ≡ Some e → P n e → ⊥) → NoneHas log P (suc n)
     more none here = record { none = λ i lt. below_more (λ k. (e : Entry) → slice_get log k ≡ Some e → P k e → ⊥) n none.none here i (omega arith) }
 
-    only : (e f : Entry) → slice_get log n ≡ Some e → slice_get log n ≡ Some f → (P n e → ⊥) → P n f → ⊥
-    only e f at at' never h = let same : f ≡ e = cc in never (rw same at h)
-
     look : (o : Option Entry) → slice_get log n ≡ o → NoneHas log P n → FirstWith log P ⊎ NoneHas log P (suc n)
     look None at none = inr (more none (λ e at' h. cc))
     look (Some e) at none = elim (decide n e) [
       | inl here ↦ inl (record { index = n; entry = e; at = at; has = here; before = none })
-      | inr never ↦ inr (more none (λ f at' h. only e f at at' never h))
+      | inr never ↦ inr (more none (λ f at' h. let same : f ≡ e = cc in never (rw same at h)))
     ]
 
 pub first_or_none : (log : List Entry) (P : ℕ → Entry → Type 0) → ((i : ℕ) (e : Entry) → P i e ⊎ (P i e → ⊥)) → FirstWith log P ⊎ ((i : ℕ) (e : Entry) → slice_get log i ≡ Some e → P i e → ⊥)
@@ -51,9 +50,7 @@ first_or_none log P decide = elim (first_before log P decide (length log)) [
 -- the first change to x, and the next change after an index
 pub change_to_or_not : (x : ConfId) (e : Entry) → IsChangeTo e x ⊎ (IsChangeTo e x → ⊥)
 change_to_or_not x (Conf y ms) = same_conf_or_not y x
-change_to_or_not x (Send m y s) = inr (λ h. h)
-change_to_or_not x (Deliver m y) = inr (λ h. h)
-change_to_or_not x (Fail y) = inr (λ h. h)
+change_to_or_not x other = inr (λ h. h)
 
 pub change_of : (log : List Entry) (i : ℕ) (x : ConfId) (e : Entry) → slice_get log i ≡ Some e → IsChangeTo e x → ChangesTo log i x
 change_of log i x e h k = grind arith
@@ -66,9 +63,7 @@ first_change_or_not log x = elim (first_or_none log (λ i e. IsChangeTo e x) (λ
 
 abbrev pub IsAnyChange : Entry → Type 0
 IsAnyChange (Conf y ms) = Unit {0}
-IsAnyChange (Send m y s) = ⊥
-IsAnyChange (Deliver m y) = ⊥
-IsAnyChange (Fail y) = ⊥
+IsAnyChange other = ⊥
 
 pub any_change_or_not : (e : Entry) → IsAnyChange e ⊎ (IsAnyChange e → ⊥)
 any_change_or_not e = grind arith
@@ -90,8 +85,7 @@ next_change_or_not log i = elim (first_or_none log (λ j e. (i < j) × IsAnyChan
 ]
 
 pub transitional_or_not : (x : ConfId) → IsTransitional x ⊎ (IsTransitional x → ⊥)
-transitional_or_not (Regular c) = inr (λ h. h)
-transitional_or_not (Transitional l n) = inl tt
+transitional_or_not x = grind arith
 
 next_is : (log : List Entry) (c : RingId) (d : ConfId) (i j : ℕ) → IsFirstChange log (Regular c) i → IsNextChange log i j → Follows log c d → ChangesTo log j d
 next_is log c d i j first next f =
@@ -107,30 +101,19 @@ follows_or_not log c d = elim (first_change_or_not log (Regular c)) [
       | inr stays ↦ inr (λ f. stays f.transitional)
       | inl moves ↦ elim (same_conf_or_not next.1.change.0 d) [
         | inl same ↦ inl (record { from = first.0; to = next.0; first = first.1; next = next.1; change = rw same at next.1.change.1; transitional = moves })
-        | inr other ↦ inr (λ f. other (same_conf next.0 next.1.change.0 d (next_is log c d first.0 next.0 first.1 next.1 f) next.1.change.1))
+        | inr other ↦ inr (λ f. other (same_change log next.0 next.0 next.1.change.0 d refl next.1.change.1
+            (next_is log c d first.0 next.0 first.1 next.1 f)))
       ]
     ]
   ]
 ]
-  where
-    same_conf : (j : ℕ) (x y : ConfId) → ChangesTo log j y → ChangesTo log j x → x ≡ y
-    same_conf j x y (ms, h) (ns, k) = cc
 
 pub in_or_not : (log : List Entry) (c : RingId) (d : ConfId) → Com log c d ⊎ (Com log c d → ⊥)
-in_or_not log c d = elim (same_conf_or_not d (Regular c)) [
-  | inl same ↦ inl (inl same)
-  | inr other ↦ elim (follows_or_not log c d) [
-    | inl f ↦ inl (inr f)
-    | inr never ↦ inr (λ h. elim h [ inl same ↦ other same | inr f ↦ never f ])
-  ]
-]
+in_or_not log c d = (let same = same_conf_or_not d (Regular c) in let follows = follows_or_not log c d in grind arith)
 
 send_or_not : (log : List Entry) (m : MsgId) (d : ConfId) (q j : ℕ) (e : Entry) → IsSendTo log m d q j e ⊎ (IsSendTo log m d q j e → ⊥)
-send_or_not log m d q j (Conf x ms) = inr (λ h. h)
 send_or_not log m d q j (Send n (Regular c) s) = both_or_not (same_message_or_not n m) (in_or_not log c d)
-send_or_not log m d q j (Send n (Transitional l x) s) = inr (λ h. h)
-send_or_not log m d q j (Deliver n x) = inr (λ h. h)
-send_or_not log m d q j (Fail x) = inr (λ h. h)
+send_or_not log m d q j other = inr (λ h. h)
 
 -- one of the logs has the fact, or none has
 some_log_or_none : (Q : ℕ → Type 0) → ((p : ℕ) → Q p ⊎ (Q p → ⊥)) → (logs : List Log) → ((p : ℕ) × Q p) ⊎ ((k : ℕ) (l : Log) → slice_get logs k ≡ Some l → Q l.proc → ⊥)
@@ -141,39 +124,27 @@ some_log_or_none Q decide (l ∷ logs) = elim (decide l.proc) [
 ]
   where
     beyond : (k : ℕ) (x : Log) → slice_get (l ∷ logs) k ≡ Some x → Q x.proc → (Q l.proc → ⊥) → ((k : ℕ) (l : Log) → slice_get logs k ≡ Some l → Q l.proc → ⊥) → ⊥
-    beyond zero x at h never none = let same : x ≡ l = cc in never (rw same at h)
-    beyond (suc k) x at h never none = none k x at h
+    beyond k x at h never none = grind arith
 
 -- p has a send for it
-HasSend : List Log → List Entry → MsgId → ConfId → ℕ → Type 0
-HasSend run log m d p = FirstWith (log_of run p) (λ j e. IsSendTo log m d p j e)
+abbrev HasSend : List Log → List Entry → MsgId → ConfId → ℕ → Type 0
+HasSend run log m d p = (c : RingId) × ((j : ℕ) × Sends (log_of run p) j m (Regular c)) × Com log c d
+
+send_of : (run : List Log) (log : List Entry) (m : MsgId) (d : ConfId) (p j : ℕ) (e : Entry) → slice_get (log_of run p) j ≡ Some e → IsSendTo log m d p j e → HasSend run log m d p
+send_of run log m d p j (Send n (Regular c) s) at (same, inside) = (c, (j, (s, rw same at at)), inside)
+send_of run log m d p j other at h = absurd h
 
 has_send_or_not : (run : List Log) (log : List Entry) (m : MsgId) (d : ConfId) (p : ℕ) → HasSend run log m d p ⊎ (HasSend run log m d p → ⊥)
-unfolding HasSend
 has_send_or_not run log m d p = elim (first_or_none (log_of run p) (λ j e. IsSendTo log m d p j e) (λ j e. send_or_not log m d p j e)) [
-  | inl found ↦ inl found
-  | inr none ↦ inr (λ found. none found.index found.entry found.at found.has)
-]
-
-has_send : (run : List Log) (log : List Entry) (m : MsgId) (d : ConfId) (p : ℕ) → HasSend run log m d p → WasSentTo run log m d
-unfolding HasSend
-has_send run log m d p found = grind arith
-
-has_no_send : (run : List Log) (log : List Entry) (m : MsgId) (d : ConfId) → ((p : ℕ) → HasSend run log m d p → ⊥) → WasSentTo run log m d → ⊥
-unfolding HasSend
-has_no_send run log m d none (c, (q, j, (s, at)), inside) = elim (first_or_none (log_of run q) (λ k e. IsSendTo log m d q k e) (λ k e. send_or_not log m d q k e)) [
-  | inl found ↦ none q found
-  | inr never ↦ never j (Send m (Regular c) s) at (refl, inside)
+  | inl found ↦ inl (send_of run log m d p found.index found.entry found.at found.has)
+  | inr none ↦ inr (λ (c, (j, (s, at)), inside). none j (Send m (Regular c) s) at (refl, inside))
 ]
 
 pub sent_or_not : (run : List Log) (log : List Entry) (m : MsgId) (d : ConfId) → WasSentTo run log m d ⊎ (WasSentTo run log m d → ⊥)
-unfolding HasSend
 sent_or_not run log m d = elim (some_log_or_none (HasSend run log m d) (has_send_or_not run log m d) run) [
-  | inl found ↦ inl (has_send run log m d found.0 found.1)
-  | inr none ↦ inr (has_no_send run log m d (λ p found. no_send_of_any none p found (log_of_cases run p)))
+  | inl (p, (c, (j, sends), inside)) ↦ inl (c, (p, j, sends), inside)
+  | inr none ↦ inr (λ (c, (q, j, (s, at)), inside). elim (log_of_cases run q) [
+    | inl empty ↦ (let there : slice_get {X = Entry} [] j ≡ Some (Send m (Regular c) s) = rw empty at at in cc)
+    | inr (k, l, at_k, same, is) ↦ none k l at_k (rw same (c, (j, (s, at)), inside))
+  ])
 ]
-  where
-    no_send_of_any : ((k : ℕ) (l : Log) → slice_get run k ≡ Some l → HasSend run log m d l.proc → ⊥) → (p : ℕ) → HasSend run log m d p
-        → (log_of run p ≡ []) ⊎ ((k : ℕ) × (l : Log) × (slice_get run k ≡ Some l) × (l.proc ≡ p) × (log_of run p ≡ l.entries)) → ⊥
-    no_send_of_any none p found (inl empty) = let at : slice_get {X = Entry} [] found.index ≡ Some found.entry = rw empty at found.at in cc
-    no_send_of_any none p found (inr (k, l, at, same, is)) = none k l at (rw same found)

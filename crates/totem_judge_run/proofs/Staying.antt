@@ -1,7 +1,8 @@
 -- A change to a regular configuration, the next change and the one after that bound the stay in it.
-use Rattle.totem_judge_run.proofs.Common.{◌≡◌, ℕ, ◌-◌, ◌<◌, ◌≤◌, ◌⊎◌, inl, inr, List, length, slice_get, get_or, Some, refl, arith, slice_get_within, slice_get-get_or, RingId, ConfId, Regular, Entry, Conf, Send, Deliver, Fail, ChangesTo, IsChange, IsNextChange, IsFirstChange, LastChange, Follows, Com, NeverFails, FailedIn, StaysIn, IsNextOrEnd, Names, StandsIn, StaysInPlace, TakesTurns, less_or_not, one_next, NoneBetween}
+use Rattle.totem_judge_run.proofs.Common.{◌≡◌, ℕ, ◌-◌, ◌<◌, ◌≤◌, ◌⊎◌, inl, inr, List, length, slice_get, get_or, Some, refl, arith, slice_get_within, slice_get-get_or, RingId, ConfId, Regular, Entry, Conf, Fail, ChangesTo, IsChange, IsNextChange, IsFirstChange, LastChange, Follows, Com, NeverFails, FailedIn, StaysIn, IsNextOrEnd, Names, StandsIn, StaysInPlace, TakesTurns, less_or_not, one_next, NoneBetween}
 use Rattle.totem_judge_run.specs.Stays.{Bounds, TurnsAt, IsStay}
 use Rattle.totem_judge_run.proofs.Decisions.{neither_below}
+use Rattle.totem_judge_run.proofs.LogEnds.{fails_last}
 
 -- what a log keeps of the specifications of the first two passes
 pub record KeepsRules (log : List Entry) : Type 0 where
@@ -44,23 +45,13 @@ pub first_of : (log : List Entry) (c : RingId) (i : ℕ) → KeepsRules log → 
 first_of log c i rules change = record { change = change; none_before = λ k lt h. (let same = rules.once k i (Regular c) h change in omega arith) }
 
 follows_at : (log : List Entry) (c : RingId) (d : ConfId) (from turn end : ℕ) → KeepsRules log → Bounds log c from turn end → Follows log c d → (turn < length log) × ChangesTo log turn d
-follows_at log c d from turn end rules bounds f = (within, rw to at f.change)
-  where
-    first : f.from ≡ from
-    first = rules.once f.from from (Regular c) f.first.change bounds.change
-
-    within : turn < length log
-    within = elim (less_or_not turn (length log)) [
-      | inl lt ↦ lt
-      | inr rest ↦ absurd (bounds.two.first.none_between f.to (rw (← first) f.next.later) (past rest) f.next.change)
-    ]
-      where
-        past : (length log < turn) ⊎ (turn ≡ length log) → f.to < turn
-        past (inl gt) = omega (arith, change_within log f.to d f.change)
-        past (inr same) = omega (arith, change_within log f.to d f.change)
-
-    to : f.to ≡ turn
-    to = one_next log from f.to turn (rw first at f.next) (is_next log from turn bounds.two.first within)
+follows_at log c d from turn end rules bounds f =
+    let first = rules.once f.from from (Regular c) f.first.change bounds.change in
+    let next : IsNextChange log from f.to = rw first at f.next in
+    let never : length log ≤ turn → ⊥ =
+    λ past. bounds.two.first.none_between f.to next.later (omega (arith, change_within log f.to d f.change)) next.change in
+    let within : turn < length log = grind arith in
+    (within, rw (one_next log from f.to turn next (is_next log from turn bounds.two.first within)) at f.change)
 
 follows : (log : List Entry) (c : RingId) (from turn end : ℕ) → KeepsRules log → Bounds log c from turn end → turn < length log → TurnsAt log c turn
 follows log c from turn end rules bounds lt =
@@ -84,9 +75,6 @@ turn_or_end log c from turn end bounds = grind (arith, less_or_not)
 
 until : (log : List Entry) (c : RingId) (from turn end : ℕ) → Bounds log c from turn end → turn ≤ end
 until log c from turn end bounds = grind (arith, turn_or_end)
-
-end_within : (log : List Entry) (c : RingId) (from turn end : ℕ) → Bounds log c from turn end → end ≤ length log
-end_within log c from turn end bounds = grind (arith, turn_or_end)
 
 -- if a change follows the change to c, or the stay continues after it
 has_turn : (log : List Entry) (c : RingId) (from turn end : ℕ) → Bounds log c from turn end → turn < end → turn < length log
@@ -155,31 +143,24 @@ ends_here log c from turn end rules bounds is_end = go (get_or log (end - 1) (Fa
     opens e at other = inr (last.0, never, last.1, last.2)
       where
         never : NeverFails log
-        never i x fails = elim (less_or_not i (end - 1)) [
-          | inl under ↦ rules.placed.final i (end - 1) x fails under (omega (arith, is_end, later))
-          | inr (inl over) ↦ absurd (omega (arith, is_end, later, slice_get_within log i (Fail x) fails))
-          | inr (inr same) ↦ (let there : slice_get log (end - 1) ≡ Some (Fail x) = rw same at fails in other x cc)
-        ]
+        never i x fails =
+            let here : i ≡ end - 1 = omega (arith, is_end, fails_last log i x rules.placed fails) in
+            let there : slice_get log (end - 1) ≡ Some (Fail x) = rw here at fails in
+            other x cc
 
     go : (e : Entry) → slice_get log (end - 1) ≡ Some e → FailedIn log c ⊎ StaysIn log c
-    go (Fail x) at = inl (end - 1, x, at, names_in log c from turn end rules bounds (end - 1) x (after at) (omega (arith, later)) (Fail x, at, refl))
-      where
-        after : slice_get log (end - 1) ≡ Some (Fail x) → from < end - 1
-        after at = elim (less_or_not from (end - 1)) [
-          | inl lt ↦ lt
-          | inr (inl over) ↦ absurd (omega (arith, later))
-          | inr (inr same) ↦ absurd (names_no_change log (end - 1) x (Fail x, at, refl) (Regular c, rw same at bounds.change))
-        ]
-    go (Conf x ms) at = opens (Conf x ms) at (λ y e. cc)
-    go (Send m x s) at = opens (Send m x s) at (λ y e. cc)
-    go (Deliver m x) at = opens (Deliver m x) at (λ y e. cc)
+    go (Fail x) at =
+        let apart : from ≡ end - 1 → ⊥ = λ same. names_no_change log (end - 1) x (Fail x, at, refl) (Regular c, rw same at bounds.change) in
+        let after : from < end - 1 = grind (arith, later) in
+        inl (end - 1, x, at, names_in log c from turn end rules bounds (end - 1) x after (omega (arith, later)) (Fail x, at, refl))
+    go other at = opens other at (λ x is. cc)
 
 -- before the end of its log a stay ends at a change, and neither a failure nor the end of the log is before that
 goes_on : (log : List Entry) (c : RingId) (from turn end : ℕ) → KeepsRules log → Bounds log c from turn end → end < length log → FailedIn log c ⊎ StaysIn log c → ⊥
 goes_on log c from turn end rules bounds below = go
   where
     there : turn < length log
-    there = elim (turn_or_end log c from turn end bounds) [ inl lt ↦ lt | inr past ↦ absurd (omega (arith, past.0, past.1)) ]
+    there = grind (arith, turn_or_end log c from turn end bounds)
 
     change : IsChange log end
     change = (bounds.two.second there).change below
@@ -199,7 +180,7 @@ pub is_stay : (log : List Entry) (c : RingId) (from turn end : ℕ) → KeepsRul
 is_stay log c from turn end rules bounds = record {
   before = bounds.two.first.later;
   until = until log c from turn end bounds;
-  within = end_within log c from turn end bounds;
+  within = grind (arith, turn_or_end log c from turn end bounds);
   change = bounds.change;
   turns = λ lt. follows log c from turn end rules bounds (has_turn log c from turn end bounds lt);
   here = is_here log c from turn end rules bounds;

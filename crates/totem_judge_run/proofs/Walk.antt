@@ -32,8 +32,7 @@ keeps log i (Some x) never stands = record {
 
 in_standing : (log : List Entry) (i : ℕ) (standing : Option ConfId) (x : ConfId) → standing ≡ Some x
     → MatchOption standing ((k : ℕ) → k < i → IsChange log k → ⊥) (λ x. StandsIn log i x) → StandsIn log i x
-in_standing log i None x e stands = absurd cc
-in_standing log i (Some y) x e stands = let same : y ≡ x = cc in rw same at stands
+in_standing log i standing x e stands = grind arith
 
 -- an entry that is no change and names the configuration that the log is in
 goes_on_named : (log : List Entry) (i : ℕ) (standing : Option ConfId) (e : Entry) (x : ConfId) (failed : Bool) → slice_get log i ≡ Some e → NamesOnly e x → standing ≡ Some x
@@ -57,14 +56,12 @@ goes_on_change log i standing x ms h so_far = record {
 -- one more entry that fits
 pub goes_on : (log : List Entry) (i : ℕ) (standing : Option ConfId) (e : Entry) (failed : Bool) → slice_get log i ≡ Some e → Fits standing e → (IsTrue failed ↔ IsFailure e) → Knows log i standing false
     → Knows log (i + 1) (standing_after standing e) failed
-goes_on log i standing (Conf x ms) true h fits fails so_far = absurd (fails.0 refl)
 goes_on log i standing (Conf x ms) false h fits fails so_far = goes_on_change log i standing x ms h so_far
-goes_on log i standing (Send m x s) true h fits fails so_far = absurd (fails.0 refl)
 goes_on log i standing (Send m x s) false h fits fails so_far = goes_on_named log i standing (Send m x s) x false h refl fits (λ f. absurd cc) (λ f y q. cc) so_far
-goes_on log i standing (Deliver m x) true h fits fails so_far = absurd (fails.0 refl)
 goes_on log i standing (Deliver m x) false h fits fails so_far = goes_on_named log i standing (Deliver m x) x false h refl fits (λ f. absurd cc) (λ f y q. cc) so_far
 goes_on log i standing (Fail x) true h fits fails so_far = goes_on_named log i standing (Fail x) x true h refl fits (λ f. h) (λ f. absurd cc) so_far
 goes_on log i standing (Fail x) false h fits fails so_far = let never = fails.1 tt in absurd cc
+goes_on log i standing other true h fits fails so_far = absurd (fails.0 refl)
 
 -- no entry before is out of place
 pub placed : (log : List Entry) (i : ℕ) (standing : Option ConfId) (failed : Bool) → Knows log i standing failed → (k : ℕ) → k < i → IsMisplaced log k → ⊥

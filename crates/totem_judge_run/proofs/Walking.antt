@@ -1,6 +1,5 @@
 -- One walk along a log, entry after entry.
-use Rattle.totem_judge_run.proofs.Common.{◌≡◌, ◌↔◌, ◌≤◌, ◌+◌, ◌++◌, ◌∷◌, [], ℕ, suc, List, length, take, slice_get, Option, Some, Bool, false, IsTrue, refl, sym, ap, ◌∙◌, arith, option_to_list, append_assoc, append-nil, AllWithin, take_all, slice_get_within, get_or_from_slice_get, All-from_all_within, AllWithin-more, at_read, filter_map-append, ConfId, MsgId, Entry, Conf, Send, Deliver, Fail, Log, IsFailure, AreRight, Enters, IsLastBefore, Keeps, AddsSend, IsNoSendBetween, message_in, messages_in}
-use Rattle.std.proofs.Math.Seq.{take-suc}
+use Rattle.totem_judge_run.proofs.Common.{take_more, ◌≡◌, ◌↔◌, ◌≤◌, ◌+◌, ◌++◌, ◌∷◌, [], ℕ, List, length, take, slice_get, Option, Some, Bool, false, IsTrue, refl, sym, ap, ◌∙◌, arith, option_to_list, append_assoc, append-nil, AllWithin, take_all, slice_get_within, get_or_from_slice_get, All-from_all_within, AllWithin-more, at_read, filter_map-append, ConfId, MsgId, Entry, Deliver, Log, IsFailure, AreRight, Enters, IsLastBefore, Keeps, AddsSend, IsNoSendBetween, message_in, messages_in}
 use Rattle.totem_judge_run.specs.declared.first_changes.FirstChanges.{FirstChanges}
 use Rattle.totem_judge_run.specs.declared.once_1_4.Once.TheVariants as once
 use Rattle.totem_judge_run.specs.Misplaced.{Fits, standing_after}
@@ -25,15 +24,13 @@ last_more entries at before e h k = grind (arith, now_before, still_before)
 sent_more : (entries : List Entry) (at : ℕ) (e : Entry) (sent sending more : List MsgId) → slice_get entries at ≡ Some e → more ≡ sending ++ option_to_list (message_in once.Send e)
     → sending ≡ sent ++ messages_in once.Send (take at entries) → more ≡ sent ++ messages_in once.Send (take (at + 1) entries)
 sent_more entries at e sent sending more there adds before =
-    let seen : take (at + 1) entries ≡ take at entries ++ e ∷ [] =
-    (let one : suc at ≡ at + 1 = omega arith in rw (← one) (take-suc entries at e (slice_get_within entries at e there) ∙ rw (get_or_from_slice_get entries at e e there) refl)) in
+    let within = slice_get_within entries at e there in
+    let seen : take (at + 1) entries ≡ take at entries ++ e ∷ [] = take_more entries at e within
+    ∙ rw (get_or_from_slice_get entries at e e there) refl in
     rw seen (adds ∙ rw before (append_assoc sent (messages_in once.Send (take at entries)) _ ∙ ap (λ list. sent ++ list) (sym (filter_map-append (message_in once.Send) (take at entries) (e ∷ []) ∙ ap (λ list. messages_in once.Send (take at entries) ++ list) (one_message e)))))
   where
     one_message : (e : Entry) → messages_in once.Send (e ∷ []) ≡ option_to_list (message_in once.Send e)
-    one_message (Conf x ms) = refl
-    one_message (Send m x s) = refl
-    one_message (Deliver m x) = refl
-    one_message (Fail x) = refl
+    one_message e = grind arith
 
 pub so_far_more : (log : Log) (at : ℕ) (e : Entry) (sent sending more : List MsgId) (old new firsts : FirstChanges) (standing : Option ConfId) (failed : Bool) (before : Option ℕ)
     → slice_get log.entries at ≡ Some e → Fits standing e → (IsTrue failed ↔ IsFailure e) → AddsSend sending more e → Enters new firsts log at

@@ -1,10 +1,10 @@
 -- Which processes wait, log by log.
-use Rattle.totem_judge_run.proofs.Common.{below_more, ◌≡◌, ◌⊎◌, ◌↔◌, ◌+◌, ◌<◌, ◌≤◌, ℕ, inl, inr, List, [], ◌∷◌, ◌++◌, length, slice_get, Some, false, IsTrue, refl, sym, arith, AllPairs, Contains, slice_get_within, slice_get_read, get_or_from_slice_get, Contains-append_left, Contains-get_or, Contains-push, Contains-push_cases, ConfId, Entry, Conf, Log, log_of, IsMember, EndsIn, IsWaiting, WaitingBelow, AreWaiting, IsOrderly, Rising, log_of_cases, HasNoLog, StandsAtEnd, EndsNowhere, AreWaitingAt}
+use Rattle.totem_judge_run.proofs.Common.{below_more, ◌≡◌, ◌⊎◌, ◌↔◌, ◌+◌, ◌<◌, ◌≤◌, ℕ, inl, inr, List, [], ◌∷◌, ◌++◌, length, slice_get, Some, false, IsTrue, refl, sym, arith, AllPairs, Contains, slice_get_within, slice_get_read, get_or_from_slice_get, Contains-append_left, Contains-get_or, Contains-push, Contains-push_cases, ConfId, Entry, Conf, Log, log_of, IsMember, EndsIn, IsWaiting, WaitingBelow, AreWaiting, IsOrderly, log_of_cases, HasNoLog, StandsAtEnd, EndsNowhere, AreWaitingAt}
 use Rattle.std.proofs.lemmas.List.Quantifiers.{all_pairs_push}
 use Rattle.totem_names.proofs.Lives.{below_is_less}
 use Rattle.totem_evs.specs.Members.{IsBelow}
 use Rattle.totem_evs.specs.declared.pending.Waiting.{Waiting}
-use Rattle.totem_judge_run.proofs.Gathering.{HasLogBefore, Gathered, gathered_more, all_gathered}
+use Rattle.totem_judge_run.proofs.Gathering.{HasLogBefore, Gathered}
 use Rattle.totem_judge_run.proofs.Decisions.{neither_below}
 
 -- ---- whether a process ends in a configuration
@@ -73,14 +73,7 @@ waits_all run p i x ms n list orderly end stands at h = record {
     ends_here = record { goes_on = stands.goes_on; last = record { index = i; change = (ms, at); none_after = stands.last } }
 
     waits : (w : Waiting) → ((w.proc ≡ p) × (w.conf ≡ x) × (EndsIn (log_of run w.other) x → ⊥) × ((j : ℕ) × (j < n) × (slice_get ms j ≡ Some w.other))) → IsWaiting run w.proc w.conf w.other × (w.proc ≡ p)
-    waits w (procs, confs, absent, (j, lt, at_j)) = (
-      record {
-        stands = rw (procs, confs) ends_here;
-        member = rw confs (p, i, ms, at, contains_at ms j w.other at_j);
-        other = rw confs absent;
-      },
-      procs,
-    )
+    waits w is = grind (arith, ends_here, contains_at)
 
     one_conf : (y : ConfId) → EndsIn (log_of run p) y → y ≡ x
     one_conf y ends =
@@ -103,32 +96,15 @@ waits_all run p i x ms n list orderly end stands at h = record {
 
 -- ---- all logs
 
-abbrev pub Waits : List Log → Waiting → Type 0
-Waits run w = IsWaiting run w.proc w.conf w.other
-
-pub by_proc : (a b : Waiting) → a.proc < b.proc → WaitingBelow a b
-by_proc a b lt = inl lt
-
-pub record WaitsOf (run : List Log) (k : ℕ) (list : List Waiting) : Type 0 where
-  pub gathered : Gathered (λ w. w.proc) WaitingBelow by_proc (Waits run) run k list
-
-pub waits_next : (run : List Log) (k : ℕ) (log : Log) (list more : List Waiting) → Rising run → slice_get run k ≡ Some log → AreWaitingAt run log.proc more → WaitsOf run k list → WaitsOf run (k + 1) (list ++ more)
-waits_next run k log list more rising at now before = record {
-  gathered = gathered_more (λ w. w.proc) WaitingBelow by_proc (Waits run) run k log at list more rising before.gathered (record { rising = now.rising; exact = now.exact });
-}
-
-pub waits_end : (run : List Log) (k : ℕ) (list : List Waiting) → length run ≤ k → WaitsOf run k list → AreWaiting run list
+pub waits_end : (run : List Log) (k : ℕ) (list : List Waiting) → length run ≤ k → Gathered run k list → AreWaiting run list
 waits_end run k list end h = record {
-  rising = h.gathered.rising;
-  exact = λ p x q. all_gathered (λ w. w.proc) WaitingBelow by_proc (Waits run) run k list end has h.gathered (record { proc = p; conf = x; other = q });
+  rising = h.rising;
+  exact = λ p x q. (let w : Waiting = record { proc = p; conf = x; other = q } in
+      (λ has. ((h.exact w).0 has).0, λ is. (h.exact w).1 (is, before p x is.stands (log_of_cases run p))));
 }
   where
-    from : (p : ℕ) (x : ConfId) → EndsIn (log_of run p) x → (log_of run p ≡ []) ⊎ ((j : ℕ) × (log : Log) × (slice_get run j ≡ Some log) × (log.proc ≡ p) × (log_of run p ≡ log.entries)) → HasLogBefore run (length run) p
-    from p x ends (inl none) = absurd (let at : slice_get {X = Entry} [] ends.last.index ≡ Some (Conf x ends.last.change.0) = rw none at ends.last.change.1 in cc)
-    from p x ends (inr (j, log, at, same, is)) = record { index = j; log = log; before = slice_get_within run j log at; stands = at; proc = same }
-
-    has : (w : Waiting) → Waits run w → HasLogBefore run (length run) w.proc
-    has w is = from w.proc w.conf is.stands (log_of_cases run w.proc)
+    before : (p : ℕ) (x : ConfId) → EndsIn (log_of run p) x → (log_of run p ≡ []) ⊎ ((j : ℕ) × (log : Log) × (slice_get run j ≡ Some log) × (log.proc ≡ p) × (log_of run p ≡ log.entries)) → HasLogBefore run k p
+    before p x ends cases = grind (arith, slice_get_within)
 
 pub waits_nowhere_in : (run : List Log) (p : ℕ) (entries : List Entry) (list : List Waiting) → entries ≡ log_of run p → list ≡ [] → EndsNowhere entries → AreWaitingAt run p list
 waits_nowhere_in run p entries list is none nowhere = rw none (record {

@@ -126,6 +126,7 @@ fn shares(log: &Log, end: &LogEnd, conf: &ConfId) -> bool
 }
 
 /// Returns the index of the log of this process.
+#[tactic(auto, using(crate::proofs::EndsTogether::no_log, crate::proofs::Common::gathered))]
 pub fn index_of(run: &Run, proc: Proc) -> Option<usize>
     ensures found { IfSome result (IsLogOf run.now.logs proc) }
     ensures none { IfNone result (HasNoLog run.now.logs proc) }
@@ -150,6 +151,7 @@ fn shares_end(run: &Run, ends: &[LogEnd], conf: &ConfId, proc: Proc) -> bool
 }
 
 /// Returns whether all these members end in the configuration, or may still arrive there.
+#[tactic(auto, using(crate::proofs::EndsTogether::all_share))]
 fn all_share(run: &Run, ends: &[LogEnd], conf: &ConfId, members: &[Proc]) -> bool
     requires { AreLogEnds run.now.logs ends.now }
     ensures all { OnTrue result (AllShare run.now.logs conf.now members.now) }

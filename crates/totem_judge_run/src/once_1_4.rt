@@ -30,6 +30,7 @@ fn message_in(act: Once, entry: &Entry) -> Option<MsgId>
 }
 
 /// Returns the messages that the entries deliver.
+#[tactic(auto, using(crate::proofs::Common::gathered))]
 fn deliveries_in(alloc: Global, entries: &[Entry]) -> Result<Vec<MsgId>, AllocError>
     ensures { IfOk result (λ list. list.items ≡ messages_in Once.Deliver entries.now) }
 {
@@ -61,6 +62,7 @@ fn rises(list: &[MsgId]) -> bool
 }
 
 /// Returns whether no two of the messages are the same.
+#[tactic(auto, using(crate::proofs::Distinct::distinct_if_rising))]
 pub fn are_distinct(mut list: Vec<MsgId>) -> Result<bool, AllocError>
     ensures { IfOk result (λ ok. OnTrue ok (AllPairs (λ x y. x ≢ y) list.items)) }
 {
@@ -93,6 +95,7 @@ pub fn add_send(list: &mut Vec<MsgId>, entry: &Entry) -> Result<bool, AllocError
 }
 
 /// Appends the messages that the entries send. Returns whether none is sent in a transitional configuration.
+#[tactic(auto, using(crate::proofs::Common::gathered))]
 fn add_sends(list: &mut Vec<MsgId>, entries: &[Entry]) -> Result<bool, AllocError>
     ensures { IfOk result (λ ok. OnTrue ok (AddsSends list.old.items list.new.items entries.now)) }
 {
@@ -118,6 +121,7 @@ pub fn sends_are_once(alloc: Global, logs: &[Log]) -> Result<bool, AllocError>
 }
 
 /// Returns `true` only if each log delivers each message once.
+#[tactic(auto, using(crate::proofs::Distinct::none_twice, crate::proofs::Distinct::deliveries_once, crate::proofs::Placed::log_by_log))]
 pub fn deliveries_are_once(alloc: Global, logs: &[Log]) -> Result<bool, AllocError>
     ensures { IfOk result (λ ok. OnTrue ok (DeliveriesAreOnce logs.now)) }
 {

@@ -12,6 +12,7 @@ use totem_evs::Entry;
 use totem_names::ConfId;
 
 /// Returns whether the log has a failure, which can only be at its end.
+#[tactic(auto, using(std::proofs::lemmas::Option::slice_get_read, crate::proofs::Ending::goes_on))]
 pub fn has_failed(log: &[Entry]) -> bool
     requires { StaysInPlace log.now }
     ensures failed { OnTrue result (HasFailed log.now) }
@@ -24,6 +25,7 @@ pub fn has_failed(log: &[Entry]) -> bool
 }
 
 /// Returns the index of the last change of a log that has no failure.
+#[tactic(auto, using(crate::proofs::Ending::is_end))]
 pub fn standing_change(log: &[Entry]) -> Option<usize>
     requires { StaysInPlace log.now }
     ensures { IsEnd log.now result }
@@ -35,6 +37,7 @@ pub fn standing_change(log: &[Entry]) -> Option<usize>
 }
 
 /// Returns whether the log ends in the configuration: it has no failure, and its last change, at index `last`, is to it.
+#[tactic(auto, using(crate::proofs::Ending::end_stands, crate::proofs::Ending::stands_last, crate::proofs::Ending::ends_decided))]
 pub fn ends_in(log: &[Entry], last: Option<usize>, conf: &ConfId) -> bool
     requires { IsEnd log.now last }
     ensures { IsTrue result ↔ EndsIn log.now conf.now }
@@ -46,6 +49,7 @@ pub fn ends_in(log: &[Entry], last: Option<usize>, conf: &ConfId) -> bool
 }
 
 /// Returns the index of the next change after an entry, or the length of the log if none follows. Looks at entry after entry.
+#[tactic(auto, using(crate::proofs::Staying::next_is_end))]
 pub fn walk_to_change(log: &[Entry], at: usize) -> usize
     requires { at < length log.now }
     ensures { IsNextOrEnd log.now at result }

@@ -86,6 +86,7 @@ pub fn waiting(alloc: Global, run: &Run) -> Result<Vec<Waiting>, AllocError>
 }
 
 /// Returns `true` only where each element is below all after it.
+#[tactic(auto, using(crate::proofs::PendingOrder::ascend_more))]
 fn is_ascending(list: &[Pending]) -> bool
     ensures { OnTrue result (AllPairs PendingBelow list.now) }
 {

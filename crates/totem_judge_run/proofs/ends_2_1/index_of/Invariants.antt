@@ -1,5 +1,5 @@
-use Rattle.totem_judge_run.proofs.EndsTogether.{NoLogBefore}
+use Rattle.totem_judge_run.proofs.Common.{◌≡◌, AllWithin}
 use Rattle.totem_judge_run.proofs.ends_2_1.index_of.Given as goal
 
 abbrev pub invariant-loop-k : goal.invariant-loop-k
-invariant-loop-k l = NoLogBefore l.log-items l.proc l.k
+invariant-loop-k l = AllWithin (λ log. log.proc ≡ l.proc → ⊥) l.log-items 0 l.k

@@ -1,5 +1,5 @@
 use Rattle.totem_judge_run.proofs.Common.{refl, arith, slice_get_read}
-use Rattle.totem_judge_run.proofs.LogEnds.{none_more, stands_here, no_change}
+use Rattle.totem_judge_run.proofs.LogEnds.{none_more, stands_here, changes_nowhere}
 use Rattle.totem_judge_run.proofs.ends_2_1.last_change.Goals as goal
 
 pub returns-in-Conf : goal.returns-in-Conf
@@ -13,4 +13,4 @@ loop-back-preserved c =
     none_more _ _ _ c.loop-back-test.true at c.in_default.not-Conf c.loop-back.invariant
 
 pub returns : goal.returns
-returns c = no_change _ _ c.loop-back-test.false c.loop-back.invariant
+returns c = changes_nowhere _ _ c.loop-back-test.false c.loop-back.invariant

@@ -1,5 +1,6 @@
 use Rattle.totem_judge_run.proofs.Common.{refl, sym, ◌∙◌, ap, slice_get_read, LogRecord, RunRecord, log_of, log_of_at}
-use Rattle.totem_judge_run.proofs.WhoWaits.{waits_next, waits_end}
+use Rattle.totem_judge_run.proofs.WhoWaits.{waits_end}
+use Rattle.totem_judge_run.proofs.Gathering.{gathered_more}
 use Rattle.totem_judge_run.proofs.waitings.waiting.Goals as goal
 
 pub waiting_of-requires-clause-log : goal.waiting_of-requires-clause-log
@@ -16,8 +17,9 @@ loop-k-preserved c =
     let at = slice_get_read c.as_slice-log-items.result.now _ _ c.log-item.result refl c.loop-k-test.true c.log-item.is in
     let procs = ap (λ (l : LogRecord). l.proc) c.log.view_is in
     rw (c.in_ok-extend_from_slice.ensures.items, (c.as_slice-log-items.ensures.value ∙ runs))
-    (waits_next _ _ _ _ _ (rw runs at c.as_slice-log-items.ensures.run.rising) (rw (c.as_slice-log-items.ensures.value ∙ runs) at at) (rw (c.deref-in-loop-k.ensures.value, ← procs) c.in_ok-others.ensures)
-    (rw (c.as_slice-log-items.ensures.value ∙ runs) at c.loop-k.invariant))
+    (gathered_more _ _ _ (rw (c.as_slice-log-items.ensures.value ∙ runs) at at) _ _
+    (rw runs at c.as_slice-log-items.ensures.run.rising) (rw (c.as_slice-log-items.ensures.value ∙ runs) at c.loop-k.invariant)
+    (rw (c.deref-in-loop-k.ensures.value, ← procs) c.in_ok-others.ensures))
 
 pub returns : goal.returns
 returns c =
