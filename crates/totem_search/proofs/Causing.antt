@@ -1,6 +1,6 @@
 -- 5: what breaks it is the send of a cause, and then of an effect.
-use Rattle.totem_judge_run.proofs.Common.{◌≡◌, ℕ, ◌+◌, List, [], ◌∷◌, slice_get, Some, refl, RingId, ConfId, Regular, MsgId, Place, Entry, Send, Log, log_of}
-use Rattle.std.proofs.Common.{zero, suc, add-one}
+use Rattle.totem_judge_run.proofs.Common.{arith, ◌≡◌, ℕ, ◌+◌, List, [], ◌∷◌, slice_get, Some, refl, RingId, ConfId, Regular, MsgId, Place, Entry, Send, Log, log_of}
+use Rattle.std.proofs.Common.{add-one}
 use Rattle.totem_names.specs.declared.message.Service.{Service}
 use Rattle.totem_evs.proofs.Common.{at_place, entry_at, Sends, SendsAt, BreaksCausalityIn}
 use Rattle.totem_search.specs.Search.{place}
@@ -20,14 +20,7 @@ there_sends run p i m x (s, at) = (s, rw at_next at)
 
 -- an event is at some index of its log
 pub index_of : (run : List Log) (e : Place) (x : Entry) → entry_at run e ≡ Some x → (i : ℕ) × (e ≡ place e.proc i) × (slice_get (log_of run e.proc) i ≡ Some x)
-index_of run e x at = go e.at refl at
-  where
-    named : (n : ℕ) → e.at ≡ n → e ≡ record { proc = e.proc; at = n }
-    named n is = rw (← is) refl
-
-    go : (n : ℕ) → e.at ≡ n → at_place (log_of run e.proc) n ≡ Some x → (i : ℕ) × (e ≡ place e.proc i) × (slice_get (log_of run e.proc) i ≡ Some x)
-    go zero h k = absurd cc
-    go (suc i) h k = (i, rw add-one (named (suc i) h), k)
+index_of run e x at = grind (arith, add-one)
 
 -- ---- the cause
 
@@ -40,9 +33,7 @@ cause_at run c m x s p i (f ∷ g ∷ []) at (k, is, (o, n, send, effect, hop, l
 cause_at run c m x s p i rest at h = absurd h
 
 caused : (run : List Log) (c : RingId) (m : MsgId) (s : Service) (p i : ℕ) (rest : List Place) → slice_get (log_of run p) i ≡ Some (Send m (Regular c) s) → IsEffect run c m (place p i) rest → BreaksCausalityIn run c (place p i ∷ rest)
-caused run c m s p i [] at h = absurd h
-caused run c m s p i (f ∷ g ∷ []) at (n, effect, hop, (k, is, late)) = (k, is, (m, n, there_sends run p i m (Regular c) (s, at), effect, hop, late))
-caused run c m s p i (f ∷ rest) at (n, effect, hop, b) = absurd b
+caused run c m s p i rest at h = grind (arith, there_sends)
 
 pub cause_starts : (run : List Log) (c : RingId) (m : MsgId) (x : ConfId) (s : Service) (p i : ℕ) → slice_get (log_of run p) i ≡ Some (Send m x s) → x ≡ Regular c → Starts (IsEffect run c m (place p i)) (BreaksCausalityIn run c) p i
 cause_starts run c m x s p i at is = record { to = λ rest h. caused run c m s p i rest (rw is at at) h; from = λ rest h. cause_at run c m x s p i rest at h }

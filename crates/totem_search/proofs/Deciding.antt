@@ -1,8 +1,12 @@
 -- Deciding whether a log has an entry of some kind.
-use Rattle.totem_judge_run.proofs.Common.{◌≡◌, ℕ, ◌⊎◌, inl, inr, List, slice_get, Some, refl, RingId, ConfId, MsgId, Entry, Conf, Deliver, ChangesTo, Delivers, Com}
+use Rattle.totem_judge_run.proofs.Common.{arith, ◌≡◌, ℕ, ◌⊎◌, inl, inr, List, slice_get, Some, refl, RingId, ConfId, MsgId, Entry, Conf, Deliver, ChangesTo, Delivers, Com}
 use Rattle.totem_evs.specs.Following.{HasDelivered}
 use Rattle.totem_judge_run.proofs.Decisions.{both_or_not}
 use Rattle.totem_judge_run.proofs.SentOrNot.{first_or_none, same_message_or_not, change_to_or_not, change_of, in_or_not}
+
+-- what can be decided, and cannot fail, holds
+pub sure : {P : Type 0} → P ⊎ (P → ⊥) → ((P → ⊥) → ⊥) → P
+sure decided never = grind arith
 
 -- a change to x
 pub changes_or_not : (log : List Entry) (x : ConfId) → ((i : ℕ) × ChangesTo log i x) ⊎ ((i : ℕ) → ChangesTo log i x → ⊥)
@@ -23,8 +27,7 @@ is_delivery_or_not P m decide i other = inr (λ h. h)
 
 delivery_of : (P : ℕ → ConfId → Type 0) (log : List Entry) (m : MsgId) (i : ℕ) (e : Entry) → slice_get log i ≡ Some e → IsDelivery P m i e → (j : ℕ) × (x : ConfId) × Delivers log j m x × P j x
 unfolding IsDelivery
-delivery_of P log m i (Deliver n x) at (same, holds) = (i, x, rw same at at, holds)
-delivery_of P log m i other at h = absurd h
+delivery_of P log m i other at h = grind arith
 
 pub delivery_or_not : (P : ℕ → ConfId → Type 0) (log : List Entry) (m : MsgId) → ((i : ℕ) (x : ConfId) → P i x ⊎ (P i x → ⊥)) → ((i : ℕ) × (x : ConfId) × Delivers log i m x × P i x) ⊎ ((i : ℕ) (x : ConfId) → Delivers log i m x → P i x → ⊥)
 unfolding IsDelivery

@@ -1,5 +1,5 @@
 -- What follows a regular configuration in a log, from the first change to it and the next one.
-use Rattle.totem_judge_run.proofs.Common.{ℕ, List, false, Bool, IsTrue, ◌↔◌, RingId, ConfId, Regular, Entry, ChangesTo, IsTransitional, IsFirstChange, IsNextChange, Follows, one_next, same_first}
+use Rattle.totem_judge_run.proofs.Common.{arith, ℕ, List, false, Bool, IsTrue, ◌↔◌, RingId, ConfId, Regular, Entry, ChangesTo, IsTransitional, IsFirstChange, IsNextChange, Follows, one_next, same_first}
 use Rattle.totem_search.specs.Following.{NoNextChange, NeverChangesTo}
 use Rattle.totem_search.proofs.Loops.{no_is}
 
@@ -18,4 +18,4 @@ pub other_follows : (log : List Entry) (c : RingId) (d : ConfId) (i j : ℕ) →
 other_follows log c d i j first next never = no_is (λ h. never (changes_at_next log c d i j first next h))
 
 pub that_follows : (log : List Entry) (c : RingId) (d : ConfId) (i j : ℕ) (b : Bool) → IsFirstChange log (Regular c) i → IsNextChange log i j → ChangesTo log j d → IsTrue b ↔ IsTransitional d → IsTrue b ↔ Follows log c d
-that_follows log c d i j b first next change tells = (λ t. record { from = i; to = j; first = first; next = next; change = change; transitional = tells.0 t }, λ h. tells.1 h.transitional)
+that_follows log c d i j b first next change tells = grind arith

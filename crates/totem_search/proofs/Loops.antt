@@ -38,5 +38,3 @@ none_of_run Q run n end empty before p h = elim (log_of_cases run p) [
 
 pub at_log : (Q : ℕ → List Entry → Type 0) (run : List Log) (k : ℕ) (l : Log) → Rising run → slice_get run k ≡ Some l → Q l.proc l.entries → (p : ℕ) × Q p (log_of run p)
 at_log Q run k l rising at h = (l.proc, rw (log_of_at run k l rising at) h)
-
--- ---- members

@@ -5,7 +5,7 @@ use Rattle.totem_evs.specs.AgreementFaults.{BreaksGapIn}
 use Rattle.totem_judge_run.proofs.Decisions.{both_or_not, below_or_not}
 use Rattle.totem_judge_run.proofs.SentOrNot.{in_or_not, same_conf_or_not}
 use Rattle.totem_search.specs.Search.{place, HoldsOfNone}
-use Rattle.totem_search.proofs.Deciding.{delivery_or_not, has_delivered_or_not}
+use Rattle.totem_search.proofs.Deciding.{sure, delivery_or_not, has_delivered_or_not}
 
 pub atomic : (run : List Log) (c : RingId) → HoldsOfNone (BreaksAtomicityIn run c) → AtomicityIn run c
 atomic run c none = record {
@@ -26,8 +26,7 @@ causal run c none = record {
 
 pub no_gaps : (run : List Log) (c : RingId) → HoldsOfNone (BreaksGapIn run c) → NoGapsIn run c
 no_gaps run c none = record {
-  each = λ m n p i j q k d earlier later lt at inside s l x send member. elim (has_delivered_or_not (log_of run q) c m) [
-    | inl has ↦ has
-    | inr lacks ↦ absurd (none.none (place p i ∷ place p j ∷ place q k ∷ []) (i, refl, (j, refl, (k, refl, (refl, (m, n, d, x, s, l, earlier, later, lt, at, inside, send, member, lacks))))))
-  ];
+  each = λ m n p i j q k d earlier later lt at inside s l x send member. sure (has_delivered_or_not (log_of run q) c m)
+      (λ lacks. none.none (place p i ∷ place p j ∷ place q k ∷ [])
+      (i, refl, (j, refl, (k, refl, (refl, (m, n, d, x, s, l, earlier, later, lt, at, inside, send, member, lacks))))));
 }

@@ -17,24 +17,14 @@ one_or_two_begins run A P = record { each = λ places h. go places h }
 
 -- what is known about the entry at a place is known about the same entry read again
 moved : (log : List Entry) (i j : ℕ) (x y : Entry) (Q : ℕ → Entry → Type 0) → slice_get log i ≡ Some x → i + 1 ≡ j + 1 → slice_get log j ≡ Some y → Q j y → Q i x
-moved log i j x y Q at is at_j h = let same : j ≡ i = omega arith in
-    let one : y ≡ x = (let there : slice_get log i ≡ Some y = rw same at at_j in cc) in
-    rw (same, one) at h
+moved log i j x y Q at is at_j h = grind arith
 
 pub alone : (run : List Log) (A : ℕ → ℕ → Entry → Type 0) (P : ℕ → ℕ → Entry → ℕ → ℕ → Entry → Type 0) (p i : ℕ) (x : Entry) → slice_get (log_of run p) i ≡ Some x → A p i x → IsLeastFrom (IsOneOrTwo run A P) p i []
 alone run A P p i x at h = record { least = record { holds = (i, refl, (x, at, h)); first = λ others b. tt } }
 
 -- with an entry that is not bad alone, the others of the list are bad
 pub with_others : (run : List Log) (A : ℕ → ℕ → Entry → Type 0) (P : ℕ → ℕ → Entry → ℕ → ℕ → Entry → Type 0) (p i : ℕ) (x : Entry) → slice_get (log_of run p) i ≡ Some x → (A p i x → ⊥) → Starts (IsOneEvent (Has run (P p i x))) (IsOneOrTwo run A P) p i
-with_others run A P p i x at not_alone = record { to = known; from = bad }
-  where
-    known : (rest : List Place) → IsOneEvent (Has run (P p i x)) rest → IsOneOrTwo run A P (place p i ∷ rest)
-    known [] h = absurd h
-    known (f ∷ more) h = (i, refl, (x, at, h))
-
-    bad : (rest : List Place) → IsOneOrTwo run A P (place p i ∷ rest) → IsOneEvent (Has run (P p i x)) rest
-    bad [] (j, is, (y, at_j, h)) = absurd (not_alone (moved (log_of run p) i j x y (λ k z. A p k z) at is at_j h))
-    bad (f ∷ more) (j, is, (y, at_j, h)) = moved (log_of run p) i j x y (λ k z. IsOneEvent (Has run (P p k z)) (f ∷ more)) at is at_j h
+with_others run A P p i x at not_alone = grind (arith, moved)
 
 pub none_with : (run : List Log) (A : ℕ → ℕ → Entry → Type 0) (P : ℕ → ℕ → Entry → ℕ → ℕ → Entry → Type 0) (p i : ℕ) (x : Entry) → slice_get (log_of run p) i ≡ Some x → (A p i x → ⊥) → HoldsOfNone (IsOneEvent (Has run (P p i x)))
     → NoneFrom (IsOneOrTwo run A P) p i

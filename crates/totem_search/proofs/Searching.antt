@@ -1,9 +1,9 @@
 -- Searching a run, event by event.
-use Rattle.totem_judge_run.proofs.Common.{below_more, ◌≡◌, ℕ, ◌+◌, ◌<◌, ◌≤◌, ◌⊎◌, inl, inr, List, [], ◌∷◌, length, slice_get, Some, refl, sym, ◌∙◌, ap, arith, Option, None, Result, Ok, Err, IfOk, MatchOption, Bool, true, false, IsTrue, ◌↔◌, common_steps, slice_get_within, Place, Entry, Log, RingId, log_of, Rising, log_of_cases, in_order, less_or_not}
+use Rattle.totem_judge_run.proofs.Common.{below_more, ◌≡◌, ℕ, ◌+◌, ◌<◌, ◌≤◌, List, [], ◌∷◌, length, slice_get, Some, refl, arith, Option, None, Result, Ok, Err, IfOk, MatchOption, Bool, IsTrue, ◌↔◌, common_steps, slice_get_within, Place, Entry, Log, RingId, log_of, Rising, log_of_cases, in_order, less_or_not}
 use Rattle.totem_evs.proofs.Common.{Breaks, BreaksIn, MeetsIn}
 use Rattle.std.specs.Bool.{then_some}
 use Rattle.totem_evs.specs.declared.spec.SpecNo.{SpecNo}
-use Rattle.totem_evs.specs.Answers.{ComesFirst, IsLeast, Meets, Finds, FindsIn}
+use Rattle.totem_evs.specs.Answers.{IsLeast, Meets, Finds, FindsIn}
 use Rattle.totem_search.specs.Search.{place, NoneFrom, IsLeastFrom, NoneInLog, IsLeastInLog, Begins, EachBegins, HoldsOfNone, IsOneEvent, AreEvents}
 
 pub none_in_log_more : (H : List Place → Type 0) (p i : ℕ) → NoneFrom H p i → NoneInLog H p i → NoneInLog H p (i + 1)
@@ -17,41 +17,11 @@ pub none_before_more : (run : List Log) (H : List Place → Type 0) (k : ℕ) (l
 none_before_more run H k log at here before = grind (arith, common_steps)
 
 pub none_at_end : (run : List Log) (H : List Place → Type 0) (k : ℕ) → EachBegins run H → length run ≤ k → NoneBeforeLog run H k → HoldsOfNone H
-none_at_end run H k begins end before = record { none = λ others h. let b = begins.each others h in go b.proc b.index b.rest (log_of_cases run b.proc) b.within (rw b.is at h) }
-  where
-    go : (p i : ℕ) (rest : List Place) → (log_of run p ≡ []) ⊎ ((j : ℕ) × (log : Log) × (slice_get run j ≡ Some log) × (log.proc ≡ p) × (log_of run p ≡ log.entries)) → i < length (log_of run p) → H (place p i ∷ rest) → ⊥
-    go p i rest (inl none) within h = let w : i < length {A = Entry} [] = rw none at within in omega arith
-    go p i rest (inr (j, log, at, same, is)) within h = before.none j i log rest (omega (arith, slice_get_within run j log at)) at (rw is at within) (rw (← same) at h)
+none_at_end run H k begins end before = grind (arith, log_of_cases, slice_get_within)
 
 pub least_here : (run : List Log) (H : List Place → Type 0) (k : ℕ) (log : Log) (places : List Place) → EachBegins run H → Rising run → slice_get run k ≡ Some log → IsLeastInLog H log.proc (length log.entries) places
     → NoneBeforeLog run H k → IsLeast H places
-least_here run H k log places begins rising at here before = record {
-  holds = rw here.is here.least.least.holds;
-  first = λ others h. let b = begins.each others h in rw (here.is, b.is) (go b.proc b.index b.rest b.within (rw b.is at h) (log_of_cases run b.proc));
-}
-  where
-    in_this : (p j : ℕ) (others : List Place) → log.proc ≡ p → H (place p j ∷ others) → ComesFirst (place log.proc here.at ∷ here.rest) (place p j ∷ others)
-    in_this p j others procs h = elim (less_or_not j here.at) [
-      | inl earlier ↦ absurd (here.none_before.none j others earlier (rw (← procs) at h))
-      | inr more ↦ elim more [
-        | inl later ↦ inl (inr (procs, omega arith))
-        | inr same ↦ inr (rw (procs, same) refl, here.least.least.first others (rw (← procs, same) at h))
-      ]
-    ]
-
-    go : (p j : ℕ) (others : List Place) → j < length (log_of run p) → H (place p j ∷ others)
-        → (log_of run p ≡ []) ⊎ ((m : ℕ) × (l : Log) × (slice_get run m ≡ Some l) × (l.proc ≡ p) × (log_of run p ≡ l.entries))
-        → ComesFirst (place log.proc here.at ∷ here.rest) (place p j ∷ others)
-    go p j others within h (inl none) = let w : j < length {A = Entry} [] = rw none at within in absurd (omega arith)
-    go p j others within h (inr (m, l, at_m, same, is)) = elim (less_or_not m k) [
-      | inl under ↦ absurd (before.none m j l others under at_m (rw is at within) (rw (← same) at h))
-      | inr more ↦ elim more [
-        | inl over ↦ inl (inl (let lt = in_order run k m log l rising at at_m over in omega (arith, same)))
-        | inr eq ↦
-            let same_log : l ≡ log = (let x : slice_get run k ≡ Some l = rw eq at at_m in cc) in
-            in_this p j others (sym (ap (λ (x : Log). x.proc) same_log) ∙ same) h
-      ]
-    ]
+least_here run H k log places begins rising at here before = grind (arith, log_of_cases, less_or_not, in_order)
 
 pub begins_at : (run : List Log) (e : Place) (i : ℕ) (rest : List Place) → e.at ≡ i + 1 → i < length (log_of run e.proc) → Begins run (e ∷ rest)
 begins_at run e i rest is lt = record { proc = e.proc; index = i; rest = rest; within = lt; is = rw (← is) refl }
@@ -59,21 +29,15 @@ begins_at run e i rest is lt = record { proc = e.proc; index = i; rest = rest; w
 -- ---- lists of one event
 
 pub event_begins : (run : List Log) (Bad : ℕ → ℕ → Type 0) → AreEvents run Bad → EachBegins run (IsOneEvent Bad)
-event_begins run Bad are = record { each = λ places h. go places h }
-  where
-    go : (places : List Place) → IsOneEvent Bad places → Begins run places
-    go (e ∷ []) (i, is, h) = begins_at run e i [] is (are.each e.proc i h)
-    go places h = absurd h
+event_begins run Bad are = grind (arith, begins_at)
 
 pub event_at : (Bad : ℕ → ℕ → Type 0) (p i : ℕ) (rest : List Place) → IsOneEvent Bad (place p i ∷ rest) → Bad p i
-event_at Bad p i [] at = let same : at.0 ≡ i = omega (arith, at.1) in rw same at at.2
-event_at Bad p i (f ∷ more) h = absurd h
+event_at Bad p i rest h = grind arith
 
 -- a test of the event says whether a list begins there
 pub event_told : {V : Type 0} (items : V → List Place) (Bad : ℕ → ℕ → Type 0) (p i : ℕ) (b : Bool) (v : V) → items v ≡ [] → IsTrue b ↔ Bad p i
     → MatchOption (then_some b v) (NoneFrom (IsOneEvent Bad) p i) (λ v. IsLeastFrom (IsOneEvent Bad) p i (items v))
-event_told items Bad p i true v empty tells = record { least = record { holds = rw empty (i, refl, tells.0 refl); first = λ others b. rw empty tt } }
-event_told items Bad p i false v empty tells = record { none = λ rest h. absurd (let t = tells.1 (event_at Bad p i rest h) in cc) }
+event_told items Bad p i b v empty tells = grind (arith, event_at)
 
 -- no event has the property
 pub nowhere : (Bad : ℕ → ℕ → Type 0) → HoldsOfNone (IsOneEvent Bad) → (p i : ℕ) → Bad p i → ⊥
@@ -92,16 +56,12 @@ pub record Starts (A B : List Place → Type 0) (p i : ℕ) : Type 0 where
 
 pub started : {V F : Type 0} (items : V → List Place) (r : Result (Option V) F) (A B : List Place → Type 0) (p i : ℕ) → Starts A B p i → IfOk r (λ found. MatchOption found (HoldsOfNone A) (λ v. IsLeast A (items v)))
     → IfOk r (λ found. MatchOption found (NoneFrom B p i) (λ v. IsLeastFrom B p i (items v)))
-started items (Err e) A B p i starts h = tt
-started items (Ok None) A B p i starts h = record { none = λ rest b. h.none rest (starts.from rest b) }
-started items (Ok (Some v)) A B p i starts h = record { least = record { holds = starts.to (items v) h.holds; first = λ others b. h.first others (starts.from others b) } }
+started items r A B p i starts h = grind arith
 
 -- what the result of a search says about a specification
 pub finds : {F : Type 0} (run : List Log) (r : Result (Option (List Place)) F) (H : List Place → Type 0) (k : SpecNo) → (HoldsOfNone H → Meets run k) → ((ps : List Place) → H ps → Breaks run k ps) → ((ps : List Place) → Breaks run k ps → H ps)
     → IfOk r (λ found. MatchOption found (HoldsOfNone H) (IsLeast H)) → IfOk r (Finds run k)
-finds run (Err e) H k meets to from h = tt
-finds run (Ok None) H k meets to from h = meets h
-finds run (Ok (Some ps)) H k meets to from h = record { holds = to ps h.holds; first = λ others b. h.first others (from others b) }
+finds run r H k meets to from h = grind arith
 
 pub finds_in : {F : Type 0} (run : List Log) (c : RingId) (r : Result (Option (List Place)) F) (H : List Place → Type 0) (k : SpecNo) → (HoldsOfNone H → MeetsIn run c k) → ((ps : List Place) → H ps → BreaksIn run c k ps)
     → ((ps : List Place) → BreaksIn run c k ps → H ps) → IfOk r (λ found. MatchOption found (HoldsOfNone H) (IsLeast H)) → IfOk r (FindsIn run c k)

@@ -1,6 +1,6 @@
 -- Searching for what breaks 2.4, change by change: what is found is the least list that breaks it. And what is noted of the changes
 -- for that.
-use Rattle.totem_judge_run.proofs.Common.{All, Contains, slice_get_within, RingId, ConfId, Regular, Transitional, Place, Entry, Conf, Log, log_of, IsChange, IsRegular, IsTransitional, ChangesNext, TakesTurns, IsNextOrEnd, less_or_not}
+use Rattle.totem_judge_run.proofs.Common.{All, Contains, slice_get_within, RingId, ConfId, Regular, Transitional, Place, Entry, Conf, Log, log_of, IsChange, IsRegular, IsTransitional, ChangesNext, IsNextOrEnd, less_or_not}
 use Rattle.std.proofs.Common.{◌≡◌, ◌≢◌, ℕ, ◌+◌, ◌<◌, ◌≤◌, ◌⊎◌, inl, inr, List, [], ◌∷◌, length, slice_get, Option, Some, None, Result, Ok, Err, IfOk, MatchOption, Bool, true, false, not, IsTrue, ◌↔◌, refl, sym, subst, ap, ◌∙◌, arith}
 use Rattle.totem_evs.specs.ChangeFaults.{BeginsTransitional, AreWrongNeighbours, BreaksTurns}
 use Rattle.totem_evs.specs.declared.spec.SpecNo.TheVariants as spec
@@ -10,6 +10,7 @@ use Rattle.totem_evs.proofs.NextChanges.{no_change, one_next}
 use Rattle.totem_judge_run.specs.Succession.{IsWrongSuccession}
 use Rattle.totem_search.specs.Turns.{HasNoSuccession, IsOfOtherRing, IsOtherOrigin, IsTurnRest, IsTurnFault}
 use Rattle.totem_search.proofs.Searching.{begins_at}
+use Rattle.totem_search.proofs.Deciding.{sure}
 use Rattle.totem_names.proofs.Orderings.{place_strict}
 use Rattle.totem_judge_run.proofs.Behind.{right_kinds, right_from, right_to, right_name}
 use Rattle.totem_judge_run.proofs.Decisions.{same_ring_or_not, regular_or_transitional}
@@ -54,6 +55,8 @@ begins_regular log i x ms b at is decides = (λ t. absurd cc, λ (y, (ns, h), mo
 pub begins_no_change : (log : List Entry) (i : ℕ) (e : Entry) → slice_get log i ≡ Some e → ((x : ConfId) (ms : List ℕ) → e ≡ Conf x ms → ⊥) → IsTrue false ↔ BeginsTransitional log i
 begins_no_change log i e at other = (λ t. absurd cc, λ (y, (ns, h), moves, none). absurd (other y ns cc))
 
+pub ruleset begins = (begins_decided, begins_regular, begins_no_change)
+
 -- a log goes from a change to one next change
 pub record SameTurn (j k : ℕ) (x x' y y' : ConfId) (ms ms' ns ns' : List ℕ) : Type 0 where
   pub at : j ≡ k
@@ -76,31 +79,13 @@ pub wrong_succession : (x y : ConfId) (ms ns : List ℕ)
     → (IsRegular x × IsRegular y) ⊎ (IsTransitional x × IsTransitional y)
     ⊎ (IsRegular x × IsTransitional y × (All (Contains ms) ns → ⊥)) ⊎ (IsTransitional x × IsRegular y × (All (Contains ns) ms → ⊥))
     ⊎ ((next c : RingId) × (least : ℕ) × (x ≡ Transitional least next) × (y ≡ Regular c) × (c ≢ next)) → IsWrongSuccession x ms y ns
-wrong_succession (Regular c) (Regular d) ms ns h = tt
-wrong_succession (Regular c) (Transitional l n) ms ns (inl (r, s)) = absurd s
-wrong_succession (Regular c) (Transitional l n) ms ns (inr (inl (s, t))) = absurd s
-wrong_succession (Regular c) (Transitional l n) ms ns (inr (inr (inl (r, t, never)))) = never
-wrong_succession (Regular c) (Transitional l n) ms ns (inr (inr (inr (inl (t, r, never))))) = absurd t
-wrong_succession (Regular c) (Transitional l n) ms ns (inr (inr (inr (inr (m, d, k, is_x, is_y, other))))) = absurd cc
-wrong_succession (Transitional l n) (Regular c) ms ns (inl (r, s)) = absurd r
-wrong_succession (Transitional l n) (Regular c) ms ns (inr (inl (s, t))) = absurd t
-wrong_succession (Transitional l n) (Regular c) ms ns (inr (inr (inl (r, t, never)))) = absurd r
-wrong_succession (Transitional l n) (Regular c) ms ns (inr (inr (inr (inl (t, r, never))))) = inl never
-wrong_succession (Transitional l n) (Regular c) ms ns (inr (inr (inr (inr (m, d, k, is_x, is_y, other))))) = inr (λ e. other cc)
-wrong_succession (Transitional l n) (Transitional k m) ms ns h = tt
+wrong_succession x y ms ns h = grind arith
 
 pub wrong_neighbours : (log : List Entry) (i j : ℕ) (x y : ConfId) (ms ns : List ℕ) → ChangesNext log i j x y ms ns → IsWrongSuccession x ms y ns → AreWrongNeighbours log i j
-wrong_neighbours log i j (Regular c) (Regular d) ms ns succession w = (Regular c, Regular d, ms, ns, succession, inl (tt, tt))
-wrong_neighbours log i j (Regular c) (Transitional l n) ms ns succession w = (Regular c, Transitional l n, ms, ns, succession, inr (inr (inl (tt, tt, w))))
-wrong_neighbours log i j (Transitional l n) (Regular c) ms ns succession (inl w) = (Transitional l n, Regular c, ms, ns, succession, inr (inr (inr (inl (tt, tt, w)))))
-wrong_neighbours log i j (Transitional l n) (Regular c) ms ns succession (inr w) = (Transitional l n, Regular c, ms, ns, succession, inr (inr (inr (inr (n, c, l, refl, refl, w)))))
-wrong_neighbours log i j (Transitional l n) (Transitional k m) ms ns succession w = (Transitional l n, Transitional k m, ms, ns, succession, inr (inl (tt, tt)))
+wrong_neighbours log i j x y ms ns succession w = grind arith
 
 same_wrong : (x x' y y' : ConfId) (ms ms' ns ns' : List ℕ) → x' ≡ x → ms' ≡ ms → y' ≡ y → ns' ≡ ns → IsWrongSuccession x' ms' y' ns' → IsWrongSuccession x ms y ns
-same_wrong x x' y y' ms ms' ns ns' a b c d h =
-    let P : ConfId → List ℕ → ConfId → List ℕ → Type 0 = λ x ms y ns. IsWrongSuccession x ms y ns in
-    let e : P x' ms' y' ns' ≡ P x ms y ns = cc in
-    rw e at h
+same_wrong x x' y y' ms ms' ns ns' a b c d h = grind arith
 
 pub succession_within : (log : List Entry) (i j : ℕ) (x y : ConfId) (ms ns : List ℕ) → ChangesNext log i j x y ms ns → i < length log
 succession_within log i j x y ms ns succession = slice_get_within log i (Conf x ms) succession.first
@@ -109,8 +94,7 @@ place_of : (p j k : ℕ) (f : Place) → p ≡ f.proc → f.at ≡ k + 1 → j �
 place_of p j k f procs at same = rw (procs, same, ← at) refl
 
 pub succession_of_rest : (run : List Log) (p i j : ℕ) (rest : List Place) → IsTurnRest run p i j rest → (x y : ConfId) × (ms ns : List ℕ) × ChangesNext (log_of run p) i j x y ms ns
-succession_of_rest run p i j [] (x, y, ms, ns, succession, how) = (x, y, ms, ns, succession)
-succession_of_rest run p i j (g ∷ rest) (c, t, ms, ns, moves, succession, other) = (Regular c, t, ms, ns, succession)
+succession_of_rest run p i j rest h = grind arith
 
 -- no list begins where there is neither a succession nor a transitional first change
 pub none_without_succession : (run : List Log) (p i : ℕ) → (BeginsTransitional (log_of run p) i → ⊥) → HasNoSuccession (log_of run p) i → NoneFrom (IsTurnFault run) p i
@@ -181,18 +165,14 @@ some_after_right run p i j x y ms ns c rest not_first succession right is_c leas
 }
   where
     moves_on : (z : ConfId) → z ≡ y → IsTransitional z
-    moves_on (Transitional l n) e = tt
-    moves_on (Regular d) e = absurd (right (same_wrong x (Regular c) y (Regular d) ms ms ns ns (sym is_c) refl e refl tt))
+    moves_on z e = grind (arith, same_wrong)
 
     known : (rest : List Place) → IsOtherOrigin run p c y rest → IsTurnRest run p i j rest
     known [] h = absurd h
     known (g ∷ more) h = (c, y, ms, ns, moves_on y refl, rw is_c at succession, h)
 
     first : (more : List Place) → IsTurnAfter run p x ms y ns more → ComesFirst rest more
-    first [] wrong = absurd (right wrong)
-    first (g ∷ more) (d, is_d, other) =
-        let rings : d ≡ c = (let e : Regular d ≡ Regular c = sym is_d ∙ is_c in cc) in
-        least.first (g ∷ more) (subst (λ (r : RingId). IsOtherOrigin run p r y (g ∷ more)) rings other)
+    first more h = grind arith
 
 pub begins_here : (run : List Log) (p i : ℕ) → BeginsTransitional (log_of run p) i → IsLeastFrom (IsTurnFault run) p i []
 begins_here run p i h = record { least = record { holds = (i, refl, h); first = λ others _. tt } }
@@ -236,8 +216,7 @@ pub begins_not : (run : List Log) (p i : ℕ) (log : List Entry) (b : Bool) → 
 begins_not run p i log b is e decides h = let t : b ≡ true = decides.1 (rw is h) in cc
 
 pub others_of_ring : (run : List Log) (p : ℕ) (x t : ConfId) (c d : RingId) → x ≡ Regular c → x ≡ Regular d → HoldsOfNone (IsOtherOrigin run p c t) → HoldsOfNone (IsOtherOrigin run p d t)
-others_of_ring run p x t c d is_c is_d h = let same : c ≡ d = (let e : Regular c ≡ Regular d = sym is_c ∙ is_d in cc) in
-    let P : RingId → Type 0 = λ r. HoldsOfNone (IsOtherOrigin run p r t) in subst P same h
+others_of_ring run p x t c d is_c is_d h = grind arith
 
 -- ---- from the form of the search to what breaks 2.4
 
@@ -256,18 +235,10 @@ comes_itself (e ∷ es) = inr (refl, comes_itself es)
 
 -- the least of some lists is the least of more, if each of those has one of the first at or before it
 pub least_of_more : (H G : List Place → Type 0) (places : List Place) → ((ps : List Place) → H ps → G ps) → ((ps : List Place) → G ps → (qs : List Place) × H qs × ComesFirst qs ps) → IsLeast H places → IsLeast G places
-least_of_more H G places to from least = record {
-  holds = to places least.holds;
-  first = λ others h. let before = from others h in comes_before places before.0 others (least.first before.0 before.1) before.2;
-}
+least_of_more H G places to from least = grind (arith, comes_before)
 
 pub turn_faults_break : (run : List Log) (ps : List Place) → IsTurnFault run ps → BreaksTurns run ps
-turn_faults_break run [] h = absurd h
-turn_faults_break run (e ∷ []) h = h
-turn_faults_break run (e ∷ f ∷ []) (i, is, (j, js, (procs, h))) = (i, is, (j, js, (procs, inl h)))
-turn_faults_break run (e ∷ f ∷ g ∷ h ∷ []) (i, is, (j, js, (procs, (c, t, ms, ns, moves, succession, (k, ks, (l, ls, (others, (lt, d, os, qs, never, succession')))))))) =
-    (i, is, (j, js, (k, ks, (l, ls, (procs, others, (lt, c, d, t, ms, ns, os, qs, moves, never, succession, succession'))))))
-turn_faults_break run (e ∷ f ∷ g ∷ more) (i, is, (j, js, (procs, (c, t, ms, ns, moves, succession, other)))) = absurd other
+turn_faults_break run ps h = grind arith
 
 pub breaks_have_turn_faults : (run : List Log) (ps : List Place) → BreaksTurns run ps → (qs : List Place) × IsTurnFault run qs × ComesFirst qs ps
 breaks_have_turn_faults run (e ∷ []) h = (e ∷ [], h, comes_itself (e ∷ []))
@@ -291,30 +262,24 @@ turn_faults_begin run = record { each = λ places h. go places h }
         begins_at run e i (f ∷ rest) is (succession_within (log_of run e.proc) i j found.0 found.1 found.2 found.3 found.4)
 
 pub no_turn_faults : (run : List Log) → HoldsOfNone (IsTurnFault run) → TakeTurns run
-no_turn_faults run never = record { each = λ p. each p; origin = λ p i j q k l c d t ms ns ks ls lt moves first second. origin p i j q k l c d t ms ns ks ls lt moves first second }
+no_turn_faults run never = record {
+  each = λ p. record {
+    regular_first = λ i x change none. elim (regular_or_transitional x) [
+      | inl regular ↦ regular
+      | inr moves ↦ absurd (never.none (place p i ∷ []) (i, refl, (x, change, moves, none)))
+    ];
+    turns = λ i j x y ms ns succession. right_kinds x y ms ns (right p i j x y ms ns succession);
+    from = λ i j c y ms ns moves succession. right_from c y ms ns moves (right p i j (Regular c) y ms ns succession);
+    to = λ i j x c ms ns moves succession. right_to x c ms ns moves (right p i j x (Regular c) ms ns succession);
+    named = λ i j next c least ms ns succession. right_name next c least ms ns (right p i j (Transitional least next) (Regular c) ms ns succession);
+  };
+  origin = λ p i j q k l c d t ms ns ks ls lt moves first second. sure (same_ring_or_not c d)
+      (λ other. never.none (place p i ∷ place p j ∷ place q k ∷ place q l ∷ [])
+      (i, refl, (j, refl, (refl, (c, t, ms, ns, moves, first, (k, refl, (l, refl, (refl, (lt, d, ks, ls, other, second)))))))));
+}
   where
     right : (p i j : ℕ) (x y : ConfId) (ms ns : List ℕ) → ChangesNext (log_of run p) i j x y ms ns → IsWrongSuccession x ms y ns → ⊥
     right p i j x y ms ns succession w = never.none (place p i ∷ place p j ∷ []) (i, refl, (j, refl, (refl, wrong_neighbours (log_of run p) i j x y ms ns succession w)))
-
-    each : (p : ℕ) → TakesTurns (log_of run p)
-    each p = record {
-      regular_first = λ i x change none. elim (regular_or_transitional x) [
-        | inl regular ↦ regular
-        | inr moves ↦ absurd (never.none (place p i ∷ []) (i, refl, (x, change, moves, none)))
-      ];
-      turns = λ i j x y ms ns succession. right_kinds x y ms ns (right p i j x y ms ns succession);
-      from = λ i j c y ms ns moves succession. right_from c y ms ns moves (right p i j (Regular c) y ms ns succession);
-      to = λ i j x c ms ns moves succession. right_to x c ms ns moves (right p i j x (Regular c) ms ns succession);
-      named = λ i j next c least ms ns succession. right_name next c least ms ns (right p i j (Transitional least next) (Regular c) ms ns succession);
-    }
-
-    origin : (p i j q k l : ℕ) (c d : RingId) (t : ConfId) (ms ns ks ls : List ℕ) → p < q → IsTransitional t
-        → ChangesNext (log_of run p) i j (Regular c) t ms ns → ChangesNext (log_of run q) k l (Regular d) t ks ls → c ≡ d
-    origin p i j q k l c d t ms ns ks ls lt moves first second = elim (same_ring_or_not c d) [
-      | inl same ↦ same
-      | inr other ↦ absurd (never.none (place p i ∷ place p j ∷ place q k ∷ place q l ∷ [])
-          (i, refl, (j, refl, (refl, (c, t, ms, ns, moves, first, (k, refl, (l, refl, (refl, (lt, d, ks, ls, other, second)))))))))
-    ]
 
 pub turns_found : {F : Type 0} (run : List Log) (r : Result (Option (List Place)) F) → IfOk r (λ found. MatchOption found (HoldsOfNone (IsTurnFault run)) (IsLeast (IsTurnFault run))) → IfOk r (Finds run spec.Turns)
 turns_found run (Err e) h = tt

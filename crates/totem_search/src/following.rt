@@ -64,6 +64,7 @@ pub fn first_change(log: &[Entry], conf: &ConfId) -> Option<usize>
 }
 
 /// Returns whether a configuration follows the regular one.
+#[tactic(auto, using(crate::proofs::Follows::that_follows))]
 fn follows(log: &[Entry], ring: &RingId, conf: &ConfId) -> bool
     ensures { IsTrue result ↔ Follows log.now ring.now conf.now }
 {

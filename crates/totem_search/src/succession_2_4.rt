@@ -27,6 +27,7 @@ fn comes_later(log: &[Entry], at: usize) -> bool
 }
 
 /// Returns whether the change at this index is the first of its log, and to a transitional configuration.
+#[tactic(auto, using(std::proofs::lemmas::Option::slice_get_read, crate::proofs::Turning::begins))]
 fn begins_transitional(log: &[Entry], at: usize) -> bool
     requires { at < length log.now }
     ensures { IsTrue result ↔ BeginsTransitional log.now at }
@@ -122,6 +123,7 @@ impl<Q: QuickTests> Relation for Turns<'_, Q> {
 }
 
 /// Finds the least events that break 2.4.
+#[tactic(auto, using(crate::proofs::Turning::turns_found))]
 pub fn find_turns<Q: QuickTests>(quick: &Q, alloc: Global) -> FoundPlaces
     ensures { IfOk result (Finds (Q.of quick.now) SpecNo.Turns) }
 {

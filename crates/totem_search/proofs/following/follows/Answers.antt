@@ -1,5 +1,5 @@
 use Rattle.totem_search.proofs.Loops.{denied}
-use Rattle.totem_search.proofs.Follows.{never_follows, nothing_follows, other_follows, that_follows}
+use Rattle.totem_search.proofs.Follows.{never_follows, nothing_follows, other_follows}
 use Rattle.totem_search.proofs.following.follows.Goals as goal
 
 pub returns-in_default : goal.returns-in_default
@@ -10,6 +10,3 @@ returns-in_default-next_change c = nothing_follows _ _ _ _ c.in-Some.ensures.som
 
 pub returns-else-changes_to_at : goal.returns-else-changes_to_at
 returns-else-changes_to_at c = rw c.if-changes_to_at.false (other_follows _ _ _ _ _ c.in-Some.ensures.some c.in-Some-next_change.ensures.some (denied _ c.if-changes_to_at.false c.changes_to_at.ensures))
-
-pub returns-then-changes_to_at : goal.returns-then-changes_to_at
-returns-then-changes_to_at c = that_follows _ _ _ _ _ _ c.in-Some.ensures.some c.in-Some-next_change.ensures.some (c.changes_to_at.ensures.0 c.if-changes_to_at.true) c.is_transitional.ensures.transitional
