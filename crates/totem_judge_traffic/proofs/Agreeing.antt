@@ -11,5 +11,4 @@ agreed traffic own atomicity causality gap safety installed = grind arith
 
 -- where all is shown, the run agrees
 pub shown_agreed : (traffic : Traffic) (shown : Shown) → AreShown traffic shown → IsAllShown shown → ShowsAgreement traffic
-shown_agreed traffic shown are all =
-    agreed traffic (are.own all.own) (are.atomicity all.atomicity) (are.causality all.causality) (are.gap all.gap) (are.safety all.safety) (are.installed all.installed)
+shown_agreed traffic shown are all = grind (arith, agreed)

@@ -59,8 +59,7 @@ of_standing log i c d there stands = (stands.from, rw there at stands.change)
 
 -- a process that delivers in c, or in what follows it, has changed to c
 pub comes : (run : List Log) (c : RingId) (m : MsgId) (p i : ℕ) → MeetsPasses run → DeliversIn (log_of run p) c m i → (j : ℕ) × ChangesTo (log_of run p) j (Regular c)
-comes run c m p i meets (d, delivers, inl there) = of_standing (log_of run p) i c d there (delivered_in run p i m d meets delivers)
-comes run c m p i meets (d, delivers, inr follows) = (follows.from, follows.first.change)
+comes run c m p i meets delivers = grind (arith, of_standing, delivered_in)
 
 pub in_logs : (run : List Log) (c : RingId) (traffic : Traffic) (m : MsgId) (index p i : ℕ) → MeetsPasses run → IsTrafficOf run c traffic → IsLogAt run index p
     → DeliversIn (log_of run p) c m i → Has traffic.logs index

@@ -51,18 +51,8 @@ missing_pending traffic log q old new stands adds = record {
 pub missing_none : (sents : List Sent) (log q : ℕ) (list : List Pending) → AddsMissing sents 0 log q list list
 missing_none sents log q list = grind arith
 
-later : (sents : List Sent) (n log : ℕ) (m : MsgId) → IsMissingTo sents n log m → IsMissingTo sents (n + 1) log m
-later sents n log m missing = record {
-  at = missing.at;
-  sent = missing.sent;
-  before = (let lt = missing.before in omega arith);
-  stands = missing.stands;
-  message = missing.message;
-  missing = missing.missing;
-}
-
-earlier : (sents : List Sent) (n log : ℕ) (m : MsgId) (missing : IsMissingTo sents (n + 1) log m) → missing.at < n → IsMissingTo sents n log m
-earlier sents n log m missing lt = record {
+before : {sents : List Sent} {n k log : ℕ} {m : MsgId} (missing : IsMissingTo sents n log m) → missing.at < k → IsMissingTo sents k log m
+before missing lt = record {
   at = missing.at;
   sent = missing.sent;
   before = lt;
@@ -86,13 +76,13 @@ module _ (sents : List Sent) (n log q : ℕ) (s : Sent) (old new : List Pending)
   missing_more never adds = record {
     exact = λ x. (
       λ has. elim (Contains-push_cases new (pending q s.message) x has) [
-        | inl before ↦ elim ((adds.exact x).0 before) [ inl there ↦ inl there | inr (proc, missing) ↦ inr (proc, later sents n log x.msg missing) ]
+        | inl old ↦ elim ((adds.exact x).0 old) [ inl there ↦ inl there | inr (proc, missing) ↦ inr (proc, before {k = n + 1} missing (omega (arith, missing.before))) ]
         | inr is ↦ inr (ap (λ (y : Pending). y.proc) (sym is), record { at = n; sent = s; before = omega arith; stands = at; message = ap (λ (y : Pending). y.msg) is; missing = never })
       ],
       λ h. elim h [
         | inl there ↦ Contains-append_left new (pending q s.message ∷ []) x ((adds.exact x).1 (inl there))
         | inr (proc, missing) ↦ elim (before_or_at missing.at n missing.before) [
-          | inl under ↦ Contains-append_left new (pending q s.message ∷ []) x ((adds.exact x).1 (inr (proc, earlier sents n log x.msg missing under)))
+          | inl under ↦ Contains-append_left new (pending q s.message ∷ []) x ((adds.exact x).1 (inr (proc, before {k = n} missing under)))
           | inr level ↦ (
               let e : s.message ≡ x.msg = ap (λ (t : Sent). t.message) (sym (same_sent x.msg missing level)) ∙ missing.message in
               subst (λ (y : Pending). Contains (new ++ pending q s.message ∷ []) y) (same_pending x proc e) (Contains-push new (pending q s.message))
@@ -106,11 +96,11 @@ module _ (sents : List Sent) (n log q : ℕ) (s : Sent) (old new : List Pending)
   pub missing_kept : Has s.by log → AddsMissing sents n log q old new → AddsMissing sents (n + 1) log q old new
   missing_kept by adds = record {
     exact = λ x. (
-      λ has. elim ((adds.exact x).0 has) [ inl there ↦ inl there | inr (proc, missing) ↦ inr (proc, later sents n log x.msg missing) ],
+      λ has. elim ((adds.exact x).0 has) [ inl there ↦ inl there | inr (proc, missing) ↦ inr (proc, before {k = n + 1} missing (omega (arith, missing.before))) ],
       λ h. elim h [
         | inl there ↦ (adds.exact x).1 (inl there)
         | inr (proc, missing) ↦ elim (before_or_at missing.at n missing.before) [
-          | inl under ↦ (adds.exact x).1 (inr (proc, earlier sents n log x.msg missing under))
+          | inl under ↦ (adds.exact x).1 (inr (proc, before {k = n} missing under))
           | inr level ↦ absurd (missing.missing (rw (same_sent x.msg missing level) by))
         ]
       ],

@@ -157,8 +157,7 @@ behind_more list sender n f old new at keeps here has = grind (arith, before_or_
 
 pub behind_next : (list : List Following) (sender n : ℕ) (d : Following) (old new : LogSet) → n < length list → IsWithin old new
     → (Has (slice_index_or list n d).members.logs sender → IsWithin (slice_index_or list n d).logs new) → HasAllBehind list sender n old → HasAllBehind list sender (n + 1) new
-behind_next list sender n d old new within keeps here has =
-    behind_more list sender n (slice_index_or list n d) old new (slice_get-get_or list n d within) keeps.each (λ log member. (here member).each log) has
+behind_next list sender n d old new within keeps here has = grind (arith, behind_more, slice_get-get_or)
 
 -- ---- 5
 
@@ -176,8 +175,7 @@ causal_more logs gots sents n taken sent rows at few lacks until apart clean = r
 }
   where
     taken_too : (k : ℕ) (got : Got) → k < sent.before → slice_get gots k ≡ Some got → (sent.before ≤ taken) ⊎ (taken ≡ length gots) → k < taken
-    taken_too k got lt here (inl enough) = omega arith
-    taken_too k got lt here (inr all) = let within = slice_get_within gots k got here in omega arith
+    taken_too k got lt here until = grind (arith, slice_get_within)
 
     causal : IsCausal logs gots sent
     causal = record {
@@ -228,4 +226,4 @@ noted_more rows i new d added by others lt new_is few noted = record {
 
 pub apart_all : (rows : Rows) (by others : LogSet) (end : ℕ) → AreIn rows.rows rows.lacking → AreApart others rows.lacking → RowsAreApart rows by others end
 unfolding Has
-apart_all rows by others end all apart = record { none = λ log other lt a b h. apart.none other h (all.each log other b.row b.stands b.has) }
+apart_all rows by others end all apart = grind arith

@@ -19,19 +19,18 @@ max_left : (x y : ℕ) → x < 2 → y < 2 → max x y ≡ 1 → (x ≡ 1) ⊎ (
 max_left x y a b h = elim (one_or_not x) [ inl one ↦ inl one | inr not_one ↦ inr (omega arith) ]
 
 max_right : (x y : ℕ) → x < 2 → y < 2 → (x ≡ 1) ⊎ (y ≡ 1) → max x y ≡ 1
-max_right x y a b (inl h) = omega arith
-max_right x y a b (inr h) = omega arith
+max_right x y a b h = grind arith
 
 -- a test of a bit
 pub has_or_not : (set : LogSet) (log : ℕ) → Has set log ⊎ (Has set log → ⊥)
 unfolding Has
-has_or_not set log = one_or_not (bit_at set.bits log)
+has_or_not set log = grind (arith, one_or_not)
 
 -- ---- the operations
 
 pub none_is_empty : (bits : ℕ) → bits ≡ 0 → IsEmpty (record { bits = bits })
 unfolding Has
-none_is_empty bits e = record { none = λ log h. let zero : bit_at bits log ≡ 0 = ap (λ n. bit_at n log) e ∙ bit_at-zero log in omega arith }
+none_is_empty bits e = grind (arith, bit_at-zero)
 
 pub empty_is_none : (set : LogSet) → IsEmpty set → set.bits ≡ 0
 unfolding Has

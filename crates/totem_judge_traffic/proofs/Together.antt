@@ -63,8 +63,7 @@ module _ (run : List Log) (c : RingId) (meets : MeetsPasses run) where
 
 -- if all or none of a group are in a set, and one is, each is
 each_of : (group set : LogSet) (j k : ℕ) → IsWhole group set → Has group j → Has group k → Has set j → Has set k
-each_of group set j k (inl apart) at_j at_k has = absurd (apart.none j at_j has)
-each_of group set j k (inr within) at_j at_k has = within.each k at_k
+each_of group set j k whole at_j at_k has = grind arith
 
 module _ (run : List Log) (c : RingId) (traffic : Traffic) (meets : MeetsPasses run) (is : IsTrafficOf run c traffic) (clean : All (IsAtomic traffic.following.items) traffic.got.items) where
   -- a process that changes has a log

@@ -57,7 +57,7 @@ impl Rows {
     }
 
     /// Remembers what was added last.
-    #[tactic(auto, using(crate::proofs::Rowing::keeps_all))]
+    #[tactic(auto, using(crate::proofs::Rowing::keeps_all, crate::proofs::Rowing::noted_all))]
     fn remember(&mut self, by: LogSet, lacking: LogSet)
         requires { AddsToRows by lacking 32 self.old }
         ensures { self.new.rows ≡ self.old.rows }
@@ -67,6 +67,7 @@ impl Rows {
     }
 
     /// Returns whether this was added last, or there is nothing to add.
+    #[tactic(auto, using(crate::proofs::Rowing::adds_noted))]
     fn has_added(&self, by: LogSet, lacking: LogSet) -> bool
         ensures { OnTrue result (AddsToRows by lacking 32 self.now) }
     {
