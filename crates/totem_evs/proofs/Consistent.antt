@@ -13,9 +13,8 @@ use Rattle.totem_evs.proofs.Closed.{closed_cycles, closed_rises}
 
 -- ---- 1 and 2
 
-not_both : (x : ConfId) → IsRegular x → IsTransitional x → ⊥
-not_both (Regular c) r t = t
-not_both (Transitional least next) r t = r
+pub not_both : (x : ConfId) → IsRegular x → IsTransitional x → ⊥
+not_both x r t = grind arith
 
 unsent : (run : List Log) (places : List Place) → BreaksUnsent run places → Meets run spec.Unsent → ⊥
 unsent run places h k = grind arith

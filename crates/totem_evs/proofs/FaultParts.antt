@@ -1,5 +1,5 @@
 -- A fault of a run's text is that of its first line or of one of its parts.
-use Rattle.totem_evs.proofs.Common.{◌==◌, nat_lt, ◌↔◌, ◌≡◌, ◌≢◌, ℕ, zero, suc, ◌<◌, ◌≤◌, List, [], ◌∷◌, ◌++◌, length, length-append, Bool, Option, Some, None, Ok, Err, refl, sym, ap, ◌∙◌, arith, Version, TextFault, Parsed, ◌>>=◌, GatheredLogs, none_gathered, gathered, ReadsTo, IsInPart, HasFault, BreaksHeader, OrderIn, HasOrder, MembersIn, HasMembers, EndIn, HasEnd, TooManyIn, HasTooMany}
+use Rattle.totem_evs.proofs.Common.{◌==◌, nat_lt, ◌↔◌, ◌≡◌, ◌≢◌, ℕ, zero, suc, ◌<◌, ◌≤◌, List, [], ◌∷◌, ◌++◌, length, length-append, Bool, Option, Some, None, Ok, Err, refl, sym, ap, ◌∙◌, arith, Version, TextFault, Parsed, ◌>>=◌, after, parsed_is, GatheredLogs, none_gathered, gathered, ReadsTo, IsInPart, HasFault, BreaksHeader, OrderIn, HasOrder, MembersIn, HasMembers, EndIn, HasEnd, TooManyIn, HasTooMany}
 use Rattle.totem_names.specs.declared.fault.TextFault.TheVariants as faults
 use Rattle.totem_evs.specs.declared.lines.Line.{Line}
 use Rattle.totem_evs.specs.declared.part.Part.{Part}
@@ -24,33 +24,23 @@ line_some : (version : Version) (l : Line) → 0 < length (line_text version l)
 line_some version l = grind arith
 
 head_some : (version : Version) (head : Option ℕ) → 0 < length (head_text run_words version head)
-head_some version None = omega arith
-head_some version (Some p) = omega arith
+head_some version head = grind arith
 
 shorter : (text rest bytes : List ℕ) → 0 < length text → bytes ≡ text ++ rest → length rest < length bytes
 shorter text rest bytes some e = omega (arith, length-append text rest, ap length e)
 
-pair_is : (x y : Option Part × List ℕ) → ◌≡◌ {A = Parsed (Option Part)} (Ok x) (Ok y) → x ≡ y
-pair_is x y e = cc
-
 part_takes : (version : Version) (logs last : ℕ) (log : Option OpenLog) (part : Option Part) (bytes rest : List ℕ) → next_at version logs last log bytes ≡ Ok (part, rest) → length rest < length bytes
 unfolding begun_at within_at
-part_takes version logs last None part bytes rest e = go (head_at run_words version (logs == 32) last bytes) refl e
-  where
-    go : (r : Parsed (Option ℕ)) → head_at run_words version (logs == 32) last bytes ≡ r → (r >>= as_part) ≡ Ok (part, rest) → length rest < length bytes
-    go (Ok x) same k =
-        let left : x.1 ≡ rest = ap (λ (p : Option Part × List ℕ). p.1) (pair_is (by_head x.0 None (λ p. Some (parts.Log p)), x.1) (part, rest) k) in
-        let found = head_is run_words version (logs == 32) last x.0 bytes x.1 same in
-        rw left at (shorter (head_text run_words version x.0) x.1 bytes (head_some version x.0) found.1)
-    go (Err f) same k = absurd cc
-part_takes version logs last (Some log) part bytes rest e = go (line_at version (log.entries == 1000000) (nat_lt 0 log.entries) log.failed bytes) refl e
-  where
-    go : (r : Parsed Line) → line_at version (log.entries == 1000000) (nat_lt 0 log.entries) log.failed bytes ≡ r → (r >>= line_part) ≡ Ok (part, rest) → length rest < length bytes
-    go (Ok x) same k =
-        let left : x.1 ≡ rest = ap (λ (p : Option Part × List ℕ). p.1) (pair_is (Some (by_line x.0 parts.Close parts.Entry), x.1) (part, rest) k) in
-        let found = line_is version (log.entries == 1000000) (nat_lt 0 log.entries) log.failed x.0 bytes x.1 same in
-        rw left at (shorter (line_text version x.0) x.1 bytes (line_some version x.0) found.1)
-    go (Err f) same k = absurd cc
+part_takes version logs last None part bytes rest e =
+    after (head_at run_words version (logs == 32) last bytes) as_part (part, rest) e (λ x mid e1 made.
+    let left : mid ≡ rest = (parsed_is (by_head x None (λ p. Some (parts.Log p))) part mid rest made).1 in
+    rw left at (shorter (head_text run_words version x) mid bytes (head_some version x)
+    (head_is run_words version (logs == 32) last x bytes mid e1).1))
+part_takes version logs last (Some log) part bytes rest e =
+    after (line_at version (log.entries == 1000000) (nat_lt 0 log.entries) log.failed bytes) line_part (part, rest) e (λ x mid e1 made.
+    let left : mid ≡ rest = (parsed_is (Some (by_line x parts.Close parts.Entry)) part mid rest made).1 in
+    rw left at (shorter (line_text version x) mid bytes (line_some version x)
+    (line_is version (log.entries == 1000000) (nat_lt 0 log.entries) log.failed x bytes mid e1).1))
 
 -- ---- some parts, and then a fault
 
@@ -152,11 +142,11 @@ order_in version logs last (Some log) bytes = (
 )
 
 members_in : (version : Version) (logs last : ℕ) (log : Option OpenLog) (bytes : List ℕ) → (next_at version logs last log bytes ≡ Err faults.Members) ↔ MembersIn version log bytes
-members_in version logs last None bytes = (λ e. (head_only run_words version NotMembers (logs == 32) last bytes names_not_members tt tt).fault faults.Members ((between_fault version logs last bytes faults.Members).0 e), λ h. absurd h)
+members_in version logs last None bytes = (λ e. (head_only run_words version NotMembers (logs == 32) last bytes names_not_members (λ h. absurd cc) (λ h. absurd cc)).fault faults.Members ((between_fault version logs last bytes faults.Members).0 e) refl, λ h. absurd h)
 members_in version logs last (Some log) bytes = both (within_fault version log.entries log.failed bytes faults.Members) (members_exactly version (log.entries == 1000000) (nat_lt 0 log.entries) log.failed bytes)
 
 end_in : (version : Version) (logs last : ℕ) (log : Option OpenLog) (bytes : List ℕ) → (next_at version logs last log bytes ≡ Err faults.End) ↔ EndIn version log bytes
-end_in version logs last None bytes = (λ e. (head_only run_words version NotEnd (logs == 32) last bytes names_not_end tt tt).fault faults.End ((between_fault version logs last bytes faults.End).0 e), λ h. absurd h)
+end_in version logs last None bytes = (λ e. (head_only run_words version NotEnd (logs == 32) last bytes names_not_end (λ h. absurd cc) (λ h. absurd cc)).fault faults.End ((between_fault version logs last bytes faults.End).0 e) refl, λ h. absurd h)
 end_in version logs last (Some log) bytes = both (within_fault version log.entries log.failed bytes faults.End) (end_exactly version (log.entries == 1000000) (nat_lt 0 log.entries) log.failed bytes)
 
 many_in : (version : Version) (logs last : ℕ) (log : Option OpenLog) (bytes : List ℕ) → (next_at version logs last log bytes ≡ Err faults.TooMany) ↔ TooManyIn version logs log bytes

@@ -237,8 +237,7 @@ pub may_gather : (s : ReadState) (g : GatheredLogs) (part : Part) → GathersIn 
 may_gather s g part h comes = may_gather_in s.stage.version s.stage.logs s.stage.last s.stage.log g part h.inside comes
 
 few_in : (log : Option OpenLog) (last : ℕ) (g : GatheredLogs) → InLog log last g → FewEntries log × OfLast log last g.proc
-few_in None last g h = (tt, tt)
-few_in (Some l) last g h = (h.few, h.proc)
+few_in log last g h = grind arith
 
 -- the limits are kept, and the log that has not ended is that of the last process
 pub limits : (s : ReadState) (g : GatheredLogs) → GathersIn s g → FewEntries s.stage.log × OfLast s.stage.log s.stage.last g.proc
@@ -263,16 +262,14 @@ falls s t part g h comes goes = rw goes.stage (falls_in s.stage.version s.stage.
 -- ---- the end
 
 idle_in : (version : Version) (logs last : ℕ) (log : Option OpenLog) (g : GatheredLogs) → InLog log last g → ComesIn version logs last log None → Idle last g
-idle_in version logs last None g h comes = h
-idle_in version logs last (Some l) g h comes = absurd comes
+idle_in version logs last log g h comes = grind arith
 
 -- at the end the members that were named are those of the logs
 named_all : (last : ℕ) (g : GatheredLogs) → Idle last g → named g ≡ all_members g.logs
 named_all last g idle = ap (λ (es : List Entry). all_members g.logs ++ flat_map members_of es) idle.entries ∙ append-nil (all_members g.logs)
 
 begun_has : (last : ℕ) (g : GatheredLogs) (q : ℕ) → Idle last g → HasBegun g q → HasLog g.logs q
-begun_has last g q idle (inl has) = has
-begun_has last g q idle (inr e) = absurd (let k = idle.proc in cc)
+begun_has last g q idle h = grind arith
 
 -- no process waits
 pub each_has : (s : ReadState) (g : GatheredLogs) → GathersIn s g → MayCome s.stage None → ((q : ℕ) → Contains s.waiting q → ⊥) → EachHasLog g.logs (all_members g.logs)

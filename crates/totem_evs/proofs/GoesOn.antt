@@ -5,6 +5,7 @@ use Rattle.totem_names.specs.declared.fault.TextFault.TheVariants.{Word, Truncat
 use Rattle.totem_names.specs.Numbers.{is_digit, byte_at, word_at, digits_at, number_at, number_to}
 use Rattle.totem_names.specs.Parsers.{ring_at, message_at, regular_at, transitional_at, conf_at}
 use Rattle.totem_names.specs.Texts.{ring_text, conf_text, message_text, IsUpTo, IsRing, IsConf, IsMessage}
+use Rattle.totem_evs.proofs.PartFaults.{bind_case, byte_pick}
 
 -- ---- steps
 
@@ -34,37 +35,32 @@ pub bind_cut : {A B : Type 0} (r : Parsed A) (k : A × List ℕ → Parsed B) (F
     → ((t : List ℕ) → First t → (u : List ℕ) × Is (t ++ u))
     → ((a : A) (rest : List ℕ) → r ≡ Ok (a, rest) → Splits (k (a, rest)) Is bytes rest)
     → Cut (r >>= k) Is bytes
-bind_cut {A = A} {B = B} (Ok x) k First Is bytes first some next = record { goes = λ e. go (next x.0 x.1 refl) e }
-  where
-    go : Splits (k (x.0, x.1)) Is bytes x.1 → k x ≡ Err Truncated → (more : List ℕ) × Is (bytes ++ more)
-    go s e =
-        let found = s.next.goes e in
-        (found.0, subst Is (sym (append_assoc s.text x.1 found.0) ∙ ap (λ (t : List ℕ). t ++ found.0) (sym s.whole)) found.1)
-bind_cut {A = A} {B = B} (Err f) k First Is bytes first some next = record { goes = λ e. go (same e) }
-  where
-    same : ◌≡◌ {A = Parsed B} (Err f) (Err Truncated) → f ≡ Truncated
-    same e = cc
-
-    go : f ≡ Truncated → (more : List ℕ) × Is (bytes ++ more)
-    go e =
-        let found = first.goes (ap (λ (g : TextFault). Err g) e) in
-        let more = some (bytes ++ found.0) found.1 in
-        (found.0 ++ more.0, subst Is (append_assoc bytes found.0 more.0) more.1)
+bind_cut r k First Is bytes first some next = record {
+  goes = λ e. bind_case r k Truncated e
+      (λ short.
+      let found = first.goes short in
+      let more = some (bytes ++ found.0) found.1 in
+      (found.0 ++ more.0, subst Is (append_assoc bytes found.0 more.0) more.1))
+      (λ a rest same later.
+      let s = next a rest same in
+      let found = s.next.goes later in
+      (found.0, subst Is (sym (append_assoc s.text rest found.0) ∙ ap (λ (t : List ℕ). t ++ found.0) (sym s.whole)) found.1));
+}
 
 -- the last thing
 pub last_cut : {A B : Type 0} (r : Parsed A) (f : A × List ℕ → B × List ℕ) (First Is : List ℕ → Type 0) (bytes : List ℕ) → Cut r First bytes → ((t : List ℕ) → First t → Is t) → Cut {A = B} (r >>= λ x. Ok (f x)) Is bytes
-last_cut {A = A} {B = B} (Ok x) f First Is bytes first so = record { goes = λ e. absurd cc }
-last_cut {A = A} {B = B} (Err g) f First Is bytes first so = record { goes = λ e. go (same e) }
-  where
-    same : ◌≡◌ {A = Parsed B} (Err g) (Err Truncated) → g ≡ Truncated
-    same e = cc
-
-    go : g ≡ Truncated → (more : List ℕ) × Is (bytes ++ more)
-    go e = let found = first.goes (ap (λ (h : TextFault). Err h) e) in (found.0, so (bytes ++ found.0) found.1)
+last_cut r f First Is bytes first so = record {
+  goes = λ e. bind_case r (λ x. Ok (f x)) Truncated e
+      (λ short. let found = first.goes short in (found.0, so (bytes ++ found.0) found.1)) (λ a rest same later. absurd cc);
+}
 
 -- a text of one kind is one of another
 pub cut_as : {A : Type 0} (r : Parsed A) (First Is : List ℕ → Type 0) (bytes : List ℕ) → Cut r First bytes → ((t : List ℕ) → First t → Is t) → Cut r Is bytes
 cut_as r First Is bytes first so = record { goes = λ e. let found = first.goes e in (found.0, so (bytes ++ found.0) found.1) }
+
+-- a text that this letter begins
+pub led_cut : {A : Type 0} (c letter : ℕ) (r : Parsed A) (Is : List ℕ → Type 0) (rest : List ℕ) → Cut r (λ u. Is (letter ∷ u)) rest → (c == letter) ≡ true → Cut r Is (c ∷ rest)
+led_cut c letter r Is rest found h = let same : c ≡ letter = eqb-true c letter h in rw same (record { goes = λ e. found.goes e })
 
 -- ---- bytes and words
 
@@ -74,19 +70,19 @@ byte_cut b (c ∷ bytes) = record { goes = λ e. absurd cc }
 
 pub word_cut : (fault : TextFault) (word bytes : List ℕ) → is_short fault ≡ false → Cut (word_at fault word bytes) (λ t. t ≡ word) bytes
 unfolding word_at
-word_cut fault [] bytes long = ok_cut (tt, bytes) (λ t. t ≡ []) bytes
+word_cut fault [] bytes long = ok_cut _ _ _
 word_cut fault (w ∷ word) bytes long =
-    bind_cut (byte_at bytes) (λ b. cond (b.0 == w) (word_at fault word b.1) (Err fault)) (λ t. t ≡ w ∷ []) (λ t. t ≡ w ∷ word) bytes (byte_cut w bytes) (λ t e. (word, rw e refl)) (λ b rest e. record {
+    bind_cut _ _ _ _ _ (byte_cut w bytes) (λ t e. (word, rw e refl)) (λ b rest e. record {
       text = b ∷ [];
       whole = byte_is bytes b rest e;
-      next = test_cut (b == w) (word_at fault word rest) (Err fault) (λ u. b ∷ u ≡ w ∷ word) rest
-          (λ h. let same : b ≡ w = eqb-true b w h in cut_as (word_at fault word rest) (λ t. t ≡ word) (λ u. b ∷ u ≡ w ∷ word) rest (word_cut fault word rest long) (λ t k. rw (same, k) refl))
-          (λ h. fault_cut fault (λ u. b ∷ u ≡ w ∷ word) rest long);
+      next = test_cut _ _ _ _ _
+          (λ h. let same : b ≡ w = eqb-true b w h in cut_as _ _ _ _ (word_cut fault word rest long) (λ t k. rw (same, k) refl))
+          (λ h. fault_cut _ _ _ long);
     })
 
 -- ---- numbers
 
-digit_low : (b : ℕ) → is_digit b ≡ true → (48 ≤ b) × (b ≤ 57)
+pub digit_low : (b : ℕ) → is_digit b ≡ true → (48 ≤ b) × (b ≤ 57)
 digit_low b h = (grind arith, grind arith)
 
 -- the digits so far are those of a number in range
@@ -123,29 +119,22 @@ NumberTo max end t = (n : ℕ) × IsUpTo max n × (t ≡ decimal n ++ end ∷ []
 pub number_to_cut : (max end : ℕ) (bytes : List ℕ) → 9 ≤ max → max < 2 ^ 32 → Cut (number_to max end bytes) (NumberTo max end) bytes
 unfolding number_to
 number_to_cut max end bytes nine fits =
-    record { goes = λ e. go (number_at max bytes) refl e }
+    record {
+      goes = λ e. bind_case (number_at max bytes) (λ n. cond (n.0.1 == end) (Ok (n.0.0, n.1)) (Err Word)) Truncated e
+          (λ short. ends (number_cut max bytes nine fits short))
+          (λ x rest same later. byte_pick x.1 end _ _ _ later (λ h k. absurd cc) (λ k. absurd cc));
+    }
   where
     ends : (bytes ≡ []) ⊎ ((n : ℕ) × IsUpTo max n × (bytes ≡ decimal n)) → (more : List ℕ) × NumberTo max end (bytes ++ more)
     ends (inl none) = (decimal 1 ++ end ∷ [], (1, record { positive = omega arith; small = omega arith }, rw none refl))
     ends (inr x) = (end ∷ [], (x.0, x.1, ap (λ (t : List ℕ). t ++ end ∷ []) x.2))
-
-    behind : (ℕ × ℕ) × List ℕ → Parsed ℕ
-    behind n = cond (n.0.1 == end) (Ok (n.0.0, n.1)) (Err Word)
-
-    never : (t : Bool) (x : ℕ × List ℕ) → ◌≡◌ {A = Parsed ℕ} (cond t (Ok x) (Err Word)) (Err Truncated) → ⊥
-    never true x e = absurd cc
-    never false x e = absurd cc
-
-    go : (r : Parsed (ℕ × ℕ)) → number_at max bytes ≡ r → (r >>= behind) ≡ Err Truncated → (more : List ℕ) × NumberTo max end (bytes ++ more)
-    go (Ok x) same e = absurd (never (x.0.1 == end) (x.0.0, x.1) e)
-    go (Err f) same e = let short : f ≡ Truncated = cc in ends (number_cut max bytes nine fits (same ∙ ap (λ (g : TextFault). Err g) short))
 
 -- ---- names
 
 abbrev pub RingTo : ℕ → List ℕ → Type 0
 RingTo end t = (c : RingName) × IsRing c × (t ≡ ring_text c ++ end ∷ [])
 
-one_is : (max : ℕ) → 9 ≤ max → IsUpTo max 1
+pub one_is : (max : ℕ) → 9 ≤ max → IsUpTo max 1
 one_is max nine = record { positive = omega arith; small = omega arith }
 
 ring_parts : (s r rest : List ℕ) (end : ℕ) → (s ++ 46 ∷ []) ++ (r ++ end ∷ rest) ≡ (s ++ codes "." ++ r) ++ end ∷ rest
@@ -154,14 +143,14 @@ ring_parts s r rest end = simp append_assoc
 pub ring_cut : (end : ℕ) (bytes : List ℕ) → Cut (ring_at end bytes) (RingTo end) bytes
 unfolding ring_at
 ring_cut end bytes =
-    bind_cut (number_to 4294967295 46 bytes) (λ seq. number_to 65535 end seq.1 >>= λ rep. Ok (record { seq = seq.0; rep = rep.0 }, rep.1)) (NumberTo 4294967295 46) (RingTo end) bytes (number_to_cut 4294967295 46 bytes (omega arith) (omega arith))
+    bind_cut _ _ _ _ _ (number_to_cut 4294967295 46 bytes (omega arith) (omega arith))
     (λ t x. (decimal 1 ++ end ∷ [], (record { seq = x.0; rep = 1 }, record { seq_fits = x.1; rep_fits = one_is 65535 (omega arith) }, ap (λ (k : List ℕ). k ++ (decimal 1 ++ end ∷ [])) x.2 ∙ ring_parts (decimal x.0) (decimal 1) [] end)))
     (λ seq rest e.
     let y = number_to_is 4294967295 46 seq bytes rest (omega arith) (omega arith) e in
     record {
       text = decimal seq ++ 46 ∷ [];
       whole = y.spelled ∙ sym (append_assoc (decimal seq) (46 ∷ []) rest);
-      next = last_cut (number_to 65535 end rest) (λ rep. (record { seq = seq; rep = rep.0 }, rep.1)) (NumberTo 65535 end) (λ u. RingTo end ((decimal seq ++ 46 ∷ []) ++ u)) rest (number_to_cut 65535 end rest (omega arith) (omega arith))
+      next = last_cut _ _ _ _ _ (number_to_cut 65535 end rest (omega arith) (omega arith))
           (λ t x. (record { seq = seq; rep = x.0 }, record { seq_fits = record { positive = y.positive; small = y.small }; rep_fits = x.1 }, ap (λ (k : List ℕ). (decimal seq ++ 46 ∷ []) ++ k) x.2 ∙ ring_parts (decimal seq) (decimal x.0) [] end));
     })
 
@@ -181,14 +170,14 @@ message_parts c n end = simp append_assoc
 pub message_cut : (end : ℕ) (bytes : List ℕ) → Cut (message_at end bytes) (MessageTo end) bytes
 unfolding message_at
 message_cut end bytes =
-    bind_cut (ring_at 35 bytes) (λ ring. number_to 4294967295 end ring.1 >>= λ number. Ok (record { ring = ring.0; number = number.0 }, number.1)) (RingTo 35) (MessageTo end) bytes (ring_cut 35 bytes)
+    bind_cut _ _ _ _ _ (ring_cut 35 bytes)
     (λ t x. (decimal 1 ++ end ∷ [], (record { ring = x.0; number = 1 }, record { ring_fits = x.1; number_fits = one_is 4294967295 (omega arith) }, ap (λ (k : List ℕ). k ++ (decimal 1 ++ end ∷ [])) x.2 ∙ message_parts (ring_text x.0) (decimal 1) end)))
     (λ ring rest e.
     let y = ring_is 35 ring bytes rest e in
     record {
       text = ring_text ring ++ 35 ∷ [];
       whole = y.1 ∙ sym (append_assoc (ring_text ring) (35 ∷ []) rest);
-      next = last_cut (number_to 4294967295 end rest) (λ number. (record { ring = ring; number = number.0 }, number.1)) (NumberTo 4294967295 end) (λ u. MessageTo end ((ring_text ring ++ 35 ∷ []) ++ u)) rest (number_to_cut 4294967295 end rest (omega arith) (omega arith))
+      next = last_cut _ _ _ _ _ (number_to_cut 4294967295 end rest (omega arith) (omega arith))
           (λ t x. (record { ring = ring; number = x.0 }, record { ring_fits = y.0; number_fits = x.1 }, ap (λ (k : List ℕ). (ring_text ring ++ 35 ∷ []) ++ k) x.2 ∙ message_parts (ring_text ring) (decimal x.0) end));
     })
 
@@ -198,7 +187,7 @@ ConfTo end t = (x : ConfId) × IsConf x × (t ≡ conf_text x ++ end ∷ [])
 regular_cut : (end : ℕ) (bytes : List ℕ) → Cut (regular_at end bytes) (λ u. ConfTo end (114 ∷ u)) bytes
 unfolding regular_at
 regular_cut end bytes =
-    last_cut (ring_at end bytes) (λ ring. (Regular ring.0, ring.1)) (RingTo end) (λ u. ConfTo end (114 ∷ u)) bytes (ring_cut end bytes) (λ t x. (Regular x.0, x.1, ap (λ (k : List ℕ). 114 ∷ k) x.2))
+    last_cut _ _ _ _ _ (ring_cut end bytes) (λ t x. (Regular x.0, x.1, ap (λ (k : List ℕ). 114 ∷ k) x.2))
 
 transitional_parts : (c n : List ℕ) (end : ℕ) → 116 ∷ ((c ++ 47 ∷ []) ++ (n ++ end ∷ [])) ≡ (codes "t" ++ c ++ codes "/" ++ n) ++ end ∷ []
 transitional_parts c n end = simp append_assoc
@@ -206,28 +195,23 @@ transitional_parts c n end = simp append_assoc
 transitional_cut : (end : ℕ) (bytes : List ℕ) → Cut (transitional_at end bytes) (λ u. ConfTo end (116 ∷ u)) bytes
 unfolding transitional_at
 transitional_cut end bytes =
-    bind_cut (ring_at 47 bytes) (λ next. number_to 65535 end next.1 >>= λ least. Ok (Transitional least.0 next.0, least.1)) (RingTo 47) (λ u. ConfTo end (116 ∷ u)) bytes (ring_cut 47 bytes)
+    bind_cut _ _ _ _ _ (ring_cut 47 bytes)
     (λ t x. (decimal 1 ++ end ∷ [], (Transitional 1 x.0, (x.1, one_is 65535 (omega arith)), ap (λ (k : List ℕ). 116 ∷ (k ++ (decimal 1 ++ end ∷ []))) x.2 ∙ transitional_parts (ring_text x.0) (decimal 1) end)))
     (λ next rest e.
     let y = ring_is 47 next bytes rest e in
     record {
       text = ring_text next ++ 47 ∷ [];
       whole = y.1 ∙ sym (append_assoc (ring_text next) (47 ∷ []) rest);
-      next = last_cut (number_to 65535 end rest) (λ least. (Transitional least.0 next, least.1)) (NumberTo 65535 end) (λ u. ConfTo end (116 ∷ ((ring_text next ++ 47 ∷ []) ++ u))) rest (number_to_cut 65535 end rest (omega arith) (omega arith))
+      next = last_cut _ _ _ _ _ (number_to_cut 65535 end rest (omega arith) (omega arith))
           (λ t x. (Transitional x.0 next, (y.0, x.1), ap (λ (k : List ℕ). 116 ∷ ((ring_text next ++ 47 ∷ []) ++ k)) x.2 ∙ transitional_parts (ring_text next) (decimal x.0) end));
     })
 
 pub conf_cut : (end : ℕ) (bytes : List ℕ) → Cut (conf_at end bytes) (ConfTo end) bytes
 unfolding conf_at
-conf_cut end bytes =
-    bind_cut (byte_at bytes) (λ kind. cond (kind.0 == 114) (regular_at end kind.1) (cond (kind.0 == 116) (transitional_at end kind.1) (Err Word))) (λ t. t ≡ 114 ∷ []) (ConfTo end) bytes (byte_cut 114 bytes)
-    (λ t e. (ring_text first_ring ++ end ∷ [], (Regular first_ring, first_ring_is, ap (λ (k : List ℕ). k ++ (ring_text first_ring ++ end ∷ [])) e)))
-    (λ kind rest e. record {
-      text = kind ∷ [];
-      whole = byte_is bytes kind rest e;
-      next = test_cut (kind == 114) (regular_at end rest) (cond (kind == 116) (transitional_at end rest) (Err Word)) (λ u. ConfTo end (kind ∷ u)) rest
-          (λ h. let same : kind ≡ 114 = eqb-true kind 114 h in rw same (regular_cut end rest))
-          (λ h. test_cut (kind == 116) (transitional_at end rest) (Err Word) (λ u. ConfTo end (kind ∷ u)) rest
-          (λ h. let same : kind ≡ 116 = eqb-true kind 116 h in rw same (transitional_cut end rest))
-          (λ h. fault_cut Word (λ u. ConfTo end (kind ∷ u)) rest refl));
-    })
+conf_cut end [] = record { goes = λ e. (114 ∷ (ring_text first_ring ++ end ∷ []), (Regular first_ring, first_ring_is, refl)) }
+conf_cut end (kind ∷ rest) =
+    test_cut (kind == 114) (regular_at end rest) (cond (kind == 116) (transitional_at end rest) (Err Word)) _ _
+    (led_cut kind 114 _ _ _ (regular_cut end rest))
+    (λ h. test_cut (kind == 116) (transitional_at end rest) (Err Word) _ _
+    (led_cut kind 116 _ _ _ (transitional_cut end rest))
+    (λ h. fault_cut Word _ _ refl))

@@ -7,7 +7,7 @@ use Rattle.totem_evs.specs.Heads.{Words, HasVersion, proc_at, begin_at, end_at, 
 use Rattle.totem_evs.specs.HeadFaults.{Differs, BreaksFirstLine, BeginsBelow}
 use Rattle.totem_evs.proofs.OnlyFaults.{OfNames, fault_only, proc_only, word_only, process_only, end_only}
 use Rattle.totem_evs.proofs.PartFaults.{bind_case, byte_case, byte_pick}
-use Rattle.totem_evs.proofs.MembersFaults.{NotMany, names_not_many}
+use Rattle.totem_evs.proofs.MembersFaults.{within_is, NotMany, names_not_many}
 use Rattle.totem_evs.proofs.SpelledHeads.{both_hold}
 
 -- ---- Order
@@ -24,9 +24,6 @@ NotOrder faults.TooMany = Unit {0}
 
 pub names_not_order : OfNames NotOrder
 names_not_order = record { word = tt; number = tt; short = tt }
-
-within_is : (a b : ℕ) → nat_le a b ≡ true → a ≤ b
-within_is a b h = grind (arith, nat_tests)
 
 proc_order : (words : Words) (version : Version) (full : Bool) (last : ℕ) (bytes rest : List ℕ) → full ≡ false → bytes ≡ words.letter ∷ rest → proc_at words version last rest ≡ Err faults.Order → BeginsBelow words version full last bytes
 unfolding proc_at
@@ -49,12 +46,8 @@ proc_order words version full last bytes rest room is e =
         complete = x.behind;
         is = is ∙ ap (λ (t : List ℕ). words.letter ∷ t) (word_is faults.Word words.word rest b1 w e1 ∙ ap (λ (t : List ℕ). words.word ++ t) x.spelled);
       }
-      | inr y ↦ absurd (never (p.1 == words.behind) (p.0, b2) y.1)
+      | inr y ↦ byte_pick p.1 words.behind _ _ _ y.1 (λ h k. absurd cc) (λ k. absurd cc)
     ]))
-  where
-    never : (t : Bool) (x : ℕ × List ℕ) → ◌≡◌ {A = Parsed ℕ} (cond t (Ok x) (Err faults.Word)) (Err faults.Order) → ⊥
-    never true x e = absurd cc
-    never false x e = (fault_only {A = ℕ} NotOrder faults.Word tt).fault faults.Order e
 
 head_order : (words : Words) (version : Version) (full : Bool) (last : ℕ) (bytes : List ℕ) → head_at words version full last bytes ≡ Err faults.Order → BeginsBelow words version full last bytes
 unfolding head_at begin_at
@@ -103,36 +96,30 @@ many_exactly words version full last bytes = (head_many words version full last 
 
 -- ---- Header
 
+-- a number differs where the test says so
+not_same : (x y : ℕ) → (x == y) ≡ false → x ≢ y
+not_same x y e same = absurd (let test : (y == y) ≡ true = search rules in let other : (y == y) ≡ false = rw same at e in cc)
+
 pub word_differs : (fault : TextFault) (word bytes : List ℕ) → fault ≢ faults.Truncated → word_at fault word bytes ≡ Err fault → Differs word bytes
 unfolding word_at
 word_differs fault [] bytes long e = absurd cc
 word_differs fault (w ∷ word) bytes long e =
-    byte_case bytes (λ b. cond (b.0 == w) (word_at fault word b.1) (Err fault)) fault long e (λ b rest is k. go b rest (b == w) refl is (word_differs fault word rest long) k)
-  where
-    go : (b : ℕ) (rest : List ℕ) (t : Bool) → (b == w) ≡ t → bytes ≡ b ∷ rest → (word_at fault word rest ≡ Err fault → Differs word rest) → cond t (word_at fault word rest) (Err fault) ≡ Err fault → Differs (w ∷ word) bytes
-    go b rest true h is again k =
-        let d = again k in
-        let same : b ≡ w = eqb-true b w h in
-        record {
-          front = b ∷ d.front;
-          wanted = d.wanted;
-          behind = d.behind;
-          byte = d.byte;
-          rest = d.rest;
-          is_word = ap (λ (t : List ℕ). w ∷ t) d.is_word ∙ ap (λ (c : ℕ). c ∷ (d.front ++ d.wanted ∷ d.behind)) (sym same);
-          is_bytes = is ∙ ap (λ (t : List ℕ). b ∷ t) d.is_bytes;
-          differs = d.differs;
-        }
-    go b rest false h is again k = record {
-      front = [];
-      wanted = w;
-      behind = word;
-      byte = b;
-      rest = rest;
-      is_word = refl;
-      is_bytes = is;
-      differs = λ same. absurd (let test : (w == w) ≡ true = search rules in let other : (w == w) ≡ false = rw same at h in cc);
-    }
+    byte_case bytes (λ b. cond (b.0 == w) (word_at fault word b.1) (Err fault)) fault long e (λ b rest is k. elim (taken (b == w) (word_at fault word rest) (Err fault) (Err fault) k) [
+      | inl x ↦
+          let d = word_differs fault word rest long x.1 in
+          let same : b ≡ w = eqb-true b w x.0 in
+          record {
+            front = b ∷ d.front;
+            wanted = d.wanted;
+            behind = d.behind;
+            byte = d.byte;
+            rest = d.rest;
+            is_word = ap (λ (t : List ℕ). w ∷ t) d.is_word ∙ ap (λ (c : ℕ). c ∷ (d.front ++ d.wanted ∷ d.behind)) (sym same);
+            is_bytes = is ∙ ap (λ (t : List ℕ). b ∷ t) d.is_bytes;
+            differs = d.differs;
+          }
+      | inr x ↦ record { front = []; wanted = w; behind = word; byte = b; rest = rest; is_word = refl; is_bytes = is; differs = not_same b w x.0 }
+    ])
 
 differs_at : (fault : TextFault) (front : List ℕ) (wanted byte : ℕ) (behind rest : List ℕ) → byte ≢ wanted → word_at fault (front ++ wanted ∷ behind) (front ++ byte ∷ rest) ≡ Err fault
 unfolding word_at
@@ -154,10 +141,6 @@ NotHeader faults.TooMany = Unit {0}
 
 pub names_not_header : OfNames NotHeader
 names_not_header = record { word = tt; number = tt; short = tt }
-
--- a number differs where the test says so
-not_same : (x y : ℕ) → (x == y) ≡ false → x ≢ y
-not_same x y e same = absurd (let test : (y == y) ≡ true = search rules in let other : (y == y) ≡ false = rw same at e in cc)
 
 -- what follows the digit of a version
 end_breaks : (version : Version) (bytes : List ℕ) → header_end version bytes ≡ Err faults.Header → Differs (line []) bytes
@@ -192,8 +175,7 @@ header_breaks words bytes e =
     ]))
 
 no_third : (third test : Bool) → (third ≡ true → test ≡ false) → (third && test) ≡ false
-no_third true test h = h refl
-no_third false test h = refl
+no_third third test h = grind arith
 
 not_equal : (x y : ℕ) → x ≢ y → (x == y) ≡ false
 not_equal x y other = search rules

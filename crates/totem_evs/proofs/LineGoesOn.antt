@@ -1,11 +1,11 @@
 -- Where a line of a log is too short, some line continues it.
-use Rattle.totem_evs.proofs.Common.{decimal, nat_le, ◌==◌, codes, not, ◌&&◌, ◌≡◌, ℕ, zero, suc, inl, inr, List, [], ◌∷◌, ◌++◌, Ok, Err, Bool, true, false, cond, refl, sym, ◌∙◌, ap, append_assoc, arith, Version, rank_of, id_of, life_of, process_then_is, eqb-true, append-nil, ConfId, Regular, Agreed, Safe, MessageName, Parsed, ◌>>=◌, conf_text, message_text, service_text, IsUpTo, IsConf, IsMessage, service_is, byte_is, word_is, number_to_is, conf_is, line, members_text, writes_quiet, IsLooseMembers, IsLooseEntry}
+use Rattle.totem_evs.proofs.Common.{decimal, nat_le, ◌==◌, codes, not, ◌&&◌, ◌≡◌, ℕ, zero, suc, inl, inr, List, [], ◌∷◌, ◌++◌, Ok, Err, Bool, true, false, cond, refl, sym, ◌∙◌, ap, append_assoc, arith, rules, Version, rank_of, id_of, life_of, process_then_is, eqb-true, append-nil, ConfId, Regular, Agreed, MessageName, ◌>>=◌, conf_text, message_text, service_text, IsUpTo, IsConf, IsMessage, service_is, byte_is, word_is, number_to_is, conf_is, line, members_text, writes_quiet, IsLooseMembers, IsLooseEntry}
 use Rattle.totem_names.specs.Processes.{writes_lives, process_text, first_life_then, life_then, process_then, IsProcessIn}
 use Rattle.totem_names.proofs.RankParts.{id_of_rank, life_of_rank}
 use Rattle.totem_names.specs.declared.fault.TextFault.TheVariants as faults
 use Rattle.totem_names.specs.declared.message.Service.{Service}
-use Rattle.totem_names.specs.Numbers.{byte_at, word_at, number_at, number_to}
-use Rattle.totem_names.specs.Parsers.{conf_at, message_at}
+use Rattle.totem_names.specs.Numbers.{word_at, number_at}
+use Rattle.totem_names.specs.Parsers.{message_at}
 use Rattle.totem_names.specs.Services.{service_at}
 use Rattle.totem_evs.specs.declared.entry.Entry.TheVariants.{Conf, Send, Deliver, Fail}
 use Rattle.totem_evs.specs.declared.ending.Ending.TheVariants.{Standing, Failed, Quiet}
@@ -13,8 +13,8 @@ use Rattle.totem_evs.specs.declared.lines.Line.{Line}
 use Rattle.totem_evs.specs.declared.lines.Line.TheVariants as lines
 use Rattle.totem_evs.specs.RunGrammar.{members_at, change_at, send_at, delivery_at, open_at, quiet_at, failed_at, fail_at, ail_at, failure_at, line_at}
 use Rattle.totem_evs.proofs.LooseFrom.{LooseMembersFrom, loose_member, are_loose_members}
-use Rattle.totem_evs.proofs.SpelledLine.{IsLineOf, line_text, not_within}
-use Rattle.totem_evs.proofs.GoesOn.{Cut, ok_cut, fault_cut, test_cut, bind_cut, last_cut, cut_as, byte_cut, word_cut, number_cut, NumberTo, number_to_cut, ConfTo, conf_cut, MessageTo, message_cut, first_ring, first_ring_is}
+use Rattle.totem_evs.proofs.SpelledLine.{IsLineOf, line_text, not_within, both_true}
+use Rattle.totem_evs.proofs.GoesOn.{one_is, Cut, ok_cut, fault_cut, test_cut, bind_cut, last_cut, cut_as, led_cut, byte_cut, word_cut, number_cut, number_to_cut, conf_cut, message_cut, first_ring, first_ring_is}
 
 -- ---- processes
 
@@ -26,12 +26,9 @@ ProcessTo version t = (p : ℕ) × IsProcessIn version p × (t ≡ process_text 
 made_process : (version : Version) (id life : ℕ) → IsUpTo 65535 id → IsUpTo 65535 life → (writes_lives version ≡ false → life ≡ 1) → IsProcessIn version (rank_of id life)
 made_process version id life id_fits life_fits first = grind (arith, id_of_rank, life_of_rank)
 
-first_of_numbers : IsUpTo 65535 1
-first_of_numbers = record { positive = omega arith; small = omega arith }
-
 -- the first process
 pub first_process_is : (version : Version) → IsProcessIn version (rank_of 1 1)
-first_process_is version = made_process version 1 1 first_of_numbers first_of_numbers (λ h. refl)
+first_process_is version = made_process version 1 1 (one_is 65535 (omega arith)) (one_is 65535 (omega arith)) (λ h. refl)
 
 -- whether lives are written
 abbrev Written : Bool → List ℕ → Type 0
@@ -40,7 +37,7 @@ Written lives t = (id : ℕ) × (life : ℕ) × IsUpTo 65535 id × IsUpTo 65535 
 some_number : (bytes : List ℕ) → Cut (number_at 65535 bytes) (λ t. (n : ℕ) × IsUpTo 65535 n × (t ≡ decimal n)) bytes
 some_number bytes = record {
   goes = λ e. elim (number_cut 65535 bytes (omega arith) (omega arith) e) [
-    | inl none ↦ (decimal 1, (1, first_of_numbers, ap (λ (t : List ℕ). t ++ decimal 1) none))
+    | inl none ↦ (decimal 1, (1, (one_is 65535 (omega arith)), ap (λ (t : List ℕ). t ++ decimal 1) none))
     | inr x ↦ ([], (x.0, x.1, append-nil bytes ∙ x.2))
   ];
 }
@@ -48,8 +45,8 @@ some_number bytes = record {
 first_life_cut : (bytes : List ℕ) → Cut (first_life_then bytes) (Written false) bytes
 unfolding first_life_then
 first_life_cut bytes =
-    last_cut (number_at 65535 bytes) (λ id. ((rank_of id.0.0 1, id.0.1), id.1)) (λ t. (n : ℕ) × IsUpTo 65535 n × (t ≡ decimal n)) (Written false) bytes (some_number bytes)
-    (λ t x. (x.0, 1, x.1, first_of_numbers, (λ h. refl), x.2))
+    last_cut _ _ _ _ _ (some_number bytes)
+    (λ t x. (x.0, 1, x.1, (one_is 65535 (omega arith)), (λ h. refl), x.2))
 
 colon_between : (a b : List ℕ) → (a ++ 58 ∷ []) ++ b ≡ a ++ codes ":" ++ b
 colon_between a b = simp append_assoc
@@ -57,14 +54,14 @@ colon_between a b = simp append_assoc
 life_cut : (bytes : List ℕ) → Cut (life_then bytes) (Written true) bytes
 unfolding life_then
 life_cut bytes =
-    bind_cut (number_to 65535 58 bytes) (λ id. number_at 65535 id.1 >>= λ life. Ok ((rank_of id.0 life.0.0, life.0.1), life.1)) (NumberTo 65535 58) (Written true) bytes (number_to_cut 65535 58 bytes (omega arith) (omega arith))
-    (λ t x. (decimal 1, (x.0, 1, x.1, first_of_numbers, (λ h. absurd cc), ap (λ (k : List ℕ). k ++ decimal 1) x.2 ∙ colon_between (decimal x.0) (decimal 1))))
+    bind_cut _ _ _ _ _ (number_to_cut 65535 58 bytes (omega arith) (omega arith))
+    (λ t x. (decimal 1, (x.0, 1, x.1, (one_is 65535 (omega arith)), (λ h. absurd cc), ap (λ (k : List ℕ). k ++ decimal 1) x.2 ∙ colon_between (decimal x.0) (decimal 1))))
     (λ id rest e.
     let y = number_to_is 65535 58 id bytes rest (omega arith) (omega arith) e in
     record {
       text = decimal id ++ 58 ∷ [];
       whole = y.spelled ∙ sym (append_assoc (decimal id) (58 ∷ []) rest);
-      next = last_cut (number_at 65535 rest) (λ life. ((rank_of id life.0.0, life.0.1), life.1)) (λ t. (n : ℕ) × IsUpTo 65535 n × (t ≡ decimal n)) (λ u. Written true ((decimal id ++ 58 ∷ []) ++ u)) rest (some_number rest)
+      next = last_cut _ _ _ _ _ (some_number rest)
           (λ t x. (id, x.0, record { positive = y.positive; small = y.small }, x.1, (λ h. absurd cc), ap (λ (k : List ℕ). (decimal id ++ 58 ∷ []) ++ k) x.2 ∙ colon_between (decimal id) (decimal x.0)));
     })
 
@@ -78,7 +75,7 @@ written_is version t x =
 
 pub process_cut : (version : Version) (bytes : List ℕ) → Cut (process_then version bytes) (ProcessTo version) bytes
 unfolding process_then
-process_cut version bytes = cut_as (cond (writes_lives version) (life_then bytes) (first_life_then bytes)) (Written (writes_lives version)) (ProcessTo version) bytes (go (writes_lives version)) (written_is version)
+process_cut version bytes = cut_as _ _ _ _ (go (writes_lives version)) (written_is version)
   where
     go : (t : Bool) → Cut (cond t (life_then bytes) (first_life_then bytes)) (Written t) bytes
     go true = life_cut bytes
@@ -133,16 +130,16 @@ change_whole x ms t e = ap (λ (k : List ℕ). codes "conf " ++ k) (append_assoc
 pub change_cut : (version : Version) (full some failed : Bool) (bytes : List ℕ) → Cut (change_at version full bytes) (λ u. LineTo version full some failed (99 ∷ u)) bytes
 unfolding change_at
 change_cut version full some failed bytes =
-    test_cut full (Err faults.TooMany) (word_at faults.Word (codes "onf ") bytes >>= λ w. conf_at 32 w.1 >>= λ x. members_at version 32 0 x.1 >>= λ members. Ok (lines.Entry (Conf x.0 members.0), members.1)) Is bytes
-    (λ h. fault_cut faults.TooMany Is bytes refl)
-    (λ h. bind_cut (word_at faults.Word (codes "onf ") bytes) (λ w. conf_at 32 w.1 >>= λ x. members_at version 32 0 x.1 >>= λ members. Ok (lines.Entry (Conf x.0 members.0), members.1)) (λ t. t ≡ codes "onf ") Is bytes (word_cut faults.Word (codes "onf ") bytes refl)
+    test_cut _ _ _ _ _
+    (λ h. fault_cut _ _ _ refl)
+    (λ h. bind_cut _ _ _ _ _ (word_cut faults.Word (codes "onf ") bytes refl)
     (λ t e.
     let u = (conf_text (Regular first_ring) ++ 32 ∷ []) ++ (process_text version (rank_of 1 1) ++ 10 ∷ []) in
     (u, (lines.Entry (Conf (Regular first_ring) (rank_of 1 1 ∷ [])), (h, (first_ring_is, one_member version)), ap (λ (k : List ℕ). 99 ∷ (k ++ u)) e ∙ change_whole (conf_text (Regular first_ring)) (members_text (process_text version) (rank_of 1 1 ∷ [])) (process_text version (rank_of 1 1) ++ 10 ∷ []) (one_member_text version (rank_of 1 1)))))
     (λ w rest e. record {
       text = codes "onf ";
       whole = word_is faults.Word (codes "onf ") bytes rest w e;
-      next = bind_cut (conf_at 32 rest) (λ x. members_at version 32 0 x.1 >>= λ members. Ok (lines.Entry (Conf x.0 members.0), members.1)) (ConfTo 32) (λ u. Is (codes "onf " ++ u)) rest (conf_cut 32 rest)
+      next = bind_cut _ _ _ _ _ (conf_cut 32 rest)
           (λ t x.
           let u = process_text version (rank_of 1 1) ++ 10 ∷ [] in
           (u, (lines.Entry (Conf x.0 (rank_of 1 1 ∷ [])), (h, (x.1, one_member version)), ap (λ (k : List ℕ). 99 ∷ (codes "onf " ++ (k ++ u))) x.2 ∙ change_whole (conf_text x.0) (members_text (process_text version) (rank_of 1 1 ∷ [])) u (one_member_text version (rank_of 1 1)))))
@@ -151,13 +148,10 @@ change_cut version full some failed bytes =
           record {
             text = conf_text x ++ 32 ∷ [];
             whole = y.1 ∙ sym (append_assoc (conf_text x) (32 ∷ []) rest2);
-            next = last_cut (members_at version 32 0 rest2) (λ members. (lines.Entry (Conf x members.0), members.1)) (MembersTo version 32 0) (λ u. Is (codes "onf " ++ ((conf_text x ++ 32 ∷ []) ++ u))) rest2 (members_cut version 32 0 rest2)
+            next = last_cut _ _ _ _ _ (members_cut version 32 0 rest2)
                 (λ t m. (lines.Entry (Conf x m.0), (h, (y.0, are_loose_members version m.0 m.1)), change_whole (conf_text x) (members_text (process_text version) m.0) t m.2));
           });
     }))
-  where
-    Is : List ℕ → Type 0
-    Is u = LineTo version full some failed (99 ∷ u)
 
 -- a service
 abbrev pub ServiceTo : List ℕ → Type 0
@@ -165,18 +159,8 @@ ServiceTo t = (s : Service) × (t ≡ service_text s)
 
 service_cut : (bytes : List ℕ) → Cut (service_at bytes) ServiceTo bytes
 unfolding service_at
-service_cut bytes =
-    bind_cut (byte_at bytes) (λ b. cond (b.0 == 97) (Ok (Agreed, b.1)) (cond (b.0 == 115) (Ok (Safe, b.1)) (Err faults.Word))) (λ t. t ≡ 97 ∷ []) ServiceTo bytes (byte_cut 97 bytes)
-    (λ t e. ([], (Agreed, ap (λ (k : List ℕ). k ++ []) e)))
-    (λ b rest e. record {
-      text = b ∷ [];
-      whole = byte_is bytes b rest e;
-      next = test_cut (b == 97) (Ok (Agreed, rest)) (cond (b == 115) (Ok (Safe, rest)) (Err faults.Word)) (λ u. ServiceTo (b ∷ u)) rest
-          (λ h. ok_cut (Agreed, rest) (λ u. ServiceTo (b ∷ u)) rest)
-          (λ h. test_cut (b == 115) (Ok (Safe, rest)) (Err faults.Word) (λ u. ServiceTo (b ∷ u)) rest
-          (λ h. ok_cut (Safe, rest) (λ u. ServiceTo (b ∷ u)) rest)
-          (λ h. fault_cut faults.Word (λ u. ServiceTo (b ∷ u)) rest refl));
-    })
+service_cut [] = record { goes = λ e. (97 ∷ [], (Agreed, refl)) }
+service_cut (b ∷ rest) = search (rules, ok_cut, test_cut, fault_cut)
 
 -- the first message
 first_message : MessageName
@@ -197,37 +181,34 @@ send_tail : (version : Version) (full some failed : Bool) (x : ConfId) (rest : L
     → Cut (service_at rest >>= λ service. word_at faults.Word (codes " ") service.1 >>= λ space. message_at 10 space.1 >>= λ m. Ok (lines.Entry (Send m.0 x service.0), m.1)) (λ u. LineTo version full some failed (115 ∷ (codes "end " ++ ((conf_text x ++ 32 ∷ []) ++ u)))) rest
 unfolding message_end
 send_tail version full some failed x rest h is =
-    bind_cut (service_at rest) (λ service. word_at faults.Word (codes " ") service.1 >>= λ space. message_at 10 space.1 >>= λ m. Ok (lines.Entry (Send m.0 x service.0), m.1)) ServiceTo Is rest (service_cut rest)
+    bind_cut _ _ _ _ _ (service_cut rest)
     (λ t s. (codes " " ++ message_end, (lines.Entry (Send first_message x s.0), (h, (first_message_is, is)), ap (λ (k : List ℕ). 115 ∷ (codes "end " ++ ((conf_text x ++ 32 ∷ []) ++ (k ++ (codes " " ++ message_end))))) s.1 ∙ send_whole (conf_text x) (service_text s.0) (message_text first_message))))
     (λ s rest2 e2. record {
       text = service_text s;
       whole = service_is s rest rest2 e2;
-      next = bind_cut (word_at faults.Word (codes " ") rest2) (λ space. message_at 10 space.1 >>= λ m. Ok (lines.Entry (Send m.0 x s), m.1)) (λ t. t ≡ codes " ") (λ u. Is (service_text s ++ u)) rest2 (word_cut faults.Word (codes " ") rest2 refl)
+      next = bind_cut _ _ _ _ _ (word_cut faults.Word (codes " ") rest2 refl)
           (λ t e. (message_end, (lines.Entry (Send first_message x s), (h, (first_message_is, is)), ap (λ (k : List ℕ). 115 ∷ (codes "end " ++ ((conf_text x ++ 32 ∷ []) ++ (service_text s ++ (k ++ message_end))))) e ∙ send_whole (conf_text x) (service_text s) (message_text first_message))))
           (λ v rest3 e3. record {
             text = codes " ";
             whole = word_is faults.Word (codes " ") rest2 rest3 v e3;
-            next = last_cut (message_at 10 rest3) (λ m. (lines.Entry (Send m.0 x s), m.1)) (MessageTo 10) (λ u. Is (service_text s ++ (codes " " ++ u))) rest3 (message_cut 10 rest3)
+            next = last_cut _ _ _ _ _ (message_cut 10 rest3)
                 (λ t m. (lines.Entry (Send m.0 x s), (h, (m.1, is)), ap (λ (k : List ℕ). 115 ∷ (codes "end " ++ ((conf_text x ++ 32 ∷ []) ++ (service_text s ++ (codes " " ++ k))))) m.2 ∙ send_whole (conf_text x) (service_text s) (message_text m.0)));
           });
     })
-  where
-    Is : List ℕ → Type 0
-    Is u = LineTo version full some failed (115 ∷ (codes "end " ++ ((conf_text x ++ 32 ∷ []) ++ u)))
 
 pub send_cut : (version : Version) (full some failed : Bool) (bytes : List ℕ) → Cut (send_at full bytes) (λ u. LineTo version full some failed (115 ∷ u)) bytes
 unfolding send_at message_end
 send_cut version full some failed bytes =
-    test_cut full (Err faults.TooMany) (word_at faults.Word (codes "end ") bytes >>= λ w. conf_at 32 w.1 >>= λ x. service_at x.1 >>= λ service. word_at faults.Word (codes " ") service.1 >>= λ space. message_at 10 space.1 >>= λ m. Ok (lines.Entry (Send m.0 x.0 service.0), m.1)) Is bytes
-    (λ h. fault_cut faults.TooMany Is bytes refl)
-    (λ h. bind_cut (word_at faults.Word (codes "end ") bytes) (λ w. conf_at 32 w.1 >>= λ x. service_at x.1 >>= λ service. word_at faults.Word (codes " ") service.1 >>= λ space. message_at 10 space.1 >>= λ m. Ok (lines.Entry (Send m.0 x.0 service.0), m.1)) (λ t. t ≡ codes "end ") Is bytes (word_cut faults.Word (codes "end ") bytes refl)
+    test_cut _ _ _ _ _
+    (λ h. fault_cut _ _ _ refl)
+    (λ h. bind_cut _ _ _ _ _ (word_cut faults.Word (codes "end ") bytes refl)
     (λ t e.
     let u = (conf_text (Regular first_ring) ++ 32 ∷ []) ++ (service_text Agreed ++ (codes " " ++ message_end)) in
     (u, (lines.Entry (Send first_message (Regular first_ring) Agreed), (h, (first_message_is, first_ring_is)), ap (λ (k : List ℕ). 115 ∷ (k ++ u)) e ∙ send_whole (conf_text (Regular first_ring)) (service_text Agreed) (message_text first_message))))
     (λ w rest e. record {
       text = codes "end ";
       whole = word_is faults.Word (codes "end ") bytes rest w e;
-      next = bind_cut (conf_at 32 rest) (λ x. service_at x.1 >>= λ service. word_at faults.Word (codes " ") service.1 >>= λ space. message_at 10 space.1 >>= λ m. Ok (lines.Entry (Send m.0 x.0 service.0), m.1)) (ConfTo 32) (λ u. Is (codes "end " ++ u)) rest (conf_cut 32 rest)
+      next = bind_cut _ _ _ _ _ (conf_cut 32 rest)
           (λ t x.
           let u = service_text Agreed ++ (codes " " ++ message_end) in
           (u, (lines.Entry (Send first_message x.0 Agreed), (h, (first_message_is, x.1)), ap (λ (k : List ℕ). 115 ∷ (codes "end " ++ (k ++ u))) x.2 ∙ send_whole (conf_text x.0) (service_text Agreed) (message_text first_message))))
@@ -239,9 +220,6 @@ send_cut version full some failed bytes =
             next = send_tail version full some failed x rest2 h y.0;
           });
     }))
-  where
-    Is : List ℕ → Type 0
-    Is u = LineTo version full some failed (115 ∷ u)
 
 delivery_whole : (x m : List ℕ) → 100 ∷ (codes "lv " ++ ((x ++ 32 ∷ []) ++ (m ++ 10 ∷ []))) ≡ (codes "dlv " ++ x ++ codes " " ++ m) ++ 10 ∷ []
 delivery_whole x m = simp append_assoc
@@ -249,76 +227,58 @@ delivery_whole x m = simp append_assoc
 pub delivery_cut : (version : Version) (full some failed : Bool) (bytes : List ℕ) → Cut (delivery_at full bytes) (λ u. LineTo version full some failed (100 ∷ u)) bytes
 unfolding delivery_at message_end
 delivery_cut version full some failed bytes =
-    test_cut full (Err faults.TooMany) (word_at faults.Word (codes "lv ") bytes >>= λ w. conf_at 32 w.1 >>= λ x. message_at 10 x.1 >>= λ m. Ok (lines.Entry (Deliver m.0 x.0), m.1)) Is bytes
-    (λ h. fault_cut faults.TooMany Is bytes refl)
-    (λ h. bind_cut (word_at faults.Word (codes "lv ") bytes) (λ w. conf_at 32 w.1 >>= λ x. message_at 10 x.1 >>= λ m. Ok (lines.Entry (Deliver m.0 x.0), m.1)) (λ t. t ≡ codes "lv ") Is bytes (word_cut faults.Word (codes "lv ") bytes refl)
+    test_cut _ _ _ _ _
+    (λ h. fault_cut _ _ _ refl)
+    (λ h. bind_cut _ _ _ _ _ (word_cut faults.Word (codes "lv ") bytes refl)
     (λ t e.
     let u = (conf_text (Regular first_ring) ++ 32 ∷ []) ++ message_end in
     (u, (lines.Entry (Deliver first_message (Regular first_ring)), (h, (first_message_is, first_ring_is)), ap (λ (k : List ℕ). 100 ∷ (k ++ u)) e ∙ delivery_whole (conf_text (Regular first_ring)) (message_text first_message))))
     (λ w rest e. record {
       text = codes "lv ";
       whole = word_is faults.Word (codes "lv ") bytes rest w e;
-      next = bind_cut (conf_at 32 rest) (λ x. message_at 10 x.1 >>= λ m. Ok (lines.Entry (Deliver m.0 x.0), m.1)) (ConfTo 32) (λ u. Is (codes "lv " ++ u)) rest (conf_cut 32 rest)
+      next = bind_cut _ _ _ _ _ (conf_cut 32 rest)
           (λ t x. (message_end, (lines.Entry (Deliver first_message x.0), (h, (first_message_is, x.1)), ap (λ (k : List ℕ). 100 ∷ (codes "lv " ++ (k ++ message_end))) x.2 ∙ delivery_whole (conf_text x.0) (message_text first_message))))
           (λ x rest2 e2.
           let y = conf_is 32 x rest rest2 e2 in
           record {
             text = conf_text x ++ 32 ∷ [];
             whole = y.1 ∙ sym (append_assoc (conf_text x) (32 ∷ []) rest2);
-            next = last_cut (message_at 10 rest2) (λ m. (lines.Entry (Deliver m.0 x), m.1)) (MessageTo 10) (λ u. Is (codes "lv " ++ ((conf_text x ++ 32 ∷ []) ++ u))) rest2 (message_cut 10 rest2)
+            next = last_cut _ _ _ _ _ (message_cut 10 rest2)
                 (λ t m. (lines.Entry (Deliver m.0 x), (h, (m.1, y.0)), ap (λ (k : List ℕ). 100 ∷ (codes "lv " ++ ((conf_text x ++ 32 ∷ []) ++ k))) m.2 ∙ delivery_whole (conf_text x) (message_text m.0)));
           });
     }))
-  where
-    Is : List ℕ → Type 0
-    Is u = LineTo version full some failed (100 ∷ u)
 
 -- ---- closing words and failures
-
-both_true : (a b : Bool) → (a && not b) ≡ true → (a ≡ true) × (b ≡ false)
-both_true a b h = grind arith
 
 open_cut : (version : Version) (full some failed : Bool) (bytes : List ℕ) → Cut (open_at some failed bytes) (λ u. LineTo version full some failed (111 ∷ u)) bytes
 unfolding open_at
 open_cut version full some failed bytes =
-    test_cut (some && not failed) (word_at faults.Word (line (codes "pen")) bytes >>= λ w. Ok (lines.Close Standing, w.1)) (Err faults.End) Is bytes
-    (λ h. last_cut (word_at faults.Word (line (codes "pen")) bytes) (λ w. (lines.Close Standing, w.1)) (λ t. t ≡ line (codes "pen")) Is bytes (word_cut faults.Word (line (codes "pen")) bytes refl) (λ t e. (lines.Close Standing, both_true some failed h, ap (λ (k : List ℕ). 111 ∷ k) e)))
-    (λ h. fault_cut faults.End Is bytes refl)
-  where
-    Is : List ℕ → Type 0
-    Is u = LineTo version full some failed (111 ∷ u)
+    test_cut _ _ _ _ _
+    (λ h. last_cut _ _ _ _ _ (word_cut faults.Word (line (codes "pen")) bytes refl) (λ t e. (lines.Close Standing, both_true some failed h, ap (λ (k : List ℕ). 111 ∷ k) e)))
+    (λ h. fault_cut _ _ _ refl)
 
 quiet_cut : (version : Version) (full some failed : Bool) (bytes : List ℕ) → Cut (quiet_at (writes_quiet version) some failed bytes) (λ u. LineTo version full some failed (113 ∷ u)) bytes
 unfolding quiet_at
 quiet_cut version full some failed bytes =
-    test_cut (writes_quiet version) (cond (some && not failed) (word_at faults.Word (line (codes "uiet")) bytes >>= λ w. Ok (lines.Close Quiet, w.1)) (Err faults.End)) (Err faults.Word) Is bytes
-    (λ written. test_cut (some && not failed) (word_at faults.Word (line (codes "uiet")) bytes >>= λ w. Ok (lines.Close Quiet, w.1)) (Err faults.End) Is bytes
-    (λ h. last_cut (word_at faults.Word (line (codes "uiet")) bytes) (λ w. (lines.Close Quiet, w.1)) (λ t. t ≡ line (codes "uiet")) Is bytes (word_cut faults.Word (line (codes "uiet")) bytes refl) (λ t e. (lines.Close Quiet, (written, (both_true some failed h).0, (both_true some failed h).1), ap (λ (k : List ℕ). 113 ∷ k) e)))
-    (λ h. fault_cut faults.End Is bytes refl))
-    (λ h. fault_cut faults.Word Is bytes refl)
-  where
-    Is : List ℕ → Type 0
-    Is u = LineTo version full some failed (113 ∷ u)
+    test_cut _ _ _ _ _
+    (λ written. test_cut _ _ _ _ _
+    (λ h. last_cut _ _ _ _ _ (word_cut faults.Word (line (codes "uiet")) bytes refl) (λ t e. (lines.Close Quiet, (written, (both_true some failed h).0, (both_true some failed h).1), ap (λ (k : List ℕ). 113 ∷ k) e)))
+    (λ h. fault_cut _ _ _ refl))
+    (λ h. fault_cut _ _ _ refl)
 
 failed_cut : (version : Version) (full some failed : Bool) (bytes : List ℕ) → Cut (failed_at failed bytes) (λ u. LineTo version full some failed (codes "faile" ++ u)) bytes
 unfolding failed_at
 failed_cut version full some failed bytes =
-    test_cut failed (word_at faults.Word (line (codes "d")) bytes >>= λ w. Ok (lines.Close Failed, w.1)) (Err faults.End) Is bytes
-    (λ h. last_cut (word_at faults.Word (line (codes "d")) bytes) (λ w. (lines.Close Failed, w.1)) (λ t. t ≡ line (codes "d")) Is bytes (word_cut faults.Word (line (codes "d")) bytes refl) (λ t e. (lines.Close Failed, h, ap (λ (k : List ℕ). codes "faile" ++ k) e)))
-    (λ h. fault_cut faults.End Is bytes refl)
-  where
-    Is : List ℕ → Type 0
-    Is u = LineTo version full some failed (codes "faile" ++ u)
+    test_cut _ _ _ _ _
+    (λ h. last_cut _ _ _ _ _ (word_cut faults.Word (line (codes "d")) bytes refl) (λ t e. (lines.Close Failed, h, ap (λ (k : List ℕ). codes "faile" ++ k) e)))
+    (λ h. fault_cut _ _ _ refl)
 
 fail_cut : (version : Version) (full some failed : Bool) (bytes : List ℕ) → Cut (fail_at full bytes) (λ u. LineTo version full some failed (codes "fail " ++ u)) bytes
 unfolding fail_at
 fail_cut version full some failed bytes =
-    test_cut full (Err faults.TooMany) (conf_at 10 bytes >>= λ x. Ok (lines.Entry (Fail x.0), x.1)) Is bytes
-    (λ h. fault_cut faults.TooMany Is bytes refl)
-    (λ h. last_cut (conf_at 10 bytes) (λ x. (lines.Entry (Fail x.0), x.1)) (ConfTo 10) Is bytes (conf_cut 10 bytes) (λ t x. (lines.Entry (Fail x.0), (h, x.1), ap (λ (k : List ℕ). codes "fail " ++ k) x.2)))
-  where
-    Is : List ℕ → Type 0
-    Is u = LineTo version full some failed (codes "fail " ++ u)
+    test_cut _ _ _ _ _
+    (λ h. fault_cut _ _ _ refl)
+    (λ h. last_cut _ _ _ _ _ (conf_cut 10 bytes) (λ t x. (lines.Entry (Fail x.0), (h, x.1), ap (λ (k : List ℕ). codes "fail " ++ k) x.2)))
 
 -- some line continues these bytes
 first_failure : (version : Version) (full some failed : Bool) → full ≡ false → LineTo version full some failed (codes "fail " ++ (conf_text (Regular first_ring) ++ 10 ∷ []))
@@ -327,26 +287,23 @@ first_failure version full some failed h = (lines.Entry (Fail (Regular first_rin
 ail_from : (version : Version) (full some failed : Bool) (bytes : List ℕ) (b : ℕ) (u : List ℕ) → LineTo version full some failed (codes "fail" ++ b ∷ u) → Cut (ail_at full failed bytes) (λ u. LineTo version full some failed (102 ∷ u)) bytes
 unfolding ail_at
 ail_from version full some failed bytes b u one =
-    bind_cut (word_at faults.Word (codes "ail") bytes) (λ w. byte_at w.1 >>= λ b. cond (b.0 == 101) (failed_at failed b.1) (cond (b.0 == 32) (fail_at full b.1) (Err faults.Word))) (λ t. t ≡ codes "ail") (λ u. LineTo version full some failed (102 ∷ u)) bytes (word_cut faults.Word (codes "ail") bytes refl)
+    bind_cut _ _ _ _ _ (word_cut faults.Word (codes "ail") bytes refl)
     (λ t e. (b ∷ u, rw e one))
     (λ w rest e. record {
       text = codes "ail";
       whole = word_is faults.Word (codes "ail") bytes rest w e;
-      next = bind_cut (byte_at rest) (λ b. cond (b.0 == 101) (failed_at failed b.1) (cond (b.0 == 32) (fail_at full b.1) (Err faults.Word))) (λ t. t ≡ b ∷ []) Is rest (byte_cut b rest)
+      next = bind_cut _ _ _ _ _ (byte_cut b rest)
           (λ t e. (u, rw e one))
           (λ c rest2 e2. record {
             text = c ∷ [];
             whole = byte_is rest c rest2 e2;
-            next = test_cut (c == 101) (failed_at failed rest2) (cond (c == 32) (fail_at full rest2) (Err faults.Word)) (λ v. Is (c ∷ v)) rest2
+            next = test_cut _ _ _ _ _
                 (λ h. let same : c ≡ 101 = eqb-true c 101 h in rw same (failed_cut version full some failed rest2))
-                (λ h. test_cut (c == 32) (fail_at full rest2) (Err faults.Word) (λ v. Is (c ∷ v)) rest2
+                (λ h. test_cut _ _ _ _ _
                 (λ h. let same : c ≡ 32 = eqb-true c 32 h in rw same (fail_cut version full some failed rest2))
-                (λ h. fault_cut faults.Word (λ v. Is (c ∷ v)) rest2 refl));
+                (λ h. fault_cut _ _ _ refl));
           });
     })
-  where
-    Is : List ℕ → Type 0
-    Is v = LineTo version full some failed (codes "fail" ++ v)
 
 failure_cut : (version : Version) (full some failed : Bool) (bytes : List ℕ) → Cut (failure_at full failed bytes) (λ u. LineTo version full some failed (102 ∷ u)) bytes
 unfolding failure_at
@@ -355,36 +312,25 @@ failure_cut version full some failed bytes = go full failed
     go : (full failed : Bool) → Cut (cond (full && not failed) (Err faults.TooMany) (ail_at full failed bytes)) (λ u. LineTo version full some failed (102 ∷ u)) bytes
     go false failed = ail_from version false some failed bytes 32 (conf_text (Regular first_ring) ++ 10 ∷ []) (first_failure version false some failed refl)
     go true true = ail_from version true some true bytes 101 (codes "d" ++ 10 ∷ []) (lines.Close Failed, refl, refl)
-    go true false = fault_cut faults.TooMany (λ u. LineTo version true some false (102 ∷ u)) bytes refl
+    go true false = fault_cut _ _ _ refl
 
 line_from : (version : Version) (full some failed : Bool) (bytes : List ℕ) (b : ℕ) (u : List ℕ) → LineTo version full some failed (b ∷ u) → Cut (line_at version full some failed bytes) (LineTo version full some failed) bytes
 unfolding line_at
-line_from version full some failed bytes b u one =
-    bind_cut (byte_at bytes) (λ b. cond (b.0 == 99) (change_at version full b.1) (cond (b.0 == 115) (send_at full b.1) (cond (b.0 == 100) (delivery_at full b.1) (cond (b.0 == 102) (failure_at full failed b.1) (cond (b.0 == 111) (open_at some failed b.1) (cond (b.0 == 113) (quiet_at (writes_quiet version) some failed b.1) (Err faults.Word))))))) (λ t. t ≡ b ∷ []) (LineTo version full some failed) bytes (byte_cut b bytes)
-    (λ t e. (u, rw e one))
-    (λ c rest e. record {
-      text = c ∷ [];
-      whole = byte_is bytes c rest e;
-      next = test_cut (c == 99) (change_at version full rest) (cond (c == 115) (send_at full rest) (cond (c == 100) (delivery_at full rest) (cond (c == 102) (failure_at full failed rest) (cond (c == 111) (open_at some failed rest) (cond (c == 113) (quiet_at (writes_quiet version) some failed rest) (Err faults.Word)))))) (Is c) rest
-          (λ h. by c 99 rest (change_at version full rest) h (change_cut version full some failed rest))
-          (λ h. test_cut (c == 115) (send_at full rest) (cond (c == 100) (delivery_at full rest) (cond (c == 102) (failure_at full failed rest) (cond (c == 111) (open_at some failed rest) (cond (c == 113) (quiet_at (writes_quiet version) some failed rest) (Err faults.Word))))) (Is c) rest
-          (λ h. by c 115 rest (send_at full rest) h (send_cut version full some failed rest))
-          (λ h. test_cut (c == 100) (delivery_at full rest) (cond (c == 102) (failure_at full failed rest) (cond (c == 111) (open_at some failed rest) (cond (c == 113) (quiet_at (writes_quiet version) some failed rest) (Err faults.Word)))) (Is c) rest
-          (λ h. by c 100 rest (delivery_at full rest) h (delivery_cut version full some failed rest))
-          (λ h. test_cut (c == 102) (failure_at full failed rest) (cond (c == 111) (open_at some failed rest) (cond (c == 113) (quiet_at (writes_quiet version) some failed rest) (Err faults.Word))) (Is c) rest
-          (λ h. by c 102 rest (failure_at full failed rest) h (failure_cut version full some failed rest))
-          (λ h. test_cut (c == 111) (open_at some failed rest) (cond (c == 113) (quiet_at (writes_quiet version) some failed rest) (Err faults.Word)) (Is c) rest
-          (λ h. by c 111 rest (open_at some failed rest) h (open_cut version full some failed rest))
-          (λ h. test_cut (c == 113) (quiet_at (writes_quiet version) some failed rest) (Err faults.Word) (Is c) rest
-          (λ h. by c 113 rest (quiet_at (writes_quiet version) some failed rest) h (quiet_cut version full some failed rest))
-          (λ h. fault_cut faults.Word (Is c) rest refl))))));
-    })
-  where
-    Is : ℕ → List ℕ → Type 0
-    Is c u = LineTo version full some failed (c ∷ u)
-
-    by : (c letter : ℕ) (rest : List ℕ) (r : Parsed Line) → (c == letter) ≡ true → Cut r (Is letter) rest → Cut r (Is c) rest
-    by c letter rest r h found = let same : c ≡ letter = eqb-true c letter h in rw same found
+line_from version full some failed [] b u one = record { goes = λ e. (b ∷ u, one) }
+line_from version full some failed (c ∷ rest) b u one =
+    test_cut _ _ _ _ _
+    (led_cut c 99 _ _ _ (change_cut version full some failed rest))
+    (λ h. test_cut _ _ _ _ _
+    (led_cut c 115 _ _ _ (send_cut version full some failed rest))
+    (λ h. test_cut _ _ _ _ _
+    (led_cut c 100 _ _ _ (delivery_cut version full some failed rest))
+    (λ h. test_cut _ _ _ _ _
+    (led_cut c 102 _ _ _ (failure_cut version full some failed rest))
+    (λ h. test_cut _ _ _ _ _
+    (led_cut c 111 _ _ _ (open_cut version full some failed rest))
+    (λ h. test_cut _ _ _ _ _
+    (led_cut c 113 _ _ _ (quiet_cut version full some failed rest))
+    (λ h. fault_cut _ _ _ refl))))))
 
 pub line_cut : (version : Version) (full some failed : Bool) (bytes : List ℕ) → (some ≡ false → full ≡ false) → Cut (line_at version full some failed bytes) (LineTo version full some failed) bytes
 line_cut version full false failed bytes room = line_from version full false failed bytes 102 (codes "ail " ++ (conf_text (Regular first_ring) ++ 10 ∷ [])) (first_failure version full false failed (room refl))

@@ -1,5 +1,5 @@
 -- Where a fault of a run's text is: members that are not ascending, and what a limit refuses.
-use Rattle.totem_evs.proofs.Common.{◌==◌, nat_le, codes, not, ◌&&◌, ◌↔◌, ◌≡◌, ℕ, zero, suc, ◌<◌, ◌≤◌, ◌⊎◌, inl, inr, List, [], ◌∷◌, ◌++◌, length, Bool, true, false, cond, Ok, Err, refl, sym, ap, subst, ◌∙◌, append_assoc, arith, Version, id_of, process_then_is, process_then_again, nat_tests, ConfId, TextFault, ◌>>=◌, conf_text, IsConf, last_of, taken, word_is, word_again, conf_is, conf_again, IsMembersIn, members_text, writes_quiet, BeginsEntry, HasManyMembers, IsMemberBelow}
+use Rattle.totem_evs.proofs.Common.{◌==◌, nat_le, codes, not, ◌&&◌, ◌↔◌, ◌≡◌, ◌≢◌, ℕ, zero, suc, ◌<◌, ◌≤◌, ◌⊎◌, inl, inr, List, [], ◌∷◌, ◌++◌, length, Bool, true, false, cond, Ok, Err, refl, sym, ap, subst, ◌∙◌, append_assoc, arith, Version, id_of, process_then_is, process_then_again, nat_tests, ConfId, TextFault, ◌>>=◌, conf_text, IsConf, last_of, taken, word_is, word_again, conf_is, conf_again, IsMembersIn, members_text, writes_quiet, BeginsEntry, HasManyMembers, IsMemberBelow}
 use Rattle.totem_names.specs.Processes.{process_text, process_then, IsProcessIn}
 use Rattle.totem_names.specs.declared.fault.TextFault.TheVariants as faults
 use Rattle.totem_names.specs.Numbers.{is_digit, word_at}
@@ -10,7 +10,7 @@ use Rattle.totem_evs.specs.declared.entry.Entry.TheVariants.{Conf}
 use Rattle.totem_evs.specs.RunGrammar.{members_at, change_at, send_at, delivery_at, fail_at, ail_at, failure_at, line_at}
 use Rattle.totem_evs.proofs.FromLeft.{Rises, are_members, members_from}
 use Rattle.totem_evs.proofs.SpelledLine.{not_within, members_first}
-use Rattle.totem_evs.proofs.OnlyFaults.{OfNames, ok_only, fault_only, word_only, process_only, conf_only, sent_only, delivered_only, lost_only, open_only, quiet_only, failed_only}
+use Rattle.totem_evs.proofs.OnlyFaults.{Only, OfNames, ok_only, fault_only, cond_only, bind_only, byte_only, word_only, process_only, conf_only, sent_only, send_only, delivered_only, delivery_only, lost_only, open_only, quiet_only, failed_only, failure_only}
 use Rattle.totem_evs.proofs.PartFaults.{bind_case, byte_pick, line_case, ail_case}
 
 -- ---- TooMany
@@ -139,12 +139,10 @@ full_failure true bytes rest is e =
     (λ more behind k. absurd ((failed_only NotMany true more names_not_many tt).fault faults.TooMany k))
     (λ more behind k. inr (inr (more, refl, is ∙ ap (λ (t : List ℕ). 102 ∷ t) behind)))
 
-few_failure : (failed : Bool) (rest : List ℕ) → failure_at false failed rest ≡ Err faults.TooMany → ⊥
-unfolding failure_at
-few_failure failed rest e =
-    ail_case false failed rest faults.TooMany (λ h. absurd cc) (λ h. absurd cc) e
-    (λ more behind k. (failed_only NotMany failed more names_not_many tt).fault faults.TooMany k)
-    (λ more behind k. (lost_only NotMany more names_not_many).fault faults.TooMany k)
+few_failure : (failed : Bool) (rest : List ℕ) → Only NotMany (failure_at false failed rest)
+unfolding failure_at ail_at
+few_failure failed rest =
+    let names = names_not_many in search (fault_only, cond_only, bind_only, byte_only, word_only, failed_only, lost_only) depth 12
 
 line_many : (version : Version) (full some failed : Bool) (bytes : List ℕ) → line_at version full some failed bytes ≡ Err faults.TooMany → ManyIn version full failed bytes
 line_many version true some failed bytes e =
@@ -160,7 +158,7 @@ line_many version false some failed bytes e =
     (λ rest is k. inr (refl, change_many version bytes rest is k))
     (λ rest is k. absurd ((sent_only NotMany rest names_not_many).fault faults.TooMany k))
     (λ rest is k. absurd ((delivered_only NotMany rest names_not_many).fault faults.TooMany k))
-    (λ rest is k. absurd (few_failure failed rest k))
+    (λ rest is k. absurd ((few_failure failed rest).fault faults.TooMany k))
     (λ rest is k. absurd ((open_only NotMany some failed rest names_not_many tt).fault faults.TooMany k))
     (λ rest is k. absurd ((quiet_only NotMany (writes_quiet version) some failed rest names_not_many tt).fault faults.TooMany k))
 
@@ -179,17 +177,10 @@ many_exactly version full some failed bytes = (line_many version full some faile
 -- ---- Members
 
 abbrev pub NotMembers : TextFault → Type 0
-NotMembers faults.Header = Unit {0}
-NotMembers faults.Word = Unit {0}
-NotMembers faults.Number = Unit {0}
-NotMembers faults.Order = Unit {0}
-NotMembers faults.Members = ⊥
-NotMembers faults.End = Unit {0}
-NotMembers faults.Truncated = Unit {0}
-NotMembers faults.TooMany = Unit {0}
+NotMembers f = f ≢ faults.Members
 
 pub names_not_members : OfNames NotMembers
-names_not_members = record { word = tt; number = tt; short = tt }
+names_not_members = record { word = λ h. absurd cc; number = λ h. absurd cc; short = λ h. absurd cc }
 
 -- the identifier of the last
 last_from : ℕ → List ℕ → ℕ
@@ -214,15 +205,15 @@ record Falls (version : Version) (room last : ℕ) (bytes : List ℕ) : Type 0 w
   complete : is_digit byte ≡ false
   is : 32 ∷ bytes ≡ members_text (process_text version) members ++ 32 ∷ (process_text version member ++ byte ∷ rest)
 
-within_is : (a b : ℕ) → nat_le a b ≡ true → a ≤ b
+pub within_is : (a b : ℕ) → nat_le a b ≡ true → a ≤ b
 within_is a b h = grind (arith, nat_tests)
 
 members_fall : (version : Version) (room last : ℕ) (bytes : List ℕ) → members_at version room last bytes ≡ Err faults.Members → Falls version room last bytes
 unfolding members_at last_from
-members_fall version zero last bytes e = absurd ((fault_only {A = List ℕ} NotMembers faults.TooMany tt).fault faults.Members e)
+members_fall version zero last bytes e = absurd ((fault_only {A = List ℕ} NotMembers faults.TooMany (λ h. absurd cc)).fault faults.Members e refl)
 members_fall version (suc room) last bytes e =
     bind_case (process_then version bytes) (λ p. cond (nat_le (id_of p.0.0) last) (Err faults.Members) (cond (p.0.1 == 10) (Ok (p.0.0 ∷ [], p.1)) (cond (p.0.1 == 32) (members_at version room (id_of p.0.0) p.1 >>= λ others. Ok (p.0.0 ∷ others.0, others.1)) (Err faults.Word)))) faults.Members e
-    (λ k. absurd ((process_only NotMembers version bytes names_not_members).fault faults.Members k))
+    (λ k. absurd ((process_only NotMembers version bytes names_not_members).fault faults.Members k refl))
     (λ p mid e1 k.
     let x = process_then_is version p.0 p.1 bytes mid e1 in
     let is_process : IsProcessIn version p.0 = record { id_fits = x.id_fits; life_fits = x.life_fits; first = x.first } in
@@ -240,7 +231,7 @@ members_fall version (suc room) last bytes e =
         is = ap (λ (t : List ℕ). 32 ∷ t) x.spelled;
       }
       | inr y ↦ byte_pick p.1 10 (Ok (p.0 ∷ [], mid)) (cond (p.1 == 32) (members_at version room (id_of p.0) mid >>= λ others. Ok (p.0 ∷ others.0, others.1)) (Err faults.Word)) (Err faults.Members) y.1
-          (λ h k. absurd ((ok_only {A = List ℕ} NotMembers (p.0 ∷ [], mid)).fault faults.Members k))
+          (λ h k. absurd ((ok_only {A = List ℕ} NotMembers (p.0 ∷ [], mid)).fault faults.Members k refl))
           (λ k. byte_pick p.1 32 (members_at version room (id_of p.0) mid >>= λ others. Ok (p.0 ∷ others.0, others.1)) (Err faults.Word) (Err faults.Members) k
           (λ h k. bind_case (members_at version room (id_of p.0) mid) (λ others. Ok (p.0 ∷ others.0, others.1)) faults.Members k
           (λ k.
@@ -257,8 +248,8 @@ members_fall version (suc room) last bytes e =
             complete = tail.complete;
             is = one_member version p.0 tail.members bytes mid (process_text version tail.member ++ tail.byte ∷ tail.rest) (x.spelled ∙ ap (λ (b : ℕ). process_text version p.0 ++ b ∷ mid) h) tail.is;
           })
-          (λ others left e2 k. absurd ((ok_only {A = List ℕ} NotMembers (p.0 ∷ others, left)).fault faults.Members k)))
-          (λ k. absurd ((fault_only {A = List ℕ} NotMembers faults.Word tt).fault faults.Members k)))
+          (λ others left e2 k. absurd ((ok_only {A = List ℕ} NotMembers (p.0 ∷ others, left)).fault faults.Members k refl)))
+          (λ k. absurd ((fault_only {A = List ℕ} NotMembers faults.Word (λ h. absurd cc)).fault faults.Members k refl)))
     ])
 
 -- what follows the space before these members
@@ -307,7 +298,7 @@ fallen version bytes x left fits text (q ∷ qs) m b tail rises few member below
 
 change_fall : (version : Version) (bytes rest : List ℕ) → bytes ≡ 99 ∷ rest → change_at version false rest ≡ Err faults.Members → IsMemberBelow version false bytes
 change_fall version bytes rest is e =
-    change_members version NotMembers rest faults.Members names_not_members (λ no'. no') e (λ x left fits text k.
+    change_members version NotMembers rest faults.Members names_not_members (λ no'. no' refl) e (λ x left fits text k.
     let m = members_fall version 32 0 left k in
     fallen version bytes x left fits (is ∙ ap (λ (t : List ℕ). 99 ∷ t) text) m.members m.member m.byte m.rest m.rises m.few m.fits m.below m.complete m.is)
 
@@ -325,53 +316,21 @@ fall_change version bytes h =
 -- a limit that is reached is TooMany
 full_change : (version : Version) (rest : List ℕ) → change_at version true rest ≡ Err faults.Members → ⊥
 unfolding change_at
-full_change version rest e = (fault_only {A = Line} NotMembers faults.TooMany tt).fault faults.Members e
-
-full_send : (rest : List ℕ) → send_at true rest ≡ Err faults.Members → ⊥
-unfolding send_at
-full_send rest e = (fault_only {A = Line} NotMembers faults.TooMany tt).fault faults.Members e
-
-full_delivery : (rest : List ℕ) → delivery_at true rest ≡ Err faults.Members → ⊥
-unfolding delivery_at
-full_delivery rest e = (fault_only {A = Line} NotMembers faults.TooMany tt).fault faults.Members e
-
-failures_rise : (full failed : Bool) (rest : List ℕ) → failure_at full failed rest ≡ Err faults.Members → ⊥
-unfolding failure_at fail_at
-failures_rise full failed rest e = elim (taken (full && not failed) (Err faults.TooMany) (ail_at full failed rest) (Err faults.Members) e) [
-  | inl x ↦ (fault_only {A = Line} NotMembers faults.TooMany tt).fault faults.Members x.1
-  | inr x ↦ ail_case full failed rest faults.Members (λ h. absurd cc) (λ h. absurd cc) x.1
-      (λ more behind k. (failed_only NotMembers failed more names_not_members tt).fault faults.Members k)
-      (λ more behind k. fails full more k)
-]
-  where
-    fails : (full : Bool) (more : List ℕ) → fail_at full more ≡ Err faults.Members → ⊥
-    fails true more k = (fault_only {A = Line} NotMembers faults.TooMany tt).fault faults.Members k
-    fails false more k = (lost_only NotMembers more names_not_members).fault faults.Members k
+full_change version rest e = (fault_only {A = Line} NotMembers faults.TooMany (λ h. absurd cc)).fault faults.Members e refl
 
 line_fall : (version : Version) (full some failed : Bool) (bytes : List ℕ) → line_at version full some failed bytes ≡ Err faults.Members → IsMemberBelow version full bytes
 line_fall version full some failed bytes e =
     line_case version full some failed bytes faults.Members (λ h. absurd cc) (λ h. absurd cc) e
     (λ rest is k. change full rest is k)
-    (λ rest is k. absurd (sends full rest k))
-    (λ rest is k. absurd (delivers full rest k))
-    (λ rest is k. absurd (fails full failed rest k))
-    (λ rest is k. absurd ((open_only NotMembers some failed rest names_not_members tt).fault faults.Members k))
-    (λ rest is k. absurd ((quiet_only NotMembers (writes_quiet version) some failed rest names_not_members tt).fault faults.Members k))
+    (λ rest is k. absurd ((send_only NotMembers full rest names_not_members (λ h. absurd cc)).fault faults.Members k refl))
+    (λ rest is k. absurd ((delivery_only NotMembers full rest names_not_members (λ h. absurd cc)).fault faults.Members k refl))
+    (λ rest is k. absurd ((failure_only NotMembers full failed rest names_not_members (λ h. absurd cc) (λ h. absurd cc)).fault faults.Members k refl))
+    (λ rest is k. absurd ((open_only NotMembers some failed rest names_not_members (λ h. absurd cc)).fault faults.Members k refl))
+    (λ rest is k. absurd ((quiet_only NotMembers (writes_quiet version) some failed rest names_not_members (λ h. absurd cc)).fault faults.Members k refl))
   where
     change : (full : Bool) (rest : List ℕ) → bytes ≡ 99 ∷ rest → change_at version full rest ≡ Err faults.Members → IsMemberBelow version full bytes
     change true rest is k = absurd (full_change version rest k)
     change false rest is k = change_fall version bytes rest is k
-
-    sends : (full : Bool) (rest : List ℕ) → send_at full rest ≡ Err faults.Members → ⊥
-    sends true rest k = full_send rest k
-    sends false rest k = (sent_only NotMembers rest names_not_members).fault faults.Members k
-
-    delivers : (full : Bool) (rest : List ℕ) → delivery_at full rest ≡ Err faults.Members → ⊥
-    delivers true rest k = full_delivery rest k
-    delivers false rest k = (delivered_only NotMembers rest names_not_members).fault faults.Members k
-
-    fails : (full failed : Bool) (rest : List ℕ) → failure_at full failed rest ≡ Err faults.Members → ⊥
-    fails full failed rest k = failures_rise full failed rest k
 
 fall_line : (version : Version) (full some failed : Bool) (bytes : List ℕ) → IsMemberBelow version full bytes → line_at version full some failed bytes ≡ Err faults.Members
 unfolding line_at

@@ -1,6 +1,6 @@
 -- Number is the fault of a number that the grammar reads.
-use Rattle.totem_evs.proofs.Common.{◌==◌, decimal, ◌↔◌, ◌≡◌, ◌≢◌, ℕ, zero, suc, ◌+◌, ◌-◌, ◌*◌, ◌^◌, ◌<◌, ◌≤◌, ◌⊎◌, inl, inr, List, [], ◌∷◌, ◌++◌, Bool, true, false, cond, Option, Some, None, Ok, Err, refl, sym, ap, subst, ◌∙◌, append_assoc, arith, Version, One, Two, Three, id_of, cases_lt, eqb-true, TextFault, Agreed, Safe, Parsed, ◌>>=◌, first_other, next_digit, next_over, next_other, byte_is, decimal_push, reads_decimal, number_is, number_again, writes_quiet, IsPast, IsNoNumber, BreaksNumber}
-use Rattle.totem_names.specs.Processes.{writes_lives, first_life_then, life_then, process_then}
+use Rattle.totem_evs.proofs.Common.{◌==◌, decimal, ◌↔◌, ◌≡◌, ◌≢◌, ℕ, zero, suc, ◌+◌, ◌-◌, ◌*◌, ◌^◌, ◌<◌, ◌≤◌, ◌⊎◌, inl, inr, List, [], ◌∷◌, ◌++◌, Bool, true, false, cond, Option, Some, None, Ok, Err, refl, sym, ap, subst, ◌∙◌, append_assoc, arith, Version, id_of, cases_lt, eqb-true, TextFault, Parsed, ◌>>=◌, after, parsed_is, first_other, next_digit, next_over, next_other, byte_is, decimal_push, reads_decimal, number_is, number_again, IsPast, IsNoNumber, BreaksNumber}
+use Rattle.totem_names.specs.Processes.{first_life_then, life_then, process_then}
 use Rattle.std.proofs.lemmas.Fmt.{decimal_digit}
 use Rattle.totem_names.specs.declared.fault.TextFault.TheVariants as faults
 use Rattle.totem_names.specs.Numbers.{is_digit, byte_at, word_at, digits_at, number_at, number_to}
@@ -13,6 +13,7 @@ use Rattle.totem_names.specs.Services.{service_at}
 use Rattle.totem_evs.specs.RunGrammar.{is_failure, members_at, change_at, send_at, delivery_at, open_at, quiet_at, failed_at, fail_at, ail_at, failure_at, line_at, by_line, lines_at, log_at, run_words, run_at}
 use Rattle.totem_evs.specs.Heads.{records_at, Words, proc_at, begin_at, end_at, head_at, by_head, header_end, header_at}
 use Rattle.totem_evs.proofs.PartFaults.{bind_case}
+use Rattle.totem_evs.proofs.GoesOn.{digit_low}
 
 -- ---- a parser takes its bytes, and each fault Number of it is that of a number
 
@@ -27,31 +28,23 @@ pub record Numbered {A : Type 0} (parse : List ℕ → Parsed A) : Type 0 where
 
 pub gives_numbered : {A : Type 0} (y : A) → Numbered {A = A} (λ bytes. Ok (y, bytes))
 gives_numbered {A = A} y = record {
-  takes = λ bytes a rest e. record { text = []; is = (let p = pair bytes a rest e in p.1); again = λ more. (let p = pair bytes a rest e in ap (λ (x : A). Ok (x, more)) p.0) };
+  takes = λ bytes a rest e. let p = parsed_is y a bytes rest e in record { text = []; is = p.1; again = λ more. ap (λ (x : A). Ok (x, more)) p.0 };
   breaks = λ bytes e. absurd cc;
 }
-  where
-    pair : (bytes : List ℕ) (a : A) (rest : List ℕ) → ◌≡◌ {A = Parsed A} (Ok (y, bytes)) (Ok (a, rest)) → (y ≡ a) × (bytes ≡ rest)
-    pair bytes a rest e = let same : ◌≡◌ {A = A × List ℕ} (y, bytes) (a, rest) = cc in (ap (λ (p : A × List ℕ). p.0) same, ap (λ (p : A × List ℕ). p.1) same)
 
 pub fault_numbered : {A : Type 0} (f : TextFault) → f ≢ faults.Number → Numbered {A = A} (λ bytes. Err f)
 fault_numbered f other = record { takes = λ bytes a rest e. absurd cc; breaks = λ bytes e. absurd (other (let same : f ≡ faults.Number = cc in same)) }
 
 pub cond_numbered : {A : Type 0} (t : Bool) (p q : List ℕ → Parsed A) → Numbered p → Numbered q → Numbered (λ bytes. cond t (p bytes) (q bytes))
-cond_numbered true p q a b = record { takes = λ bytes x rest e. let y = a.takes bytes x rest e in record { text = y.text; is = y.is; again = y.again }; breaks = λ bytes e. let y = a.breaks bytes e in record { front = y.front; max = y.max; limit = y.limit; after = y.after; rest = y.rest; is = y.is; wants = y.wants; none = y.none } }
-cond_numbered false p q a b = record { takes = λ bytes x rest e. let y = b.takes bytes x rest e in record { text = y.text; is = y.is; again = y.again }; breaks = λ bytes e. let y = b.breaks bytes e in record { front = y.front; max = y.max; limit = y.limit; after = y.after; rest = y.rest; is = y.is; wants = y.wants; none = y.none } }
-
-bind_ok_case : {A B P : Type 0} (r : Parsed A) (k : A × List ℕ → Parsed B) (b : B) (rest : List ℕ) → (r >>= k) ≡ Ok (b, rest) → ((x : A) (mid : List ℕ) → r ≡ Ok (x, mid) → k (x, mid) ≡ Ok (b, rest) → P) → P
-bind_ok_case (Ok x) k b rest e then = then x.0 x.1 refl e
-bind_ok_case (Err f) k b rest e then = absurd cc
+cond_numbered true p q a b = a
+cond_numbered false p q a b = b
 
 bind_twice : {A B C : Type 0} (r : Parsed A) (j : A × List ℕ → Parsed B) (k : B × List ℕ → Parsed C) → ((r >>= j) >>= k) ≡ (r >>= λ x. j x >>= k)
-bind_twice (Ok x) j k = refl
-bind_twice (Err f) j k = refl
+bind_twice r j k = grind arith
 
 pub bind_numbered : {A B : Type 0} (sub : List ℕ → Parsed A) (k : A × List ℕ → Parsed B) → Numbered sub → ((a : A) → Numbered (λ bytes. k (a, bytes))) → Numbered (λ bytes. sub bytes >>= k)
 bind_numbered {A = A} {B = B} sub k first next = record {
-  takes = λ bytes b rest e. bind_ok_case (sub bytes) k b rest e (λ x mid e1 e2.
+  takes = λ bytes b rest e. after (sub bytes) k (b, rest) e (λ x mid e1 e2.
       let one = first.takes bytes x mid e1 in
       let two = (next x).takes mid b rest e2 in
       record {
@@ -104,9 +97,6 @@ word_numbered fault (w ∷ word) other = bind_numbered byte_at (λ b. cond (b.0 
 
 -- ---- numbers
 
-digit_bounds : (b : ℕ) → is_digit b ≡ true → (48 ≤ b) × (b ≤ 57)
-digit_bounds b h = (grind arith, grind arith)
-
 digits_none : (max n : ℕ) (bytes : List ℕ) → max < 2 ^ 32 → 0 < n → n ≤ max → digits_at max n bytes ≡ Err faults.Number → IsPast max (decimal n ++ bytes)
 unfolding digits_at
 digits_none max n [] fits pos small e = absurd (let same : faults.Truncated ≡ faults.Number = cc in cc)
@@ -116,7 +106,7 @@ digits_none max n (b ∷ bytes) fits pos small e = go (is_digit b) refl (λ d po
         → ((d : ℕ) → 0 < 10 * n + d → 10 * n + d ≤ max → digits_at max (10 * n + d) bytes ≡ Err faults.Number → IsPast max (decimal (10 * n + d) ++ bytes))
         → digits_at max n (b ∷ bytes) ≡ Err faults.Number → IsPast max (decimal n ++ b ∷ bytes)
     go true digit again k =
-        let bounds = digit_bounds b digit in
+        let bounds = digit_low b digit in
         elim (cases_lt max (10 * n + (b - 48))) [
           | inl over ↦ record { number = n; byte = b; rest = bytes; fits = record { positive = pos; small = small }; digit = digit; past = over; is = refl }
           | inr within ↦
@@ -136,7 +126,7 @@ number_none max (b ∷ bytes) nine fits e = go (is_digit b) (b == 48) refl refl 
     go : (t u : Bool) → is_digit b ≡ t → (b == 48) ≡ u → cond t (cond u (Err faults.Number) (digits_at max (b - 48) bytes)) (Err faults.Number) ≡ Err faults.Number → IsNoNumber max (b ∷ bytes)
     go true true digit zero' k = inl (b, bytes, refl, inr (eqb-true b 48 zero'))
     go true false digit other k =
-        let bounds = digit_bounds b digit in
+        let bounds = digit_low b digit in
         let differs : b ≢ 48 = λ e. absurd (let f : (48 == 48) ≡ false = rw e at other in cc) in
         let found = digits_none max (b - 48) bytes fits (omega (arith, bounds.0, differs)) (omega arith) k in
         let code : 48 + (b - 48) ≡ b = omega arith in
@@ -153,12 +143,10 @@ none_number max bytes h k = grind (arith, first_other, zero_first, reads_decimal
 
 -- a limit of numbers
 pub limits : (max : ℕ) → ((max ≡ 65535) ⊎ (max ≡ 4294967295)) → (9 ≤ max) × (max < 2 ^ 32)
-limits max (inl e) = rw e (omega arith, omega arith)
-limits max (inr e) = rw e (omega arith, omega arith)
+limits max h = grind arith
 
 kept : {A : Type 0} (r : Parsed A) → r ≡ (r >>= λ x. Ok (x.0, x.1))
-kept (Ok x) = refl
-kept (Err f) = refl
+kept r = grind arith
 
 pub number_numbered : (max : ℕ) → ((max ≡ 65535) ⊎ (max ≡ 4294967295)) → Numbered (number_at max)
 number_numbered max limit = record {
@@ -184,41 +172,19 @@ number_numbered max limit = record {
 pub word' : {A : Type 0} → Numbered {A = A} (λ bytes. Err faults.Word)
 word' = fault_numbered faults.Word (λ h. absurd cc)
 
-number_to_numbered : (max end : ℕ) → ((max ≡ 65535) ⊎ (max ≡ 4294967295)) → Numbered (number_to max end)
-unfolding number_to
-number_to_numbered max end limit = bind_numbered _ _ (number_numbered max limit) (λ n. cond_numbered (n.1 == end) (λ bytes. Ok (n.0, bytes)) (λ bytes. Err faults.Word) (gives_numbered n.0) word')
+of_ids : Numbered (number_at 65535)
+of_ids = number_numbered 65535 (inl refl)
 
-first_life_numbered : Numbered first_life_then
-unfolding first_life_then
-first_life_numbered = bind_numbered _ _ (number_numbered 65535 (inl refl)) (λ id. gives_numbered _)
-
-life_numbered : Numbered life_then
-unfolding life_then
-life_numbered = bind_numbered _ _ (number_to_numbered 65535 58 (inl refl)) (λ id. bind_numbered _ _ (number_numbered 65535 (inl refl)) (λ life. gives_numbered _))
+of_seqs : Numbered (number_at 4294967295)
+of_seqs = number_numbered 4294967295 (inr refl)
 
 process_numbered : (version : Version) → Numbered (process_then version)
-unfolding process_then
-process_numbered version = cond_numbered (writes_lives version) life_then first_life_then life_numbered first_life_numbered
-
-ring_numbered : (end : ℕ) → Numbered (ring_at end)
-unfolding ring_at
-ring_numbered end = bind_numbered _ _ (number_to_numbered 4294967295 46 (inr refl)) (λ seq. bind_numbered _ _ (number_to_numbered 65535 end (inl refl)) (λ rep. gives_numbered _))
-
-message_numbered : (end : ℕ) → Numbered (message_at end)
-unfolding message_at
-message_numbered end = bind_numbered _ _ (ring_numbered 35) (λ ring. bind_numbered _ _ (number_to_numbered 4294967295 end (inr refl)) (λ number. gives_numbered _))
-
-regular_numbered : (end : ℕ) → Numbered (regular_at end)
-unfolding regular_at
-regular_numbered end = bind_numbered _ _ (ring_numbered end) (λ ring. gives_numbered _)
-
-transitional_numbered : (end : ℕ) → Numbered (transitional_at end)
-unfolding transitional_at
-transitional_numbered end = bind_numbered _ _ (ring_numbered 47) (λ next. bind_numbered _ _ (number_to_numbered 65535 end (inl refl)) (λ least. gives_numbered _))
+unfolding process_then first_life_then life_then number_to
+process_numbered version = search (gives_numbered, cond_numbered, bind_numbered, of_ids, word') depth 9
 
 conf_numbered : (end : ℕ) → Numbered (conf_at end)
-unfolding conf_at
-conf_numbered end = bind_numbered _ _ byte_numbered (λ kind. cond_numbered _ _ _ (regular_numbered end) (cond_numbered _ _ _ (transitional_numbered end) word'))
+unfolding conf_at regular_at transitional_at ring_at number_to
+conf_numbered end = search (gives_numbered, cond_numbered, bind_numbered, byte_numbered, of_ids, of_seqs, word') depth 12
 
 -- ---- lines
 
@@ -236,49 +202,12 @@ end' = fault_numbered faults.End (λ h. absurd cc)
 pub words_numbered : (word : List ℕ) → Numbered (word_at faults.Word word)
 words_numbered word = word_numbered faults.Word word (λ h. absurd cc)
 
-change_numbered : (version : Version) (full : Bool) → Numbered (change_at version full)
-unfolding change_at
-change_numbered version full = cond_numbered _ _ _ too_many (bind_numbered _ _ (words_numbered _) (λ w. bind_numbered _ _ (conf_numbered 32) (λ x. bind_numbered _ _ (members_numbered version 32 0) (λ ms. gives_numbered _))))
-
-service_numbered : Numbered service_at
-unfolding service_at
-service_numbered = bind_numbered _ _ byte_numbered (λ b. cond_numbered (b == 97) _ _ (gives_numbered Agreed) (cond_numbered (b == 115) _ _ (gives_numbered Safe) word'))
-
-send_numbered : (full : Bool) → Numbered (send_at full)
-unfolding send_at
-send_numbered full = cond_numbered _ _ _ too_many (bind_numbered _ _ (words_numbered _) (λ w. bind_numbered _ _ (conf_numbered 32) (λ x. bind_numbered _ _ service_numbered (λ s. bind_numbered _ _ (words_numbered _) (λ v. bind_numbered _ _ (message_numbered 10) (λ m. gives_numbered _))))))
-
-delivery_numbered : (full : Bool) → Numbered (delivery_at full)
-unfolding delivery_at
-delivery_numbered full = cond_numbered _ _ _ too_many (bind_numbered _ _ (words_numbered _) (λ w. bind_numbered _ _ (conf_numbered 32) (λ x. bind_numbered _ _ (message_numbered 10) (λ m. gives_numbered _))))
-
-open_numbered : (some failed : Bool) → Numbered (open_at some failed)
-unfolding open_at
-open_numbered some failed = cond_numbered _ _ _ (bind_numbered _ _ (words_numbered _) (λ w. gives_numbered _)) end'
-
-quiet_numbered : (written some failed : Bool) → Numbered (quiet_at written some failed)
-unfolding quiet_at
-quiet_numbered written some failed = cond_numbered _ _ _ (cond_numbered _ _ _ (bind_numbered _ _ (words_numbered _) (λ w. gives_numbered _)) end') word'
-
-failed_numbered : (failed : Bool) → Numbered (failed_at failed)
-unfolding failed_at
-failed_numbered failed = cond_numbered _ _ _ (bind_numbered _ _ (words_numbered _) (λ w. gives_numbered _)) end'
-
-fail_numbered : (full : Bool) → Numbered (fail_at full)
-unfolding fail_at
-fail_numbered full = cond_numbered _ _ _ too_many (bind_numbered _ _ (conf_numbered 10) (λ x. gives_numbered _))
-
-ail_numbered : (full failed : Bool) → Numbered (ail_at full failed)
-unfolding ail_at
-ail_numbered full failed = bind_numbered _ _ (words_numbered _) (λ w. bind_numbered _ _ byte_numbered (λ b. cond_numbered _ _ _ (failed_numbered failed) (cond_numbered _ _ _ (fail_numbered full) word')))
-
-failure_numbered : (full failed : Bool) → Numbered (failure_at full failed)
-unfolding failure_at
-failure_numbered full failed = cond_numbered _ _ _ too_many (ail_numbered full failed)
+ruleset numbered_steps = (gives_numbered, cond_numbered, bind_numbered, byte_numbered, words_numbered)
 
 line_numbered : (version : Version) (full some failed : Bool) → Numbered (line_at version full some failed)
-unfolding line_at
-line_numbered version full some failed = bind_numbered _ _ byte_numbered (λ b. cond_numbered _ _ _ (change_numbered version full) (cond_numbered _ _ _ (send_numbered full) (cond_numbered _ _ _ (delivery_numbered full) (cond_numbered _ _ _ (failure_numbered full failed) (cond_numbered _ _ _ (open_numbered some failed) (cond_numbered _ _ _ (quiet_numbered (writes_quiet version) some failed) word'))))))
+unfolding line_at change_at send_at delivery_at failure_at ail_at failed_at fail_at open_at quiet_at service_at message_at ring_at number_to
+line_numbered version full some failed =
+    search (numbered_steps, conf_numbered, members_numbered, of_ids, of_seqs, too_many, end', word') depth 20
 
 lines_numbered : (version : Version) (room : ℕ) (some failed : Bool) → Numbered (lines_at version room some failed)
 unfolding lines_at
@@ -295,21 +224,11 @@ log_numbered version p = bind_numbered _ _ (lines_numbered version 1000001 false
 
 -- ---- the beginning of a record
 
-proc_numbered : (words : Words) (version : Version) (last : ℕ) → Numbered (proc_at words version last)
-unfolding proc_at
-proc_numbered words version last = bind_numbered _ _ (words_numbered _) (λ w. bind_numbered _ _ (process_numbered version) (λ p. cond_numbered _ _ _ (fault_numbered faults.Order (λ h. absurd cc)) (cond_numbered _ _ _ (gives_numbered _) word')))
-
-begin_numbered : (words : Words) (version : Version) (full : Bool) (last : ℕ) → Numbered (begin_at words version full last)
-unfolding begin_at
-begin_numbered words version full last = cond_numbered _ _ _ too_many (bind_numbered _ _ (proc_numbered words version last) (λ p. gives_numbered _))
-
-end_numbered : Numbered end_at
-unfolding end_at
-end_numbered = bind_numbered _ _ (words_numbered _) (λ w. gives_numbered _)
-
 pub head_numbered : (words : Words) (version : Version) (full : Bool) (last : ℕ) → Numbered (head_at words version full last)
-unfolding head_at
-head_numbered words version full last = bind_numbered _ _ byte_numbered (λ b. cond_numbered _ _ _ (begin_numbered words version full last) (cond_numbered _ _ _ end_numbered word'))
+unfolding head_at begin_at proc_at end_at
+head_numbered words version full last =
+    let order : faults.Order ≢ faults.Number = λ h. absurd cc in
+    search (numbered_steps, process_numbered, fault_numbered, too_many, word') depth 12
 
 pub records_numbered : {X R : Type 0} (words : Words) (rest_at : Version → ℕ → List ℕ → Parsed X) (made : ℕ → X → R) → ((version : Version) (p : ℕ) → Numbered (rest_at version p)) → (version : Version) (room last : ℕ) → Numbered (records_at words rest_at made version room last)
 unfolding records_at
@@ -320,16 +239,11 @@ records_numbered {X = X} {R = R} words rest_at made numbered version (suc room) 
     go None again = gives_numbered _
     go (Some p) again = bind_numbered _ _ (numbered version p) (λ x. bind_numbered _ _ (again p) (λ others. gives_numbered _))
 
-header_words : (word : List ℕ) → Numbered (word_at faults.Header word)
-header_words word = word_numbered faults.Header word (λ h. absurd cc)
-
-header_end_numbered : (version : Version) → Numbered (header_end version)
-unfolding header_end
-header_end_numbered version = bind_numbered _ _ (header_words _) (λ w. gives_numbered _)
-
 pub header_numbered : (words : Words) → Numbered (header_at words)
-unfolding header_at
-header_numbered words = bind_numbered _ _ (header_words _) (λ w. bind_numbered _ _ byte_numbered (λ v. cond_numbered _ _ _ (header_end_numbered One) (cond_numbered _ _ _ (header_end_numbered Two) (cond_numbered _ _ _ (header_end_numbered Three) (fault_numbered faults.Header (λ h. absurd cc))))))
+unfolding header_at header_end
+header_numbered words =
+    let header : faults.Header ≢ faults.Number = λ h. absurd cc in
+    search (gives_numbered, cond_numbered, bind_numbered, byte_numbered, word_numbered, fault_numbered) depth 12
 
 run_numbered : Numbered run_at
 unfolding run_at

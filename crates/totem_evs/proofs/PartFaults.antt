@@ -1,13 +1,12 @@
 -- Where a fault of a run's text is: between logs and in a log.
 use Rattle.std.proofs.Common.{arith}
-use Rattle.totem_evs.proofs.Common.{◌==◌, codes, not, ◌&&◌, ◌↔◌, ◌≡◌, ◌≢◌, ℕ, inl, inr, List, [], ◌∷◌, ◌++◌, Bool, true, false, cond, Ok, Err, refl, sym, ap, ◌∙◌, Version, eqb-true, TextFault, Parsed, ◌>>=◌, taken, word_is, line, writes_quiet, ClosesWrong}
+use Rattle.totem_evs.proofs.Common.{◌==◌, codes, not, ◌&&◌, ◌↔◌, ◌≡◌, ◌≢◌, ℕ, inl, inr, List, [], ◌∷◌, ◌++◌, Bool, true, false, cond, Ok, Err, refl, sym, ap, ◌∙◌, Version, eqb-true, TextFault, Parsed, ◌>>=◌, taken, word_is, writes_quiet, ClosesWrong}
 use Rattle.totem_names.specs.declared.fault.TextFault.TheVariants as faults
 use Rattle.totem_names.specs.Numbers.{byte_at, word_at}
 use Rattle.totem_evs.specs.declared.lines.Line.{Line}
 use Rattle.totem_evs.specs.declared.lines.Line.TheVariants as lines
-use Rattle.totem_evs.specs.declared.ending.Ending.TheVariants.{Standing, Failed, Quiet}
 use Rattle.totem_evs.specs.RunGrammar.{change_at, send_at, delivery_at, open_at, quiet_at, failed_at, fail_at, ail_at, failure_at, line_at}
-use Rattle.totem_evs.proofs.OnlyFaults.{OfNames, OfEntries, fault_only, word_only, change_only, send_only, delivery_only, fail_only}
+use Rattle.totem_evs.proofs.OnlyFaults.{OfNames, OfEntries, fault_only, word_only, word_fault, change_only, send_only, delivery_only, fail_only}
 
 -- ---- steps and tests that failed
 
@@ -65,83 +64,46 @@ ail_case full failed bytes f long fits e closes fails =
 -- ---- End
 
 abbrev pub NotEnd : TextFault → Type 0
-NotEnd faults.Header = Unit {0}
-NotEnd faults.Word = Unit {0}
-NotEnd faults.Number = Unit {0}
-NotEnd faults.Order = Unit {0}
-NotEnd faults.Members = Unit {0}
-NotEnd faults.End = ⊥
-NotEnd faults.Truncated = Unit {0}
-NotEnd faults.TooMany = Unit {0}
+NotEnd f = f ≢ faults.End
 
 pub names_not_end : OfNames NotEnd
-names_not_end = record { word = tt; number = tt; short = tt }
+names_not_end = record { word = λ h. absurd cc; number = λ h. absurd cc; short = λ h. absurd cc }
 
 entries_not_end : OfEntries NotEnd
-entries_not_end = record { names = names_not_end; members = tt; many = tt }
+entries_not_end = record { names = names_not_end; members = λ h. absurd cc; many = λ h. absurd cc }
 
 -- the byte that only a closing word has
 failed_end : (failed : Bool) (bytes : List ℕ) → failed_at failed bytes ≡ Err faults.End → failed ≡ false
 unfolding failed_at
-failed_end true bytes e =
-    bind_case (word_at faults.Word (line (codes "d")) bytes) (λ w. Ok (lines.Close Failed, w.1)) faults.End e
-    (λ k. absurd ((word_only NotEnd faults.Word (line (codes "d")) bytes tt tt).fault faults.End k))
-    (λ w mid e1 k. absurd cc)
-failed_end false bytes e = refl
+failed_end failed bytes e = grind (arith, word_fault)
 
 open_end : (some failed : Bool) (bytes : List ℕ) → open_at some failed bytes ≡ Err faults.End → (some && not failed) ≡ false
 unfolding open_at
-open_end some failed bytes e = go (some && not failed) e
-  where
-    closes : Unit {0} × List ℕ → Parsed Line
-    closes w = Ok (lines.Close Standing, w.1)
-
-    go : (t : Bool) → ◌≡◌ {A = Parsed Line} (cond t (word_at faults.Word (line (codes "pen")) bytes >>= closes) (Err faults.End)) (Err faults.End) → t ≡ false
-    go true k =
-        bind_case (word_at faults.Word (line (codes "pen")) bytes) closes faults.End k
-        (λ k. absurd ((word_only NotEnd faults.Word (line (codes "pen")) bytes tt tt).fault faults.End k))
-        (λ w mid e1 k. absurd cc)
-    go false k = refl
+open_end some failed bytes e = grind (arith, word_fault)
 
 quiet_end : (written some failed : Bool) (bytes : List ℕ) → quiet_at written some failed bytes ≡ Err faults.End → (written ≡ true) × ((some && not failed) ≡ false)
 unfolding quiet_at
-quiet_end written some failed bytes e = go written (some && not failed) e
-  where
-    closes : Unit {0} × List ℕ → Parsed Line
-    closes w = Ok (lines.Close Quiet, w.1)
-
-    go : (may t : Bool) → ◌≡◌ {A = Parsed Line} (cond may (cond t (word_at faults.Word (line (codes "uiet")) bytes >>= closes) (Err faults.End)) (Err faults.Word)) (Err faults.End) → (may ≡ true) × (t ≡ false)
-    go true true k =
-        bind_case (word_at faults.Word (line (codes "uiet")) bytes) closes faults.End k
-        (λ k. absurd ((word_only NotEnd faults.Word (line (codes "uiet")) bytes tt tt).fault faults.End k))
-        (λ w mid e1 k. absurd cc)
-    go true false k = (refl, refl)
-    go false t k = absurd ((fault_only {A = Line} NotEnd faults.Word tt).fault faults.End k)
+quiet_end written some failed bytes e = grind (arith, word_fault)
 
 ail_end : (written full some failed : Bool) (bytes rest : List ℕ) → (full && not failed) ≡ false → bytes ≡ 102 ∷ rest → ail_at full failed rest ≡ Err faults.End → ClosesWrong written full some failed bytes
 ail_end written full some failed bytes rest room is e =
     ail_case full failed rest faults.End (λ h. absurd cc) (λ h. absurd cc) e
-    (λ more behind k. let ends = failed_end failed more k in inr (inr (more, is ∙ ap (λ (t : List ℕ). 102 ∷ t) behind, may full failed room ends, ends)))
-    (λ more behind k. absurd ((fail_only NotEnd full more entries_not_end).fault faults.End k))
-  where
-    may : (full failed : Bool) → (full && not failed) ≡ false → failed ≡ false → full ≡ false
-    may true true h k = absurd cc
-    may true false h k = absurd cc
-    may false failed h k = refl
+    (λ more behind k. let ends = failed_end failed more k in let may : full ≡ false = grind arith in inr (inr (more, is ∙ ap (λ (t : List ℕ). 102 ∷ t) behind, may, ends)))
+    (λ more behind k. absurd ((fail_only NotEnd full more names_not_end (λ h. absurd cc)).fault faults.End k refl))
 
 failure_end : (written full some failed : Bool) (bytes rest : List ℕ) → bytes ≡ 102 ∷ rest → failure_at full failed rest ≡ Err faults.End → ClosesWrong written full some failed bytes
 unfolding failure_at
 failure_end written full some failed bytes rest is e = elim (taken (full && not failed) (Err faults.TooMany) (ail_at full failed rest) (Err faults.End) e) [
-  | inl x ↦ absurd ((fault_only {A = Line} NotEnd faults.TooMany tt).fault faults.End x.1)
+  | inl x ↦ absurd ((fault_only {A = Line} NotEnd faults.TooMany (λ h. absurd cc)).fault faults.End x.1 refl)
   | inr x ↦ ail_end written full some failed bytes rest x.0 is x.1
 ]
 
 line_end : (version : Version) (full some failed : Bool) (bytes : List ℕ) → line_at version full some failed bytes ≡ Err faults.End → ClosesWrong (writes_quiet version) full some failed bytes
 line_end version full some failed bytes e =
     line_case version full some failed bytes faults.End (λ h. absurd cc) (λ h. absurd cc) e
-    (λ rest is k. absurd ((change_only version NotEnd full rest entries_not_end).fault faults.End k))
-    (λ rest is k. absurd ((send_only NotEnd full rest entries_not_end).fault faults.End k))
-    (λ rest is k. absurd ((delivery_only NotEnd full rest entries_not_end).fault faults.End k))
+    (λ rest is k. absurd ((change_only version NotEnd full rest entries_not_end).fault faults.End k refl))
+    (λ rest is k. absurd ((send_only NotEnd full rest names_not_end (λ h. absurd cc)).fault faults.End k refl))
+    (λ rest is k. absurd ((delivery_only NotEnd full rest names_not_end (λ h. absurd cc)).fault faults.End k refl))
     (λ rest is k. failure_end (writes_quiet version) full some failed bytes rest is k)
     (λ rest is k. inl (rest, is, open_end some failed rest k))
     (λ rest is k. let wrong = quiet_end (writes_quiet version) some failed rest k in inr (inl (rest, is, wrong.0, wrong.1)))

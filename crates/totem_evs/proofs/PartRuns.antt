@@ -44,8 +44,7 @@ within_comes version entries failed part bytes rest e =
     go (lines.Close Quiet) is same = subst (ComesWithin (writes_quiet version) entries failed) same is
 
 comes_in : (version : Version) (logs last : ℕ) (log : Option OpenLog) (part : Option Part) (bytes rest : List ℕ) → next_at version logs last log bytes ≡ Ok (part, rest) → ComesIn version logs last log part
-comes_in version logs last None part bytes rest e = between_comes version logs last part bytes rest e
-comes_in version logs last (Some log) part bytes rest e = within_comes version log.entries log.failed part bytes rest e
+comes_in version logs last log part bytes rest e = grind (arith, between_comes, within_comes)
 
 pub comes : (stage : Stage) (part : Option Part) (bytes rest : List ℕ) → part_at stage bytes ≡ Ok (part, rest) → MayCome stage part
 comes stage part bytes rest e = comes_in stage.version stage.logs stage.last stage.log part bytes rest e
@@ -70,8 +69,7 @@ pub stands_next : (stage : Stage) (g : GatheredLogs) (part : Part) → Stands st
 stands_next stage g part h may = stands_in stage.version stage.logs stage.last stage.log g part h.few h.entries h.placed may
 
 pub of_placed : (log : Option OpenLog) (last : ℕ) (g : GatheredLogs) → Placed log last g → OfLast log last g.proc
-of_placed None last g h = tt
-of_placed (Some log) last g h = h
+of_placed log last g h = grind arith
 
 abbrev logs_from : GatheredLogs → List Part → List Log
 logs_from g [] = g.logs
@@ -101,8 +99,7 @@ given_in : (version : Version) (logs last : ℕ) (log : Option OpenLog) (g : Gat
 given_in version logs last log g part h k = grind (arith, append-nil, flat_map-append, append_assoc)
 
 ended_in : (version : Version) (logs last : ℕ) (log : Option OpenLog) (g : GatheredLogs) → Placed log last g → ComesIn version logs last log None → run_parts g.logs ≡ given g ++ []
-ended_in version logs last None g placed may = rw placed (sym (append-nil (run_parts g.logs ++ []) ∙ append-nil (run_parts g.logs)))
-ended_in version logs last (Some log) g placed may = absurd may
+ended_in version logs last log g placed may = grind (arith, append-nil)
 
 parts_are : (ps : List Part) (stage : Stage) (g : GatheredLogs) (bytes rest : List ℕ) → Stands stage g → ReadsParts stage bytes ps rest → run_parts (logs_from g ps) ≡ given g ++ ps
 parts_are [] stage g bytes rest h reads = ended_in stage.version stage.logs stage.last stage.log g h.placed (comes stage None bytes rest reads)

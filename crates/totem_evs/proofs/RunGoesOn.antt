@@ -9,8 +9,8 @@ use Rattle.totem_evs.specs.declared.ending.Ending.TheVariants.{Failed}
 use Rattle.totem_evs.specs.declared.lines.Line.{Line}
 use Rattle.totem_evs.specs.declared.lines.Line.TheVariants as lines
 use Rattle.totem_evs.specs.declared.log.Log.{Log}
-use Rattle.totem_evs.specs.Heads.{records_at, head_at, by_head, header_at}
-use Rattle.totem_evs.specs.RunGrammar.{is_failure, line_at, by_line, lines_at, log_at, run_words, logs_at, run_at}
+use Rattle.totem_evs.specs.Heads.{records_at, by_head}
+use Rattle.totem_evs.specs.RunGrammar.{is_failure, by_line, lines_at, log_at, run_words, logs_at, run_at}
 use Rattle.totem_evs.proofs.LooseFrom.{EachLoosely, entry_loosely, loose_entries, LooseLogsFrom, log_loosely, is_loose_run}
 use Rattle.totem_evs.proofs.SpelledLine.{IsLineOf, IsLine, line_text, line_is}
 use Rattle.totem_evs.proofs.SpelledLog.{entries_text, body_text, ends_in_failure, ending_if, ends_if, IsBodyOf, closing, closed_by, word_so, some_of, log_is}
@@ -18,8 +18,8 @@ use Rattle.totem_evs.proofs.SpelledHeads.{head_text, IsHead, head_is, header_is}
 use Rattle.totem_evs.proofs.SpelledRun.{logs_text, logs_parts, run_parts, no_run}
 use Rattle.totem_evs.proofs.SteadyRun.{run_steady, run_first_break}
 use Rattle.totem_evs.proofs.GoesOn.{Cut, Splits, ok_cut, fault_cut, bind_cut, last_cut, first_ring, first_ring_is}
-use Rattle.totem_evs.proofs.HeadsGoOn.{IsLooseHead, HeadTo, head_cut, HeaderTo, header_cut}
-use Rattle.totem_evs.proofs.LineGoesOn.{LineTo, line_cut}
+use Rattle.totem_evs.proofs.HeadsGoOn.{IsLooseHead, head_cut, header_cut}
+use Rattle.totem_evs.proofs.LineGoesOn.{line_cut}
 
 -- ---- the lines of a log
 
@@ -40,19 +40,19 @@ body_from version room some failed (lines.Entry x) t so is e =
 body_step : (version : Version) (room : ℕ) (some failed : Bool) (l : Line) (bytes rest : List ℕ) → IsLine version (room == 0) some failed l × (bytes ≡ line_text version l ++ rest)
     → ((x : Entry) → Cut (lines_at version room true (is_failure x) rest) (BodyTo version room true (is_failure x)) rest)
     → Splits (by_line {Y = Parsed (List Entry × Ending)} l (λ ending. Ok (([], ending), rest)) (λ e. lines_at version room true (is_failure e) rest >>= λ others. Ok ((e ∷ others.0.0, others.0.1), others.1))) (BodyTo version (suc room) some failed) bytes rest
-body_step version room some failed (lines.Close x) bytes rest found again = record { text = line_text version (lines.Close x); whole = found.1; next = ok_cut (([], x), rest) (λ u. BodyTo version (suc room) some failed (line_text version (lines.Close x) ++ u)) rest }
+body_step version room some failed (lines.Close x) bytes rest found again = record { text = line_text version (lines.Close x); whole = found.1; next = ok_cut _ _ _ }
 body_step version room some failed (lines.Entry x) bytes rest found again = record {
   text = line_text version (lines.Entry x);
   whole = found.1;
-  next = last_cut (lines_at version room true (is_failure x) rest) (λ others. ((x ∷ others.0.0, others.0.1), others.1)) (BodyTo version room true (is_failure x)) (λ u. BodyTo version (suc room) some failed (line_text version (lines.Entry x) ++ u)) rest (again x)
+  next = last_cut _ _ _ _ _ (again x)
       (λ t b. (x ∷ b.0, b.1, record { few = omega (arith, b.2.few); entries = entry_loosely version x b.0 found.0.1 b.2.entries; has = refl; ends = b.2.ends }, ap (λ (k : List ℕ). line (entry_text (process_text version) x) ++ k) b.3 ∙ sym (append_assoc (line (entry_text (process_text version) x)) (entries_text version b.0) (line (ending_text b.1) ++ []))));
 }
 
 lines_cut : (version : Version) (room : ℕ) (some failed : Bool) (bytes : List ℕ) → (some ≡ false → 1 < room) → (failed ≡ true → some ≡ true) → Cut (lines_at version room some failed bytes) (BodyTo version room some failed) bytes
 unfolding lines_at
-lines_cut version zero some failed bytes more so = fault_cut faults.TooMany (BodyTo version zero some failed) bytes refl
+lines_cut version zero some failed bytes more so = fault_cut _ _ _ refl
 lines_cut version (suc room) some failed bytes more so =
-    bind_cut (line_at version (room == 0) some failed bytes) (λ l. by_line l.0 (λ ending. Ok (([], ending), l.1)) (λ e. lines_at version room true (is_failure e) l.1 >>= λ others. Ok ((e ∷ others.0.0, others.0.1), others.1))) (LineTo version (room == 0) some failed) (BodyTo version (suc room) some failed) bytes
+    bind_cut _ _ _ _ _
     (line_cut version (room == 0) some failed bytes (λ h. let lt : 1 < suc room = more h in let k : 0 < room = omega (arith, lt) in grind (arith, nat_tests)))
     (λ t x. body_from version room some failed x.0 t so x.1 x.2)
     (λ l rest e. body_step version room some failed l bytes rest (line_is version (room == 0) some failed l bytes rest e) (λ x. lines_cut version room true (is_failure x) rest (λ h. absurd cc) (λ h. refl)))
@@ -68,7 +68,7 @@ LogTo version p t = (log : Log) × IsLooseLog version log × (log.proc ≡ p) ×
 log_cut : (version : Version) (p : ℕ) (bytes : List ℕ) → IsProcessIn version p → Cut (log_at version p bytes) (LogTo version p) bytes
 unfolding log_at
 log_cut version p bytes process =
-    last_cut {B = Log} (lines_at version 1000001 false false bytes) (λ body. (record { proc = p; entries = body.0.0; ending = body.0.1 }, body.1)) (BodyTo version 1000001 false false) (LogTo version p) bytes (lines_cut version 1000001 false false bytes (λ h. omega arith) (λ h. absurd cc))
+    last_cut {B = Log} _ _ _ _ _ (lines_cut version 1000001 false false bytes (λ h. omega arith) (λ h. absurd cc))
     (λ t b. (record { proc = p; entries = b.0; ending = b.1 }, made_log version p b.0 b.1 process b.2, refl, b.3))
 
 -- ---- logs
@@ -103,32 +103,29 @@ logs_from version room last (Some p) t is e =
 logs_step : (version : Version) (room last : ℕ) (head : Option ℕ) (bytes rest : List ℕ) → IsHead version (room == 0) last head × (bytes ≡ head_text run_words version head ++ rest)
     → ((p : ℕ) (rest2 : List ℕ) → Cut (logs_at version room p rest2) (LogsTo version room p) rest2)
     → Splits (by_head {Y = Parsed (List Log)} head (Ok ([], rest)) (λ p. log_at version p rest >>= λ log. logs_at version room p log.1 >>= λ others. Ok (log.0 ∷ others.0, others.1))) (LogsTo version (suc room) last) bytes rest
-logs_step version room last None bytes rest found again = record { text = head_text run_words version None; whole = found.1; next = ok_cut ([], rest) (λ u. LogsTo version (suc room) last (head_text run_words version None ++ u)) rest }
+logs_step version room last None bytes rest found again = record { text = head_text run_words version None; whole = found.1; next = ok_cut _ _ _ }
 logs_step version room last (Some p) bytes rest found again =
     let few : 0 < room = not_zero room found.0.0 in
     record {
       text = head_text run_words version (Some p);
       whole = found.1;
-      next = bind_cut (log_at version p rest) (λ log. logs_at version room p log.1 >>= λ others. Ok (log.0 ∷ others.0, others.1)) (LogTo version p) Is rest (log_cut version p rest found.0.2)
+      next = bind_cut _ _ _ _ _ (log_cut version p rest found.0.2)
           (λ t x. (logs_text version [] [], (x.0 ∷ [], record { few = omega (arith, few); rises = x.1 }, ap (λ (k : List ℕ). head_text run_words version (Some p) ++ (k ++ logs_text version [] [])) x.3 ∙ joined version p x.0 [] (logs_text version [] []) x.2 refl)))
           (λ log rest2 e2.
           let one = log_is version p log rest rest2 found.0.2 e2 in
           record {
             text = body_text version log.entries log.ending [];
             whole = one.2 ∙ sym (body_more version log.entries log.ending rest2);
-            next = last_cut (logs_at version room p rest2) (λ others. (log ∷ others.0, others.1)) (LogsTo version room p) (λ u. Is (body_text version log.entries log.ending [] ++ u)) rest2 (again p rest2)
+            next = last_cut _ _ _ _ _ (again p rest2)
                 (λ t x. (log ∷ x.0, record { few = omega (arith, x.1.few); rises = log_loosely version last log x.0 (rw one.1 found.0.1) one.0 (rw one.1 x.1.rises) }, joined version p log x.0 t one.1 x.2));
           });
     }
-  where
-    Is : List ℕ → Type 0
-    Is u = LogsTo version (suc room) last (head_text run_words version (Some p) ++ u)
 
 logs_cut : (version : Version) (room last : ℕ) (bytes : List ℕ) → Cut (logs_at version room last bytes) (LogsTo version room last) bytes
 unfolding records_at
-logs_cut version zero last bytes = fault_cut faults.TooMany (LogsTo version zero last) bytes refl
+logs_cut version zero last bytes = fault_cut _ _ _ refl
 logs_cut version (suc room) last bytes =
-    bind_cut (head_at run_words version (room == 0) last bytes) (λ head. by_head head.0 (Ok ([], head.1)) (λ p. log_at version p head.1 >>= λ log. logs_at version room p log.1 >>= λ others. Ok (log.0 ∷ others.0, others.1))) (HeadTo run_words version (room == 0)) (LogsTo version (suc room) last) bytes (head_cut run_words version (room == 0) last bytes)
+    bind_cut _ _ _ _ _ (head_cut run_words version (room == 0) last bytes)
     (λ t x. logs_from version room last x.0 t x.1 x.2)
     (λ head rest e. logs_step version room last head bytes rest (head_is run_words version (room == 0) last head bytes rest e) (λ p rest2. logs_cut version room p rest2))
 
@@ -145,12 +142,12 @@ run_of version logs t is e =
 run_cut : (bytes : List ℕ) → Cut (run_at bytes) RunTo bytes
 unfolding run_at
 run_cut bytes =
-    bind_cut (header_at run_words bytes) (λ v. logs_at v.0 33 0 v.1 >>= λ logs. Ok (record { version = v.0; logs = logs.0 }, logs.1)) (HeaderTo run_words) RunTo bytes (header_cut run_words bytes)
+    bind_cut _ _ _ _ _ (header_cut run_words bytes)
     (λ t x. (logs_text x.0 [] [], rw x.2 (run_of x.0 [] (logs_text x.0 [] []) (record { few = omega arith; rises = tt }) refl)))
     (λ v rest e. record {
       text = header_text v;
       whole = (header_is run_words v bytes rest e).1;
-      next = last_cut {B = RunRecord} (logs_at v 33 0 rest) (λ logs. (record { version = v; logs = logs.0 }, logs.1)) (LogsTo v 33 0) (λ u. RunTo (header_text v ++ u)) rest (logs_cut v 33 0 rest) (λ t x. run_of v x.0 t x.1 x.2);
+      next = last_cut {B = RunRecord} _ _ _ _ _ (logs_cut v 33 0 rest) (λ t x. run_of v x.0 t x.1 x.2);
     })
 
 pub cut_front : (bytes : List ℕ) → run_at bytes ≡ Err faults.Truncated → IsLooseFront bytes

@@ -12,13 +12,11 @@ use Rattle.totem_evs.specs.Heads.{Words, records_at, head_at, by_head, header_at
 -- ---- lists
 
 pub one_more : {A : Type 0} (front : List A) (p : A) (r : Parsed (List A)) → ((r >>= λ others. gives (p ∷ others.0) others.1) >>= λ x. gives (front ++ x.0) x.1) ≡ (r >>= λ x. gives ((front ++ p ∷ []) ++ x.0) x.1)
-one_more {A = A} front p (Ok x) = ap (λ (ms : List A). Ok (ms, x.1)) (simp append_assoc)
-one_more front p (Err e) = refl
+one_more front p r = grind (arith, append_assoc)
 
 -- nothing was read before
 pub none_before : {A : Type 0} (r : Parsed (List A)) → r ≡ (r >>= λ x. gives ([] ++ x.0) x.1)
-none_before (Ok x) = refl
-none_before (Err e) = refl
+none_before r = grind arith
 
 -- ---- members
 
@@ -49,10 +47,6 @@ pub entries_step : (version : Version) (p : ℕ) (front : List Entry) (room room
     by_line l.0 (λ ending. closed p (front) ending l.1) (λ e. with_entries version p (front ++ e ∷ []) room' true (is_failure e) l.1))
 unfolding lines_at
 entries_step version p front room room' full some failed e same bytes = grind (arith, append_assoc, append-nil)
-
-pub entries_none : (version : Version) (p : ℕ) (front : List Entry) (room : ℕ) (some failed : Bool) → room ≡ 0 → (bytes : List ℕ) → with_entries version p front room some failed bytes ≡ Err faults.TooMany
-unfolding lines_at
-entries_none version p front room some failed e bytes = rw e refl
 
 pub log_first : (version : Version) (p : ℕ) (bytes : List ℕ) → log_at version p bytes ≡ with_entries version p [] 1000001 false false bytes
 unfolding log_at

@@ -1,9 +1,10 @@
 -- What is read is spelled so, and what is spelled so is read: a first line, and the beginning of a record.
-use Rattle.totem_evs.proofs.Common.{nat_le, ◌==◌, ◌&&◌, codes, ◌≡◌, ℕ, ◌<◌, inl, inr, List, [], ◌∷◌, ◌++◌, Option, Some, None, Ok, Err, Bool, true, false, cond, refl, sym, ◌∙◌, ap, append_assoc, arith, rules, eqb-true, nat_tests, Version, One, Two, Three, ◌>>=◌, process_then_is, process_then_again, after, taken, guard_then, guard_else, parsed_is, byte_is, word_is, word_again, line, version_digit}
+use Rattle.totem_evs.proofs.Common.{nat_le, ◌==◌, ◌&&◌, codes, ◌≡◌, ℕ, ◌<◌, List, [], ◌∷◌, ◌++◌, Option, Some, None, Ok, Err, Bool, true, false, cond, refl, sym, ◌∙◌, ap, append_assoc, arith, rules, eqb-true, nat_tests, Version, One, Two, Three, ◌>>=◌, process_then_is, process_then_again, after, guard_then, guard_else, parsed_is, byte_is, word_is, word_again, line, version_digit}
 use Rattle.totem_names.specs.declared.fault.TextFault.TheVariants as faults
 use Rattle.totem_names.specs.Numbers.{is_digit, byte_at, word_at}
 use Rattle.totem_names.specs.Processes.{process_text, process_then, IsProcessIn}
 use Rattle.totem_evs.specs.Heads.{Words, HasVersion, first_line, proc_at, begin_at, end_at, head_at, header_end, header_at}
+use Rattle.totem_evs.proofs.PartFaults.{byte_pick}
 use Rattle.totem_evs.proofs.SpelledLine.{not_within}
 
 -- words that distinguish a record from the last line, and a process from what is after it
@@ -67,13 +68,11 @@ unfolding head_at
 head_is words version full last head bytes rest e =
     after (byte_at bytes) (λ b. cond (b.0 == words.letter) (begin_at words version full last b.1) (cond (b.0 == 101) (end_at b.1) (Err faults.Word))) (head, rest) e (λ b mid e1 more.
     let whole = byte_is bytes b mid e1 in
-    elim (taken (b == words.letter) (begin_at words version full last mid) (cond (b == 101) (end_at mid) (Err faults.Word)) (Ok (head, rest)) more) [
-      | inl r ↦ let found = begin_is words version full last head mid rest r.1 in (found.0, whole ∙ ap (λ (k : ℕ). k ∷ mid) (eqb-true b words.letter r.0) ∙ found.1)
-      | inr other ↦
-          let t = guard_then (b == 101) (end_at mid) faults.Word (head, rest) other.1 in
-          let found = end_is words version full last head mid rest t.1 in
-          (found.0, whole ∙ ap (λ (k : ℕ). k ∷ mid) (eqb-true b 101 t.0) ∙ found.1)
-    ])
+    byte_pick b words.letter _ _ _ more (λ h k.
+    let found = begin_is words version full last head mid rest k in (found.0, whole ∙ ap (λ (k : ℕ). k ∷ mid) h ∙ found.1)) (λ k.
+    byte_pick b 101 _ _ _ k (λ h k.
+    let found = end_is words version full last head mid rest k in (found.0, whole ∙ ap (λ (k : ℕ). k ∷ mid) h ∙ found.1)) (λ k.
+    absurd cc)))
 
 same_byte : (n : ℕ) → (n == n) ≡ true
 same_byte n = search rules
@@ -82,13 +81,9 @@ begin_again : (words : Words) (version : Version) (last p : ℕ) (rest : List �
 unfolding begin_at proc_at
 begin_again words version last p rest clear lt fits = grind (arith, nat_tests, word_again, process_then_again, same_byte)
 
-end_again : (rest : List ℕ) → end_at (codes "nd" ++ 10 ∷ rest) ≡ Ok (None, rest)
-unfolding end_at
-end_again rest = rw (word_again faults.Word (line (codes "nd")) rest) refl
-
 pub head_again : (words : Words) (version : Version) (full : Bool) (last : ℕ) (head : Option ℕ) (rest : List ℕ) → IsClear words → IsHead version full last head → head_at words version full last (head_text words version head ++ rest) ≡ Ok (head, rest)
-unfolding head_at
-head_again words version full last None rest clear is = rw clear.letter (end_again rest)
+unfolding head_at end_at word_at
+head_again words version full last None rest clear is = rw clear.letter refl
 head_again words version full last (Some p) rest clear is = ap (head_at words version full last) (begin_parts words version p rest) ∙ rw (same_byte words.letter, is.0) (begin_again words version last p rest clear is.1 is.2)
 
 -- ---- the first line
@@ -102,8 +97,7 @@ header_end_is version v bytes rest e =
 
 -- two tests
 pub both_hold : (s t : Bool) → (s && t) ≡ true → (s ≡ true) × (t ≡ true)
-both_hold true t h = (refl, h)
-both_hold false t h = absurd cc
+both_hold s t h = grind arith
 
 pub first_parts : (words : Words) (version : Version) (rest : List ℕ) → first_line words version ++ rest ≡ words.title ++ version_digit version ∷ 10 ∷ rest
 first_parts words version rest = append_assoc (words.title ++ version_digit version ∷ []) (10 ∷ []) rest ∙ append_assoc words.title (version_digit version ∷ []) (10 ∷ rest)
@@ -114,21 +108,16 @@ header_is words version bytes rest e =
     after (word_at faults.Header words.title bytes) (λ w. byte_at w.1 >>= λ v. cond (v.0 == 49) (header_end One v.1) (cond (v.0 == 50) (header_end Two v.1) (cond (words.third && (v.0 == 51)) (header_end Three v.1) (Err faults.Header)))) (version, rest) e (λ w mid e1 more.
     after (byte_at mid) (λ v. cond (v.0 == 49) (header_end One v.1) (cond (v.0 == 50) (header_end Two v.1) (cond (words.third && (v.0 == 51)) (header_end Three v.1) (Err faults.Header)))) (version, rest) more (λ v left e2 made.
     let whole : bytes ≡ words.title ++ v ∷ left = word_is faults.Header words.title bytes mid w e1 ∙ ap (λ (t : List ℕ). words.title ++ t) (byte_is mid v left e2) in
-    elim (taken (v == 49) (header_end One left) (cond (v == 50) (header_end Two left) (cond (words.third && (v == 51)) (header_end Three left) (Err faults.Header))) (Ok (version, rest)) made) [
-      | inl r ↦ of_digit One v left whole tt r.0 r.1
-      | inr o1 ↦ elim (taken (v == 50) (header_end Two left) (cond (words.third && (v == 51)) (header_end Three left) (Err faults.Header)) (Ok (version, rest)) o1.1) [
-        | inl r ↦ of_digit Two v left whole tt r.0 r.1
-        | inr o2 ↦
-            let t = guard_then (words.third && (v == 51)) (header_end Three left) faults.Header (version, rest) o2.1 in
-            let has = both_hold words.third (v == 51) t.0 in
-            of_digit Three v left whole has.0 has.1 t.1
-      ]
-    ]))
+    byte_pick v 49 _ _ _ made (of_digit One v left whole tt) (λ k.
+    byte_pick v 50 _ _ _ k (of_digit Two v left whole tt) (λ k.
+    let t = guard_then (words.third && (v == 51)) (header_end Three left) faults.Header (version, rest) k in
+    let has = both_hold words.third (v == 51) t.0 in
+    of_digit Three v left whole has.0 (eqb-true v 51 has.1) t.1))))
   where
-    of_digit : (w : Version) (v : ℕ) (left : List ℕ) → bytes ≡ words.title ++ v ∷ left → HasVersion words w → (v == version_digit w) ≡ true → header_end w left ≡ Ok (version, rest) → HasVersion words version × (bytes ≡ first_line words version ++ rest)
+    of_digit : (w : Version) (v : ℕ) (left : List ℕ) → bytes ≡ words.title ++ v ∷ left → HasVersion words w → v ≡ version_digit w → header_end w left ≡ Ok (version, rest) → HasVersion words version × (bytes ≡ first_line words version ++ rest)
     of_digit w v left whole has test made =
         let found = header_end_is w version left rest made in
-        rw (← found.0) (has, whole ∙ ap (λ (k : ℕ). words.title ++ k ∷ left) (eqb-true v (version_digit w) test) ∙ ap (λ (t : List ℕ). words.title ++ version_digit w ∷ t) found.1 ∙ sym (first_parts words w rest))
+        rw (← found.0) (has, whole ∙ ap (λ (k : ℕ). words.title ++ k ∷ left) test ∙ ap (λ (t : List ℕ). words.title ++ version_digit w ∷ t) found.1 ∙ sym (first_parts words w rest))
 
 end_of : (version : Version) (rest : List ℕ) → header_end version (10 ∷ rest) ≡ Ok (version, rest)
 unfolding header_end word_at

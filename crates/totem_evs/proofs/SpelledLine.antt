@@ -12,6 +12,7 @@ use Rattle.totem_evs.specs.declared.ending.Ending.TheVariants.{Standing, Failed,
 use Rattle.totem_evs.specs.declared.lines.Line.{Line}
 use Rattle.totem_evs.specs.declared.lines.Line.TheVariants as lines
 use Rattle.totem_evs.specs.RunGrammar.{members_at, change_at, send_at, delivery_at, open_at, quiet_at, failed_at, fail_at, ail_at, failure_at, line_at}
+use Rattle.totem_evs.proofs.PartFaults.{byte_pick}
 use Rattle.totem_evs.proofs.FromLeft.{MembersFrom, are_members, members_from}
 
 -- ---- members
@@ -147,23 +148,18 @@ delivery_is version full some failed l bytes rest e =
     let fits : Fits version full some failed 100 bytes (lines.Entry (Deliver m x)) b3 = record { is = (g.0, (t3.0, t2.0)); spelled = text } in
     rw (← q.0, ← q.1) fits)))
 
-both_true : (a b : Bool) → (a && b) ≡ true → (a ≡ true) × (b ≡ true)
-both_true true b h = (refl, h)
-both_true false b h = absurd cc
-
-not_true : (a : Bool) → not a ≡ true → a ≡ false
-not_true true h = absurd cc
-not_true false h = refl
+pub both_true : (a b : Bool) → (a && not b) ≡ true → (a ≡ true) × (b ≡ false)
+both_true a b h = grind arith
 
 open_is : (version : Version) (full some failed : Bool) (l : Line) (bytes rest : List ℕ) → open_at some failed bytes ≡ Ok (l, rest) → Fits version full some failed 111 bytes l rest
 unfolding open_at
 open_is version full some failed l bytes rest e =
     let g = guard_then (some && not failed) (word_at faults.Word (line (codes "pen")) bytes >>= λ w. Ok (lines.Close Standing, w.1)) faults.End (l, rest) e in
-    let tests = both_true some (not failed) g.0 in
+    let tests = both_true some failed g.0 in
     after (word_at faults.Word (line (codes "pen")) bytes) (λ w. Ok (lines.Close Standing, w.1)) (l, rest) g.1 (λ w b1 e1 made.
     let q = parsed_is (lines.Close Standing) l b1 rest made in
     let t1 = word_is faults.Word (line (codes "pen")) bytes b1 w e1 in
-    let fits : Fits version full some failed 111 bytes (lines.Close Standing) b1 = record { is = (tests.0, not_true failed tests.1); spelled = ap (λ (t : List ℕ). 111 ∷ t) t1 } in
+    let fits : Fits version full some failed 111 bytes (lines.Close Standing) b1 = record { is = (tests.0, tests.1); spelled = ap (λ (t : List ℕ). 111 ∷ t) t1 } in
     rw (← q.0, ← q.1) fits)
 
 quiet_is : (version : Version) (full some failed : Bool) (l : Line) (bytes rest : List ℕ) → quiet_at (writes_quiet version) some failed bytes ≡ Ok (l, rest) → Fits version full some failed 113 bytes l rest
@@ -171,11 +167,11 @@ unfolding quiet_at
 quiet_is version full some failed l bytes rest e =
     let d = guard_then (writes_quiet version) (cond (some && not failed) (word_at faults.Word (line (codes "uiet")) bytes >>= λ w. Ok (lines.Close Quiet, w.1)) (Err faults.End)) faults.Word (l, rest) e in
     let g = guard_then (some && not failed) (word_at faults.Word (line (codes "uiet")) bytes >>= λ w. Ok (lines.Close Quiet, w.1)) faults.End (l, rest) d.1 in
-    let tests = both_true some (not failed) g.0 in
+    let tests = both_true some failed g.0 in
     after (word_at faults.Word (line (codes "uiet")) bytes) (λ w. Ok (lines.Close Quiet, w.1)) (l, rest) g.1 (λ w b1 e1 made.
     let q = parsed_is (lines.Close Quiet) l b1 rest made in
     let t1 = word_is faults.Word (line (codes "uiet")) bytes b1 w e1 in
-    let fits : Fits version full some failed 113 bytes (lines.Close Quiet) b1 = record { is = (d.0, tests.0, not_true failed tests.1); spelled = ap (λ (t : List ℕ). 113 ∷ t) t1 } in
+    let fits : Fits version full some failed 113 bytes (lines.Close Quiet) b1 = record { is = (d.0, tests.0, tests.1); spelled = ap (λ (t : List ℕ). 113 ∷ t) t1 } in
     rw (← q.0, ← q.1) fits)
 
 failed_is : (version : Version) (full some failed : Bool) (l : Line) (bytes rest : List ℕ) → failed_at failed bytes ≡ Ok (l, rest) → IsLine version full some failed l × (codes "faile" ++ bytes ≡ line_text version l ++ rest)
@@ -206,49 +202,39 @@ ail_is version full some failed l bytes rest e =
     let t1 = word_is faults.Word (codes "ail") bytes b1 w e1 in
     let t2 = byte_is b1 b b2 e2 in
     let whole : 102 ∷ bytes ≡ codes "fail" ++ b ∷ b2 = ap (λ (t : List ℕ). 102 ∷ t) (t1 ∙ ap (λ (t : List ℕ). codes "ail" ++ t) t2) in
-    elim (taken (b == 101) (failed_at failed b2) (cond (b == 32) (fail_at full b2) (Err faults.Word)) (Ok (l, rest)) m2) [
-      | inl r ↦
-          let same : b ≡ 101 = eqb-true _ _ r.0 in
-          let found = failed_is version full some failed l b2 rest r.1 in
-          record { is = found.0; spelled = whole ∙ ap (λ (k : ℕ). codes "fail" ++ k ∷ b2) same ∙ found.1 }
-      | inr other ↦
-          let t = guard_then (b == 32) (fail_at full b2) faults.Word (l, rest) other.1 in
-          let same : b ≡ 32 = eqb-true _ _ t.0 in
-          let found = fail_is version full some failed l b2 rest t.1 in
-          record { is = found.0; spelled = whole ∙ ap (λ (k : ℕ). codes "fail" ++ k ∷ b2) same ∙ found.1 }
-    ]))
+    byte_pick b 101 _ _ _ m2 (λ h k.
+    let found = failed_is version full some failed l b2 rest k in
+    record { is = found.0; spelled = whole ∙ ap (λ (k : ℕ). codes "fail" ++ k ∷ b2) h ∙ found.1 }) (λ k.
+    byte_pick b 32 _ _ _ k (λ h k.
+    let found = fail_is version full some failed l b2 rest k in record { is = found.0; spelled = whole ∙ ap (λ (k : ℕ). codes "fail" ++ k ∷ b2) h ∙ found.1 }) (λ k.
+    absurd cc))))
 
 failure_is : (version : Version) (full some failed : Bool) (l : Line) (bytes rest : List ℕ) → failure_at full failed bytes ≡ Ok (l, rest) → Fits version full some failed 102 bytes l rest
 unfolding failure_at
 failure_is version full some failed l bytes rest e = ail_is version full some failed l bytes rest (guard_else (full && not failed) (ail_at full failed bytes) faults.TooMany (l, rest) e).1
 
 -- by the letter
-led : (version : Version) (full some failed : Bool) (letter b : ℕ) (bytes mid : List ℕ) (l : Line) (rest : List ℕ) → bytes ≡ b ∷ mid → (b == letter) ≡ true → Fits version full some failed letter mid l rest → IsLine version full some failed l × (bytes ≡ line_text version l ++ rest)
-led version full some failed letter b bytes mid l rest whole test fits = (fits.is, whole ∙ ap (λ (k : ℕ). k ∷ mid) (eqb-true b letter test) ∙ fits.spelled)
+led : (version : Version) (full some failed : Bool) (letter b : ℕ) (bytes mid : List ℕ) (l : Line) (rest : List ℕ) → bytes ≡ b ∷ mid → b ≡ letter → Fits version full some failed letter mid l rest → IsLine version full some failed l × (bytes ≡ line_text version l ++ rest)
+led version full some failed letter b bytes mid l rest whole same fits = (fits.is, whole ∙ ap (λ (k : ℕ). k ∷ mid) same ∙ fits.spelled)
 
 pub line_is : (version : Version) (full some failed : Bool) (l : Line) (bytes rest : List ℕ) → line_at version full some failed bytes ≡ Ok (l, rest) → IsLine version full some failed l × (bytes ≡ line_text version l ++ rest)
 unfolding line_at
 line_is version full some failed l bytes rest e =
     after (byte_at bytes) (λ b. cond (b.0 == 99) (change_at version full b.1) (cond (b.0 == 115) (send_at full b.1) (cond (b.0 == 100) (delivery_at full b.1) (cond (b.0 == 102) (failure_at full failed b.1) (cond (b.0 == 111) (open_at some failed b.1) (cond (b.0 == 113) (quiet_at (writes_quiet version) some failed b.1) (Err faults.Word))))))) (l, rest) e (λ b mid e1 more.
     let whole = byte_is bytes b mid e1 in
-    elim (taken (b == 99) (change_at version full mid) (cond (b == 115) (send_at full mid) (cond (b == 100) (delivery_at full mid) (cond (b == 102) (failure_at full failed mid) (cond (b == 111) (open_at some failed mid) (cond (b == 113) (quiet_at (writes_quiet version) some failed mid) (Err faults.Word)))))) (Ok (l, rest)) more) [
-      | inl r ↦ led version full some failed 99 b bytes mid l rest whole r.0 (change_is version full some failed l mid rest r.1)
-      | inr o1 ↦ elim (taken (b == 115) (send_at full mid) (cond (b == 100) (delivery_at full mid) (cond (b == 102) (failure_at full failed mid) (cond (b == 111) (open_at some failed mid) (cond (b == 113) (quiet_at (writes_quiet version) some failed mid) (Err faults.Word))))) (Ok (l, rest)) o1.1) [
-        | inl r ↦ led version full some failed 115 b bytes mid l rest whole r.0 (send_is version full some failed l mid rest r.1)
-        | inr o2 ↦ elim (taken (b == 100) (delivery_at full mid) (cond (b == 102) (failure_at full failed mid) (cond (b == 111) (open_at some failed mid) (cond (b == 113) (quiet_at (writes_quiet version) some failed mid) (Err faults.Word)))) (Ok (l, rest)) o2.1) [
-          | inl r ↦ led version full some failed 100 b bytes mid l rest whole r.0 (delivery_is version full some failed l mid rest r.1)
-          | inr o3 ↦ elim (taken (b == 102) (failure_at full failed mid) (cond (b == 111) (open_at some failed mid) (cond (b == 113) (quiet_at (writes_quiet version) some failed mid) (Err faults.Word))) (Ok (l, rest)) o3.1) [
-            | inl r ↦ led version full some failed 102 b bytes mid l rest whole r.0 (failure_is version full some failed l mid rest r.1)
-            | inr o4 ↦ elim (taken (b == 111) (open_at some failed mid) (cond (b == 113) (quiet_at (writes_quiet version) some failed mid) (Err faults.Word)) (Ok (l, rest)) o4.1) [
-              | inl r ↦ led version full some failed 111 b bytes mid l rest whole r.0 (open_is version full some failed l mid rest r.1)
-              | inr o5 ↦
-                  let t = guard_then (b == 113) (quiet_at (writes_quiet version) some failed mid) faults.Word (l, rest) o5.1 in
-                  led version full some failed 113 b bytes mid l rest whole t.0 (quiet_is version full some failed l mid rest t.1)
-            ]
-          ]
-        ]
-      ]
-    ])
+    byte_pick b 99 _ _ _ more (λ h k.
+    led version full some failed 99 b bytes mid l rest whole h (change_is version full some failed l mid rest k)) (λ k.
+    byte_pick b 115 _ _ _ k (λ h k.
+    led version full some failed 115 b bytes mid l rest whole h (send_is version full some failed l mid rest k)) (λ k.
+    byte_pick b 100 _ _ _ k (λ h k.
+    led version full some failed 100 b bytes mid l rest whole h (delivery_is version full some failed l mid rest k)) (λ k.
+    byte_pick b 102 _ _ _ k (λ h k.
+    led version full some failed 102 b bytes mid l rest whole h (failure_is version full some failed l mid rest k)) (λ k.
+    byte_pick b 111 _ _ _ k (λ h k.
+    led version full some failed 111 b bytes mid l rest whole h (open_is version full some failed l mid rest k)) (λ k.
+    byte_pick b 113 _ _ _ k (λ h k.
+    led version full some failed 113 b bytes mid l rest whole h (quiet_is version full some failed l mid rest k)) (λ k.
+    absurd cc)))))))
 
 -- ---- a line that is spelled so
 
@@ -280,25 +266,12 @@ fail_again : (x : ConfId) (failed : Bool) (rest : List ℕ) → IsConf x → fai
 unfolding failure_at ail_at fail_at
 fail_again x failed rest is = rw (word_again faults.Word (codes "ail") (32 ∷ (conf_text x ++ 10 ∷ rest)), conf_again 10 x rest refl is) refl
 
-failed_again : (full : Bool) (rest : List ℕ) → failure_at full true (codes "ailed" ++ 10 ∷ rest) ≡ Ok (lines.Close Failed, rest)
-unfolding failure_at ail_at failed_at
-failed_again true rest = rw (word_again faults.Word (codes "ail") (codes "ed" ++ 10 ∷ rest), word_again faults.Word (line (codes "d")) rest) refl
-failed_again false rest = rw (word_again faults.Word (codes "ail") (codes "ed" ++ 10 ∷ rest), word_again faults.Word (line (codes "d")) rest) refl
-
-open_again : (rest : List ℕ) → open_at true false (codes "pen" ++ 10 ∷ rest) ≡ Ok (lines.Close Standing, rest)
-unfolding open_at
-open_again rest = rw (word_again faults.Word (line (codes "pen")) rest) refl
-
-quiet_again : (rest : List ℕ) → quiet_at true true false (codes "uiet" ++ 10 ∷ rest) ≡ Ok (lines.Close Quiet, rest)
-unfolding quiet_at
-quiet_again rest = rw (word_again faults.Word (line (codes "uiet")) rest) refl
-
 pub line_again : (version : Version) (full some failed : Bool) (l : Line) (rest : List ℕ) → IsLine version full some failed l → line_at version full some failed (line_text version l ++ rest) ≡ Ok (l, rest)
-unfolding line_at
+unfolding line_at open_at quiet_at failure_at ail_at failed_at word_at
 line_again version full some failed (lines.Entry (Conf x ms)) rest is = ap (line_at version full some failed) (change_parts (conf_text x) (members_text (process_text version) ms) rest) ∙ rw is.0 (change_again version x ms rest is.1.0 is.1.1)
 line_again version full some failed (lines.Entry (Send m x s)) rest is = ap (line_at version full some failed) (send_parts (conf_text x) (service_text s) (message_text m) rest) ∙ rw is.0 (send_again x s m rest is.1.1 is.1.0)
 line_again version full some failed (lines.Entry (Deliver m x)) rest is = ap (line_at version full some failed) (delivery_parts (conf_text x) (message_text m) rest) ∙ rw is.0 (delivery_again x m rest is.1.1 is.1.0)
 line_again version full some failed (lines.Entry (Fail x)) rest is = ap (line_at version full some failed) (fail_parts (conf_text x) rest) ∙ rw is.0 (fail_again x failed rest is.1)
-line_again version full some failed (lines.Close Standing) rest is = rw (is.0, is.1) (open_again rest)
-line_again version full some failed (lines.Close Failed) rest is = rw is (failed_again full rest)
-line_again version full some failed (lines.Close Quiet) rest is = rw (is.0, is.1, is.2) (quiet_again rest)
+line_again version full some failed (lines.Close Standing) rest is = rw (is.0, is.1) refl
+line_again version full some failed (lines.Close Failed) rest is = grind arith
+line_again version full some failed (lines.Close Quiet) rest is = rw (is.0, is.1, is.2) refl

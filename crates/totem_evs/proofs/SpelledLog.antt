@@ -46,11 +46,10 @@ EndsSo written failed Failed = failed ≡ true
 EndsSo written failed Quiet = (written ≡ true) × (failed ≡ false)
 
 pub ends_if : (written failed : Bool) → EndsSo written failed (ending_if failed)
-ends_if written true = refl
-ends_if written false = refl
+ends_if written failed = grind arith
 
 never_fails : (es : List Entry) → ends_in_failure false es ≡ false → EndsInFail es → ⊥
-never_fails es h found = let j = last_fails false es found.0 found.1 found.2 found.3 found.4 in let i = sym h ∙ j in cc
+never_fails es h found = grind (arith, last_fails)
 
 pub closed_by : (written : Bool) (es : List Entry) (ending : Ending) → EndsSo written (ends_in_failure false es) ending → IsClosedBy es ending
 closed_by written es Standing h = (λ f. absurd cc, λ found. absurd (never_fails es h found))
@@ -156,8 +155,7 @@ abbrev pub body_text : Version → List Entry → Ending → List ℕ → List �
 body_text version entries ending rest = entries_text version entries ++ (line (ending_text ending) ++ rest)
 
 pub some_of : (es : List Entry) → has_some false es ≡ true → 0 < length es
-some_of [] h = absurd cc
-some_of (e ∷ es) h = omega arith
+some_of es h = grind arith
 
 -- a log is made of what was read
 pub made_log : (version : Version) (p : ℕ) (es : List Entry) (ending : Ending) → IsProcessIn version p → IsBody version 1000001 false false es ending → IsLogIn version (record { proc = p; entries = es; ending = ending })

@@ -1,5 +1,5 @@
 -- The state of a reader of parts, part after part.
-use Rattle.totem_evs.proofs.Common.{Contains, ◌↔◌, ◌==◌, ◌≡◌, ◌≢◌, ◌⊎◌, ◌+◌, ◌≤◌, ℕ, List, [], ◌∷◌, ◌++◌, false, Option, Some, None, refl, sym, arith, Version, append-nil, length_push, nat_tests, members_of, next_stage, with_entry, ReadState, IsReadState, Goes, MayCome, ComesIn}
+use Rattle.totem_evs.proofs.Common.{Contains, ◌↔◌, ◌==◌, ◌≡◌, ◌≢◌, ◌⊎◌, ◌+◌, ◌≤◌, ℕ, List, [], ◌∷◌, ◌++◌, false, Option, Some, refl, sym, arith, Version, append-nil, length_push, nat_tests, members_of, next_stage, with_entry, ReadState, IsReadState, Goes, MayCome, ComesIn}
 use Rattle.std.specs.Option.{ForSome}
 use Rattle.totem_evs.specs.declared.ending.Ending.{Ending}
 use Rattle.totem_evs.specs.declared.entry.Entry.{Entry}
@@ -13,8 +13,7 @@ below_limit : (n limit : ℕ) → (n == limit) ≡ false → n ≤ limit → n +
 below_limit n limit other le = grind (arith, nat_tests)
 
 logs_left : (version : Version) (logs last : ℕ) (log : Option OpenLog) (p : ℕ) → ComesIn version logs last log (Some (parts.Log p)) → (logs == 32) ≡ false
-logs_left version logs last None p h = h.0
-logs_left version logs last (Some log) p h = absurd h
+logs_left version logs last log p h = grind arith
 
 entries_left : (version : Version) (logs last : ℕ) (log : Option OpenLog) (e : Entry) → ForSome log (λ l. l.entries ≤ 1000000) → ComesIn version logs last log (Some (parts.Entry e)) → ForSome (with_entry log e) (λ l. l.entries ≤ 1000000)
 entries_left version logs last log e h k = grind (arith, below_limit)

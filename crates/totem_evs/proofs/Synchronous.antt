@@ -19,8 +19,7 @@ use Rattle.totem_evs.proofs.BreaksIn.{breaks_in}
 -- ---- passes A and B
 
 none_listed : (run : List Log) (k : SpecNo) (ks : List SpecNo) → Lists run (k ∷ ks) [] → Meets run k × Lists run ks []
-none_listed run k ks (inl h) = h
-none_listed run k ks (inr (places, rest, is, least, more)) = absurd cc
+none_listed run k ks h = grind arith
 
 pub meets_passes : (run : List Log) → Lists run pass_a [] → Lists run pass_b [] → MeetsPasses run
 meets_passes run a b =

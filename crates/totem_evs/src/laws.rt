@@ -4,16 +4,19 @@ ghost use Rattle.totem_evs.specs.OneHop.{ChainsAreFine};
 ghost use Rattle.totem_evs.specs.Meanings.{AnswersAreSound};
 
 /// If some events of a run break a specification, the run does not meet the specifications.
+#[tactic(auto, using(crate::proofs::Consistent::breaks))]
 pub fn breaks_are_breaks()
     ensures { BreaksAreBreaks }
 {}
 
 /// The events of one log are ordered by place (1.2), in every run.
+#[tactic(auto, using(crate::proofs::Precedence::each_log_ordered))]
 pub fn each_log_is_ordered()
     ensures { EachLogIsOrdered }
 {}
 
 /// What precedes one change to a configuration precedes every change to it, and what one precedes, each precedes (2.5), in every run.
+#[tactic(auto, using(crate::proofs::Precedence::each_twins_agree))]
 pub fn twins_agree()
     ensures { EachTwinsAgree }
 {}
@@ -30,6 +33,7 @@ pub fn chains_are_fine()
 
 /// The specified answer for a run means what it says: after a yes the run meets specifications 1 to 7, with a certificate
 /// and all that is left open; after a no each fault breaks its specification, so that the run does not meet them.
+#[tactic(auto, using(crate::proofs::Synchronous::sound))]
 pub fn answers_are_sound()
     ensures { AnswersAreSound }
 {}

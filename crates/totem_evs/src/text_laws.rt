@@ -11,6 +11,7 @@ ghost use Rattle.totem_evs.specs.TextFaults.{BreaksHeader, BreaksNumber, IsInPar
 ghost use Rattle.totem_evs.specs.TextFronts.{IsLooseFront, IsFirstWrong};
 
 /// What the grammar reads as a run keeps the rules of a run, and the bytes read are the text of that run.
+#[tactic(auto, using(crate::proofs::SpelledRun::run_is))]
 pub fn read_is_spelled()
     ensures { (run : RunRecord) (bytes rest : List ℕ) → run_at bytes ≡ Ok (run, rest) → IsRunOf run × (bytes ≡ run_text run ++ rest) }
 {}
@@ -31,6 +32,7 @@ pub fn a_fault_is_no_text()
 {}
 
 /// A fault other than that of a text that ends too soon is the fault of the first byte that breaks a rule of the grammar.
+#[tactic(auto, using(crate::proofs::SteadyRun::run_first_break))]
 pub fn fault_is_first()
     ensures { (bytes : List ℕ) (fault : TextFault) → is_short fault ≡ false → run_at bytes ≡ Err fault → FirstBreak run_at bytes fault }
 {}
@@ -38,12 +40,14 @@ pub fn fault_is_first()
 /// If the grammar finds the input too short, some text of a run continues it, with one exception: the last log need not be
 /// above the one before, nor the last member of the last entry, since the order of a process is judged only at the byte
 /// after it.
+#[tactic(auto, using(crate::proofs::RunGoesOn::cut_front))]
 pub fn cut_text_goes_on()
     ensures { (bytes : List ℕ) → run_at bytes ≡ Err Truncated → IsLooseFront bytes }
 {}
 
 /// At each other fault, some text of a run continues, in the same sense, the bytes before the first one that breaks
 /// a rule of the grammar; no run's text begins with that byte too.
+#[tactic(auto, using(crate::proofs::RunGoesOn::first_wrong))]
 pub fn fault_byte_is_first()
     ensures { (bytes : List ℕ) (fault : TextFault) → run_at bytes ≡ Err fault → is_short fault ≡ false → (break : FirstBreak run_at bytes fault) × IsFirstWrong break.front break.byte }
 {}

@@ -1,5 +1,0 @@
-use Rattle.totem_evs.proofs.RunGoesOn.{cut_front}
-use Rattle.totem_evs.proofs.text_laws.cut_text_goes_on.Goals as goal
-
-pub returns : goal.returns
-returns c = cut_front

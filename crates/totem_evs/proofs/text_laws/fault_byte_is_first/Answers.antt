@@ -1,5 +1,0 @@
-use Rattle.totem_evs.proofs.RunGoesOn.{first_wrong}
-use Rattle.totem_evs.proofs.text_laws.fault_byte_is_first.Goals as goal
-
-pub returns : goal.returns
-returns c = first_wrong
