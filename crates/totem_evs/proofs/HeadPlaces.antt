@@ -1,5 +1,5 @@
 -- Where a fault of a first line is, and one of the beginning of a record.
-use Rattle.totem_evs.proofs.Common.{◌==◌, ◌&&◌, nat_le, ◌↔◌, ◌≡◌, ◌≢◌, ℕ, ◌≤◌, inl, inr, List, [], ◌∷◌, ◌++◌, Bool, true, false, cond, Option, Some, Ok, Err, refl, sym, ap, ◌∙◌, arith, rules, eqb-true, nat_tests, Version, One, Two, Three, TextFault, Parsed, ◌>>=◌, process_then_is, process_then_again, taken, word_is, word_again, line, version_digit}
+use Rattle.totem_evs.proofs.Common.{◌==◌, ◌&&◌, nat_le, ◌↔◌, ◌≡◌, ◌≢◌, ℕ, inl, inr, List, [], ◌∷◌, ◌++◌, Bool, true, false, cond, Option, Some, Ok, Err, refl, sym, ap, ◌∙◌, arith, rules, eqb-true, nat_tests, Version, One, Two, Three, TextFault, Parsed, ◌>>=◌, process_then_is, process_then_again, taken, word_is, word_again, line, version_digit}
 use Rattle.totem_names.specs.declared.fault.TextFault.TheVariants as faults
 use Rattle.totem_names.specs.Numbers.{byte_at, word_at}
 use Rattle.totem_names.specs.Processes.{process_then}

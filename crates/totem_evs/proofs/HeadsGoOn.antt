@@ -1,5 +1,5 @@
 -- Where a first line or the beginning of a record is too short, some text continues it.
-use Rattle.totem_evs.proofs.Common.{nat_le, ◌==◌, ◌&&◌, codes, ◌≡◌, ℕ, List, [], ◌∷◌, ◌++◌, Option, Some, None, Ok, Err, Bool, false, cond, refl, sym, ◌∙◌, ap, append_assoc, eqb-true, Version, One, Two, Three, ◌>>=◌, rank_of, process_then_is, byte_is, word_is, line, version_digit}
+use Rattle.totem_evs.proofs.Common.{nat_le, ◌==◌, codes, ◌≡◌, ℕ, List, [], ◌∷◌, ◌++◌, Option, Some, None, Ok, Err, Bool, false, cond, refl, sym, ◌∙◌, ap, append_assoc, eqb-true, Version, One, Two, Three, rank_of, process_then_is, byte_is, word_is, line, version_digit}
 use Rattle.totem_names.specs.declared.fault.TextFault.TheVariants as faults
 use Rattle.totem_names.specs.Processes.{process_text, IsProcessIn}
 use Rattle.totem_evs.specs.Heads.{Words, HasVersion, first_line, proc_at, begin_at, end_at, head_at, header_end, header_at}

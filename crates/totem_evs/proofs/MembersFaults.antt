@@ -1,5 +1,5 @@
 -- Where a fault of a run's text is: members that are not ascending, and what a limit refuses.
-use Rattle.totem_evs.proofs.Common.{◌==◌, nat_le, codes, not, ◌&&◌, ◌↔◌, ◌≡◌, ◌≢◌, ℕ, zero, suc, ◌<◌, ◌≤◌, ◌⊎◌, inl, inr, List, [], ◌∷◌, ◌++◌, length, Bool, true, false, cond, Ok, Err, refl, sym, ap, subst, ◌∙◌, append_assoc, arith, Version, id_of, process_then_is, process_then_again, nat_tests, ConfId, TextFault, ◌>>=◌, conf_text, IsConf, last_of, taken, word_is, word_again, conf_is, conf_again, IsMembersIn, members_text, writes_quiet, BeginsEntry, HasManyMembers, IsMemberBelow}
+use Rattle.totem_evs.proofs.Common.{◌==◌, nat_le, codes, ◌↔◌, ◌≡◌, ◌≢◌, ℕ, zero, suc, ◌<◌, ◌≤◌, ◌⊎◌, inl, inr, List, [], ◌∷◌, ◌++◌, length, Bool, true, false, cond, Ok, Err, refl, sym, ap, subst, ◌∙◌, append_assoc, arith, Version, id_of, process_then_is, process_then_again, nat_tests, ConfId, TextFault, ◌>>=◌, conf_text, IsConf, last_of, taken, word_is, word_again, conf_is, conf_again, IsMembersIn, members_text, writes_quiet, BeginsEntry, HasManyMembers, IsMemberBelow}
 use Rattle.totem_names.specs.Processes.{process_text, process_then, IsProcessIn}
 use Rattle.totem_names.specs.declared.fault.TextFault.TheVariants as faults
 use Rattle.totem_names.specs.Numbers.{is_digit, word_at}

@@ -4,7 +4,6 @@ use Rattle.totem_evs.proofs.Common.{◌==◌, codes, not, ◌&&◌, ◌↔◌, �
 use Rattle.totem_names.specs.declared.fault.TextFault.TheVariants as faults
 use Rattle.totem_names.specs.Numbers.{byte_at, word_at}
 use Rattle.totem_evs.specs.declared.lines.Line.{Line}
-use Rattle.totem_evs.specs.declared.lines.Line.TheVariants as lines
 use Rattle.totem_evs.specs.RunGrammar.{change_at, send_at, delivery_at, open_at, quiet_at, failed_at, fail_at, ail_at, failure_at, line_at}
 use Rattle.totem_evs.proofs.OnlyFaults.{OfNames, OfEntries, fault_only, word_only, word_fault, change_only, send_only, delivery_only, fail_only}
 

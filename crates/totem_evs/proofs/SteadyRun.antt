@@ -1,6 +1,5 @@
 -- The result of a run's grammar doesn't change with what follows.
 use Rattle.totem_evs.proofs.Common.{◌==◌, ◌≡◌, ℕ, zero, suc, List, [], ◌∷◌, Bool, true, false, Option, Some, None, Ok, Err, refl, id_of, Version, process_then_steady, TextFault, Parsed, Steady, FirstBreak, is_short, ◌>>=◌, service_steady}
-use Rattle.totem_names.specs.declared.fault.TextFault.TheVariants as faults
 use Rattle.totem_names.specs.Numbers.{word_at}
 use Rattle.totem_names.proofs.Steady.{gives_steady, fault_steady, bind_steady, cond_steady, byte_steady, word_steady, conf_steady, message_steady, first_break}
 use Rattle.totem_evs.specs.declared.entry.Entry.{Entry}

@@ -34,6 +34,7 @@ mod part_reader;
 mod pending;
 mod reading;
 mod repeats;
+mod roll;
 mod roster;
 mod run;
 mod run_fault;
@@ -42,6 +43,7 @@ mod spec;
 mod stage;
 mod text_laws;
 mod unlogged;
+mod whole_lines;
 mod writing;
 
 pub use ending::Ending;

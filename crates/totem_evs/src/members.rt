@@ -6,7 +6,7 @@ ghost use Rattle.totem_evs.specs.Members.{IsMembers, IsBelow};
 use std::alloc::{AllocError, Global};
 use std::marker::Model;
 use std::sync::Arc;
-use totem_names::{Proc, Refused, are_same, rising_fault};
+use totem_names::{Proc, Refused, rising_fault};
 
 /// How many members a configuration may have at most.
 const MOST: usize = 32;
@@ -79,11 +79,22 @@ impl Members {
         false
     }
 
-    /// Returns whether the two are the same members: `==` in a form that contracts can use.
+    /// Returns whether the two are the same members: `==` in a form that contracts can use. Compares all of them, without a branch for each,
+    /// since most lists that are compared are the same.
     pub fn is(&self, other: &Members) -> bool
         ensures { IsTrue result ↔ (self.now ≡ other.now) }
     {
-        are_same(self.as_slice(), other.as_slice())
+        let these = self.as_slice();
+        let those = other.as_slice();
+        if these.len() != those.len() {
+            return false;
+        }
+        let mut same = true;
+        for i in 0..these.len() {
+            let equal = these[i].rank() == those[i].rank();
+            same = same && equal;
+        }
+        same
     }
 
     /// Returns a copy, which shares the list. Fails only if there are already as many copies as can be counted.

@@ -44,22 +44,6 @@ fn read_between<S: Source>(
     }
 }
 
-// Reads the next line of a log that has not ended, and notes how it begins.
-fn read_next<S: Source>(
-    alloc: Global,
-    source: &mut S,
-    version: Version,
-    log: OpenLog,
-    repeats: &mut Repeats,
-) -> Result<Line, ReadError>
-    ensures read { Reads (seen S.remaining S.failures source.old)
-        (seen S.remaining S.failures source.new) result (line_at version (log.entries == 1000000) (nat_lt 0 log.entries) log.failed) }
-    ensures follows { IfOk result (FollowsIn (writes_quiet version) log) }
-{
-    repeats.note(alloc, source.at_hand())?;
-    read_line(alloc, source, version, log, repeats)
-}
-
 // Reads the next line of a log that has not ended: an entry, or its end.
 #[tactic(auto, using(crate::proofs::ReaderSteps::reader_steps), unfolding(crate::specs::Parts::within_at))]
 fn read_within<S: Source>(
@@ -73,7 +57,7 @@ fn read_within<S: Source>(
         (seen S.remaining S.failures source.new) result (within_at version log.entries log.failed) }
     ensures comes { IfOk result (ComesWithin (writes_quiet version) log.entries log.failed) }
 {
-    let line = read_next(alloc, source, version, log, repeats)?;
+    let line = read_line(alloc, source, version, log, repeats)?;
     match line {
         Line::Close(ending) => Ok(Some(Part::Close(ending))),
         Line::Entry(entry) => Ok(Some(Part::Entry(entry))),
@@ -126,7 +110,7 @@ impl PartReader {
         PartReader {
             stage: Stage::first(version),
             roster: Roster::new(alloc),
-            repeats: Repeats::new(alloc),
+            repeats: Repeats::new(),
         }
     }
 
@@ -193,6 +177,35 @@ impl PartReader {
         entry.keeps_its_rule();
         self.stage.pass_entry(&entry);
         Some(entry)
+    }
+
+    /// Takes the next entry if all of its line is at hand, and it is a send, a delivery, or a change with the members of the one before it.
+    /// Otherwise takes nothing.
+    #[inline(never)]
+    pub fn take_whole<S: Source>(
+        &mut self,
+        alloc: Global,
+        source: &mut S,
+    ) -> Result<Option<Entry>, AllocError>
+        requires { IsReadState self.old }
+        ensures taken { IfOk result (λ found. IfSome found (λ e. HasPart (seen S.remaining S.failures source.old)
+            (seen S.remaining S.failures source.new) self.old (parts.Entry e) self.new)) }
+        ensures kept { IfOk result (λ found. IfNone found (Keeps (S.remaining source.old) (S.remaining source.new) × (self.new ≡ self.old))) }
+        ensures failures { S.failures source.new ≡ S.failures source.old }
+        ensures limits { IfOk result (λ found. IsReadState self.new) }
+    {
+        let Some(log) = self.stage.log else {
+            return Ok(None);
+        };
+        if log.is_full() {
+            return Ok(None);
+        }
+        let Some(entry) = self.repeats.take_whole(alloc, source, self.stage.version)? else {
+            return Ok(None);
+        };
+        entry.keeps_its_rule();
+        self.add_entry(&entry)?;
+        Ok(Some(entry))
     }
 
     /// Reads the next part, or returns `None` once it has read the last line. A member without a log is found only then. After

@@ -50,6 +50,7 @@ impl Gathered {
     }
 
     /// Adds the next entry.
+    #[inline(always)]
     fn add_entry(&mut self, entry: Entry) -> Result<(), AllocError>
         ensures { OnOk result (self.new ≡ gathered self.old (parts.Entry entry)) }
     {
@@ -113,6 +114,10 @@ pub fn read_run<S: Source>(alloc: Global, source: &mut S) -> Result<Run, RunFaul
     let mut logs = Gathered::new(alloc);
     'parts: loop {
         if let Some(entry) = parts.take_repeat(source) {
+            logs.add_entry(entry)?;
+            continue 'parts;
+        }
+        if let Some(entry) = parts.take_whole(alloc, source)? {
             logs.add_entry(entry)?;
             continue 'parts;
         }

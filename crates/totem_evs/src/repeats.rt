@@ -11,8 +11,9 @@ ghost use Rattle.totem_evs.specs.RunGrammar.{line_at, members_at};
 ghost use Rattle.totem_evs.specs.LineStarts.{BeginsWith, start_at, send_start, delivery_start, entry_of};
 
 use crate::entry::Entry;
-use crate::lines::read_members;
 use crate::members::Members;
+use crate::roll::Roll;
+use crate::whole_lines::entry_in;
 use std::alloc::{AllocError, Global};
 use totem_names::{
     ConfId, FromRead, MsgId, ReadError, RingId, Service, Source, TextFault, Version, next,
@@ -23,7 +24,7 @@ use totem_names::{
 const LONGEST: usize = 48;
 
 /// What the line of a send or a delivery says before the number of its message.
-#[derive(Clone, Copy)]
+#[derive(Clone, Copy, PartialEq, Eq)]
 enum Said {
     Send(RingId, ConfId, Service),
     Deliver(RingId, ConfId),
@@ -135,16 +136,16 @@ impl Start {
 /// The start with which lines of one kind repeat.
 #[derive(Drop)]
 struct Repeat {
-    /// The start of the last line that was not read at once.
-    last: Vec<u8>,
+    /// What the last line said that did not repeat the start.
+    last: Option<Said>,
     /// The start that came twice.
     start: Option<Start>,
 }
 
 impl Repeat {
-    fn new(alloc: Global) -> Repeat {
+    fn new() -> Repeat {
         Repeat {
-            last: Vec::new(alloc),
+            last: None,
             start: None,
         }
     }
@@ -156,65 +157,16 @@ impl Repeat {
         if begins { Some(start) } else { None }
     }
 
-    fn note(&mut self, alloc: Global, start: &[u8]) -> Result<(), AllocError> {
-        if self.last.as_slice() == start {
+    // Notes what the line with which these bytes begin says before the number of its message.
+    fn note(&mut self, alloc: Global, said: Said, bytes: &[u8]) -> Result<(), AllocError> {
+        if let Some(last) = self.last
+            && last == said
+            && let Some(start) = start_in(bytes)
+        {
             self.start = Start::of(alloc, start)?;
-            return Ok(());
         }
-        self.last.clear();
-        self.last.extend_from_slice(start)
-    }
-}
-
-/// The members of a change, with their text up to the end of the line.
-#[derive(Drop)]
-struct Roll {
-    version: Version,
-    members: Members,
-    text: Vec<u8>,
-    ghost spelled: { Settles (members_at version 32 0) text.items members },
-}
-
-impl Roll {
-    /// Returns the members whose text comes first in these bytes, or `None` if none does.
-    fn of(alloc: Global, bytes: &[u8], version: Version) -> Result<Option<Roll>, AllocError> {
-        let Some(at) = bytes.iter().position(|byte| *byte == b'\n') else {
-            return Ok(None);
-        };
-        let Some(line) = bytes.get(..=at) else {
-            return Ok(None);
-        };
-        let mut source = FromRead::new(line);
-        let members = match read_members(alloc, &mut source, version) {
-            Ok(members) => members,
-            Err(ReadError::Memory) => return Err(AllocError),
-            Err(_) => return Ok(None),
-        };
-        let Ok(None) = source.byte() else {
-            return Ok(None);
-        };
-        let mut text = Vec::new(alloc);
-        text.extend_from_slice(line)?;
-        Ok(Some(Roll {
-            version,
-            members,
-            text,
-        }))
-    }
-
-    /// Takes the text of the members if it comes next and is at hand. Otherwise takes nothing.
-    fn take<S: Source>(&self, source: &mut S, version: Version) -> bool
-        ensures taken { result ≡ true → Comes (seen S.remaining S.failures source.old)
-            (seen S.remaining S.failures source.new) (members_at version 32 0) (λ more. Ok (self.now.members, more)) }
-        ensures kept { result ≡ false → Keeps (S.remaining source.old) (S.remaining source.new) }
-        ensures failures { S.failures source.new ≡ S.failures source.old }
-    {
-        let text = self.text.as_slice();
-        let begins = source.at_hand().starts_with(text);
-        if version != self.version || !begins {
-            return false;
-        }
-        source.skip(text.len())
+        self.last = Some(said);
+        Ok(())
     }
 }
 
@@ -231,11 +183,11 @@ pub struct Repeats {
 
 impl Repeats {
     /// Returns what is known before the first line.
-    pub fn new(alloc: Global) -> Repeats {
+    pub fn new() -> Repeats {
         Repeats {
-            deliveries: Repeat::new(alloc),
-            agreed: Repeat::new(alloc),
-            safe: Repeat::new(alloc),
+            deliveries: Repeat::new(),
+            agreed: Repeat::new(),
+            safe: Repeat::new(),
             roll: None,
             members: None,
         }
@@ -244,7 +196,7 @@ impl Repeats {
     // Returns whether these bytes begin with the text of the last members.
     fn knows(&self, bytes: &[u8], version: Version) -> bool {
         match &self.roll {
-            Some(roll) => roll.version == version && bytes.starts_with(roll.text.as_slice()),
+            Some(roll) => roll.members_in(bytes, 0, version).is_some(),
             None => false,
         }
     }
@@ -266,13 +218,10 @@ impl Repeats {
         if !known {
             self.roll = Roll::of(alloc, source.at_hand(), version)?;
         }
-        let Some(roll) = &self.roll else {
-            return Ok(None);
-        };
-        if !roll.take(source, version) {
-            return Ok(None);
+        match &self.roll {
+            Some(roll) => Ok(roll.take(source, version)),
+            None => Ok(None),
         }
-        Ok(Some(roll.members.try_clone()?))
     }
 
     /// Returns the members of a change whose text was not at hand. If the last such change had the same ones, both share one list.
@@ -317,16 +266,50 @@ impl Repeats {
         Some(entry)
     }
 
-    /// Notes the start of the line with which these bytes begin.
-    pub fn note(&mut self, alloc: Global, bytes: &[u8]) -> Result<(), AllocError> {
-        let Some(start) = start_in(bytes) else {
-            return Ok(());
+    // Notes how the line of an entry begins, with which these bytes begin.
+    fn note(&mut self, alloc: Global, entry: &Entry, bytes: &[u8]) -> Result<(), AllocError> {
+        match entry {
+            Entry::Send(message, conf, service) => {
+                let said = Said::Send(message.ring, *conf, *service);
+                match service {
+                    Service::Agreed => self.agreed.note(alloc, said, bytes),
+                    Service::Safe => self.safe.note(alloc, said, bytes),
+                }
+            }
+            Entry::Deliver(message, conf) => {
+                let said = Said::Deliver(message.ring, *conf);
+                self.deliveries.note(alloc, said, bytes)
+            }
+            Entry::Conf(_, _) | Entry::Fail(_) => Ok(()),
+        }
+    }
+
+    /// Takes the next line if all of it is at hand and it is a send, a delivery, or a change that repeats the last members. Otherwise takes
+    /// nothing.
+    #[inline(never)]
+    pub fn take_whole<S: Source>(
+        &mut self,
+        alloc: Global,
+        source: &mut S,
+        version: Version,
+    ) -> Result<Option<Entry>, AllocError>
+        ensures taken { (some failed : Bool) → IfOk result (λ found. IfSome found (λ e. Comes (seen S.remaining S.failures source.old)
+            (seen S.remaining S.failures source.new) (line_at version false some failed) (λ more. Ok (lines.Entry e, more)))) }
+        ensures kept { IfOk result (λ found. IfNone found (Keeps (S.remaining source.old) (S.remaining source.new))) }
+        ensures failures { S.failures source.new ≡ S.failures source.old }
+    {
+        let bytes = source.at_hand();
+        let Some((entry, count)) = entry_in(bytes, version, &self.roll) else {
+            return Ok(None);
         };
-        let repeat = match start.first() {
-            Some(b'd') => &mut self.deliveries,
-            _ if start.windows(3).any(|part| part == b" s ".as_slice()) => &mut self.safe,
-            _ => &mut self.agreed,
-        };
-        repeat.note(alloc, start)
+        if count > bytes.len() {
+            return Ok(None);
+        }
+        self.note(alloc, &entry, bytes)?;
+        let skipped = source.skip(count);
+        if !skipped {
+            return Ok(None);
+        }
+        Ok(Some(entry))
     }
 }

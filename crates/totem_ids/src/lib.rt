@@ -6,12 +6,13 @@
 pub use totem_names::{
     Buffered, ConfId, Failed, FromRead, Fused, Keyed, ListFault, Listed, MsgId, Pieces, Place,
     Proc, ProcId, ReadError, Refused, RingId, Service, Sink, Source, TextFault, TextPlace, ToWrite,
-    Version, WrittenProc, are_same, bounded, conf_fits, conf_order, conf_spelling, copied,
-    life_fits, life_order, life_spelling, message_fits, message_order, message_spelling, next,
-    number, number_spelling, number_to, number_within, place_fits, place_order, place_spelling,
-    process_fits, process_spelling, read_conf, read_message, read_place, read_proc, read_process,
-    read_process_to, read_ring, read_service, ring_fits, ring_order, ring_spelling, rising,
-    rising_fault, service_spelling, word, write_message, write_number, write_process,
+    Version, WrittenProc, are_same, bounded, byte_in, conf_fits, conf_in, conf_order,
+    conf_spelling, copied, life_fits, life_order, life_spelling, message_fits, message_in,
+    message_order, message_spelling, next, number, number_spelling, number_to, number_within,
+    place_fits, place_order, place_spelling, process_fits, process_spelling, read_conf,
+    read_message, read_place, read_proc, read_process, read_process_to, read_ring, read_service,
+    ring_fits, ring_order, ring_spelling, rising, rising_fault, service_in, service_spelling, word,
+    word_in, write_message, write_number, write_process,
 };
 pub use totem_packets::{
     Body, CommitMember, CommitMembers, CommitToken, Join, Life, Message, Number, Packet,

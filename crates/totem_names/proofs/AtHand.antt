@@ -21,7 +21,7 @@ pub kept_none : {Y : Type 0} (a b : Seen) (parse : List ℕ → Result Y TextFau
 kept_none a b parse keeps same = record { read = []; taken = keeps_none a.remaining b.remaining keeps; failures = same; left = λ more. refl; before = wants_none parse }
 
 -- the first of the bytes at hand were skipped
-skips_front : (hand : List ℕ) (count : ℕ) (old new : Option (List ℕ)) → count ≤ length hand → IfSome old (λ bytes. StartsWith bytes hand) → Skips old new count → Consumes old new (take count hand)
+pub skips_front : (hand : List ℕ) (count : ℕ) (old new : Option (List ℕ)) → count ≤ length hand → IfSome old (λ bytes. StartsWith bytes hand) → Skips old new count → Consumes old new (take count hand)
 skips_front hand count old new h k m = grind (arith, common_steps, starts_with_rest, take-append-le)
 
 -- bytes at hand settle a value, and they were taken
@@ -60,6 +60,9 @@ word_short : (fault : TextFault) (front : List ℕ) (byte : ℕ) → word_at fau
 unfolding word_at
 word_short fault [] byte = refl
 word_short fault (w ∷ front) byte = let test : (w == w) ≡ true = search rules in rw test (word_short fault front byte)
+
+pub word_settles : (fault : TextFault) (word : List ℕ) → Settles (word_at fault word) word tt
+word_settles fault word = record { left = word_whole fault word; before = λ front byte h. rw h (word_short fault front byte) }
 
 -- the bytes taken are the word
 pub word_taken : (a b : Seen) (fault : TextFault) (word : List ℕ) → Consumes a.remaining b.remaining word → b.failures ≡ a.failures

@@ -10,6 +10,7 @@ pub mod ServiceSpelling
 pub mod RankParts
 pub mod Lives
 pub mod AtHand
+pub mod InHand
 pub mod Each
 pub mod Rises
 pub mod Kept

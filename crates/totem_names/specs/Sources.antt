@@ -1,5 +1,5 @@
 -- What a parser returns, and what a reader of a source returns and leaves unread.
-use Rattle.std.specs.Prelude.{◌≡◌, ℕ, ◌+◌, ◌%◌, ◌^◌, List, [], ◌∷◌, ◌++◌, Bool, true, false, IfSome, Result, Ok, Err}
+use Rattle.std.specs.Prelude.{◌≡◌, ℕ, ◌+◌, ◌%◌, ◌^◌, List, [], ◌∷◌, ◌++◌, Bool, true, false, Some, IfSome, Result, Ok, Err, drop}
 use Rattle.std.specs.declared.option.Option.{Option}
 use Rattle.std.specs.Io.KnownBytes.{Consumes}
 use Rattle.totem_names.specs.declared.fault.TextFault.{TextFault}
@@ -114,3 +114,13 @@ Reads old new (Ok y) parse = Comes old new parse (λ more. Ok (y, more))
 Reads old new (Err errors.Memory) parse = new.failures ≡ old.failures
 Reads old new (Err errors.Read) parse = Stops old new parse
 Reads old new (Err (errors.Text fault)) parse = Breaks old new parse fault
+
+-- ---- bytes in memory
+
+-- these bytes as a source, after the first of them
+abbrev pub after : List ℕ → ℕ → Seen
+after bytes at = record { remaining = Some (drop at bytes); failures = 0 }
+
+-- a value is spelled from one index of these bytes to another
+abbrev pub Stands : {Y : Type 0} → List ℕ → ℕ → ℕ → (List ℕ → Parsed Y) → Y → Type 0
+Stands bytes at next parse value = Comes (after bytes at) (after bytes next) parse (λ more. Ok (value, more))

@@ -16,6 +16,7 @@
 //!   `FromRead`, `Buffered` and `ToWrite` over streams of the standard library, and `Fused`, which fails on purpose.
 #![tactic(auto)]
 
+mod at_hand;
 mod backward;
 mod buffered;
 mod conf;
@@ -44,6 +45,7 @@ mod text_place;
 mod version;
 mod writing;
 
+pub use at_hand::{byte_in, conf_in, message_in, service_in, word_in};
 pub use backward::{write_message, write_number, write_process};
 pub use buffered::Buffered;
 pub use conf::ConfId;

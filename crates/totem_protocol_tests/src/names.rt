@@ -4,8 +4,8 @@ use std::alloc::{AllocError, Global};
 use std::fmt::Display;
 use totem_names::{
     ConfId, Failed, FromRead, MsgId, Place, Proc, ReadError, RingId, Service, TextFault, Version,
-    next, number, number_to, number_within, read_conf, read_message, read_place, read_proc,
-    read_ring, word,
+    byte_in, conf_in, message_in, next, number, number_to, number_within, read_conf, read_message,
+    read_place, read_proc, read_ring, service_in, word, word_in,
 };
 
 pub(crate) fn ring(seq: u32, rep: u16) -> RingId {
@@ -100,6 +100,27 @@ fn within(alloc: Global, text: &str) -> Result<String, AllocError> {
     }
 }
 
+/// Returns the names in a line of a send, and the index of what follows it.
+fn send_in(bytes: &[u8]) -> Option<(ConfId, Service, MsgId, usize)> {
+    let (_, at) = byte_in(bytes, 0)?;
+    let at = word_in(bytes, at, b"end ")?;
+    let (conf, at) = conf_in(bytes, at, b' ')?;
+    let (service, at) = service_in(bytes, at)?;
+    let at = word_in(bytes, at, b" ")?;
+    let (message, at) = message_in(bytes, at, b' ')?;
+    Some((conf, service, message, at))
+}
+
+/// Returns what `send_in` returns, as text.
+fn in_bytes(alloc: Global, text: &str) -> Result<String, AllocError> {
+    match send_in(text.as_bytes()) {
+        None => String::from_str(alloc, "none"),
+        Some((conf, service, message, at)) => {
+            format!(in alloc; "{conf} {service} {message} {at}")
+        }
+    }
+}
+
 /// Returns what is written or read, as text.
 pub(crate) fn answer(alloc: Global, words: &str) -> Result<String, AllocError> {
     let (kind, text) = words.split_once(' ').unwrap_or((words, ""));
@@ -107,16 +128,20 @@ pub(crate) fn answer(alloc: Global, words: &str) -> Result<String, AllocError> {
         "names" => written_names(alloc),
         "services" => written_words(alloc),
         "within" => within(alloc, text),
+        "bytes" => in_bytes(alloc, text),
         _ => read(alloc, kind, &mut memory(text)),
     }
 }
 
-pub(crate) const NAMES: [Case; 41] = [
+pub(crate) const NAMES: [Case; 44] = [
     ("names", "4.1 r4.1 t8.1/12 4.1#7 2@50"),
     (
         "services",
         "a s the stream failed: the text ends too soon Memory",
     ),
+    ("bytes send t8.1/12 s 4.1#7 more", "t8.1/12 s 4.1#7 21"),
+    ("bytes send r4.1 a 4.1#7", "none"),
+    ("bytes send 4.1 a 4.1#7 ", "none"),
     ("process 65535 ", "65535"),
     ("ring 4.1 ", "4.1"),
     ("conf r4.1 ", "r4.1"),

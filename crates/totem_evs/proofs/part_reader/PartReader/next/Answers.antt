@@ -13,4 +13,6 @@ returns-after-least-clause-read g c =
     ])
 
 pub returns-in_err-read_part-clause-read : goal.returns-in_err-read_part-clause-read
-returns-in_err-read_part-clause-read g c = grind (arith, err_from_is_err_and, part_fault)
+returns-in_err-read_part-clause-read g c =
+    let p = err_from_is_err_and c.from_residual.result c.from_residual.ensures.1 in
+    rw (← c.self.view_is) (rw (p.1, p.2) (part_fault _ _ _ c.args.self.now _ c.in_err-read_part.ensures.read))
