@@ -1,54 +1,12 @@
 -- Entering the changes of a run, one after the other.
-use Rattle.totem_judge_run.proofs.Common.{below_more, ◌≡◌, ℕ, ◌+◌, ◌<◌, ◌≤◌, inl, inr, List, [], ◌∷◌, ◌++◌, length, slice_get, Option, Some, Result, IfOk, Bool, true, false, cond, refl, sym, ◌∙◌, arith, Contains, IsTrue, OnTrue, slice_get_within, RingId, ConfId, Regular, Transitional, Entry, Conf, Log, ChangesWith, log_of, ChangesNext, TakesTurns, HasOneOrigin, log_of_cases, before_push, stands_before, stands_last, ChangesAgree, first_to, IsLastBefore, ComesFrom, IsMet, Keeps, Meets, IsRight, Enters, AreRight, EntersLog}
-use Rattle.std.specs.BTreeMap as tree
-use Rattle.totem_names.proofs.Exact.{exact_conf, equal_at, apart_or_at}
+use Rattle.totem_judge_run.proofs.Common.{below_more, ◌≡◌, ℕ, ◌+◌, ◌<◌, ◌≤◌, List, length, slice_get, Option, Some, Result, IfOk, Bool, refl, sym, ap, ◌∙◌, arith, Contains, OnTrue, slice_get_within, RingId, ConfId, Regular, Transitional, Entry, Conf, Log, ChangesWith, log_of, ChangesNext, TakesTurns, HasOneOrigin, log_of_cases, ChangesAgree, IsLastBefore, ComesFrom, IsMet, Keeps, Meets, IsRight, Enters, AreRight, EntersLog}
 use Rattle.totem_judge_run.specs.declared.changes_2_3.FirstChange.{FirstChange}
 use Rattle.totem_judge_run.specs.declared.first_changes.FirstChanges.{FirstChanges}
-use Rattle.totem_judge_run.specs.Indexed.{conf_order, AreIndexed}
+use Rattle.totem_judge_run.specs.Indexed.{EachOnce}
 use Rattle.totem_judge_run.specs.Succession.{IsWrongSuccession}
 use Rattle.totem_judge_run.proofs.Behind.{same_entry, regular_first, turns_right, one_origin, right_kinds, right_from, right_to, right_name}
 
 -- ---- one change
-
--- the first change to y is still known after the one to x, which is another
-still_first : (old new : FirstChanges) (y : ConfId) (change f : FirstChange) (o : Option ℕ) → tree.get conf_order old.index y ≡ o → tree.get conf_order new.index y ≡ o → new.list.items ≡ old.list.items ++ change ∷ [] → first_to old y ≡ Some f → first_to new y ≡ Some f
-still_first old new y change f o h k m p = grind (arith, stands_before)
-
-none_first : (firsts : FirstChanges) (x : ConfId) (o : Option ℕ) (f : FirstChange) → o ≡ tree.get conf_order firsts.index x → ((i : ℕ) → o ≡ Some i → ⊥) → first_to firsts x ≡ Some f → ⊥
-none_first firsts x o f is none at = grind arith
-
--- it is the first one
-pub met_first : (old new : FirstChanges) (x : ConfId) (o : Option ℕ) (change : FirstChange) (n : ℕ) → o ≡ tree.get conf_order old.index x → ((i : ℕ) → o ≡ Some i → ⊥) → new.list.items ≡ old.list.items ++ change ∷ []
-    → n ≡ length old.list.items → tree.Updates conf_order old.index new.index x (Some n) → Meets old new x change.members.now change.from.now
-met_first old new x o change n is none list last updates = record {
-  kept = record {
-    each = λ y f at. elim (apart_or_at conf_order x y) [
-      | inl here ↦ (let same : x ≡ y = exact_conf x y (equal_at (conf_order x y) here) in absurd (none_first old x o f is none (rw same at)))
-      | inr apart ↦ still_first old new y change f (tree.get conf_order old.index y) refl (updates.2 y apart) list at
-    ];
-  };
-  met = record { change = change; is = rw (updates.1, list, last) (stands_last old.list.items change); members = refl; from = refl };
-}
-
--- it is not the first one, which is at i
-pub met_again : (old new : FirstChanges) (x : ConfId) (ms : List ℕ) (c : RingId) (i : ℕ) (first : FirstChange) (ok : Bool) → new.list ≡ old.list → new.index ≡ old.index → tree.get conf_order old.index x ≡ Some i
-    → slice_get old.list.items i ≡ Some first → first.from.now ≡ c → (IsTrue ok → first.members.now ≡ ms) → OnTrue ok (Meets old new x ms c)
-met_again old new x ms c i first ok h k m o p q = grind arith
-
--- the index has the place of the new change, if it is appended
-pub indexed_more : (list more : List FirstChange) (old new : tree.BTreeMap ConfId ℕ) (o : Option ℕ) (change : FirstChange) (n : ℕ) (ok : Bool) → o ≡ tree.get conf_order old change.conf.now → ((i : ℕ) → o ≡ Some i → ⊥) → n ≡ length list
-    → tree.Updates conf_order old new change.conf.now (Some n) → more ≡ cond ok (list ++ change ∷ []) list → AreIndexed list old → AreIndexed more new
-indexed_more list more old new o change n ok is none last updates items so = record { each = λ k f at. here ok k f (rw items at at) }
-  where
-    kept : (k : ℕ) (f : FirstChange) → slice_get list k ≡ Some f → tree.get conf_order new f.conf.now ≡ Some k
-    kept k f at = grind (arith, apart_or_at, exact_conf, equal_at)
-
-    here : (ok : Bool) (k : ℕ) (f : FirstChange) → slice_get (cond ok (list ++ change ∷ []) list) k ≡ Some f → tree.get conf_order new f.conf.now ≡ Some k
-    here false k f at = kept k f at
-    here true k f at = elim (before_push list change k f at) [
-      | inl before ↦ kept k f before
-      | inr (level, same) ↦ rw (← same, level, ← last) updates.1
-    ]
 
 -- if the result is `true`, what follows from P holds
 pub where_met : {E : Type 0} (r : Result Bool E) (P Q : Type 0) → (P → Q) → IfOk r (λ ok. OnTrue ok P) → IfOk r (λ ok. OnTrue ok Q)
@@ -94,7 +52,7 @@ more_logs run old new k log at_log enters before = record {
 
 -- ---- all logs
 
-module _ (run : List Log) (firsts : FirstChanges) (k : ℕ) (end : length run ≤ k) (so : LogsAreRight run firsts k) where
+module _ (run : List Log) (firsts : FirstChanges) (k : ℕ) (end : length run ≤ k) (so : LogsAreRight run firsts k) (once : EachOnce firsts.list.items) where
   -- what is known of a change of p's log
   record RightIn (p i : ℕ) (x : ConfId) (ms : List ℕ) : Type 0 where
     log : Log
@@ -109,7 +67,10 @@ module _ (run : List Log) (firsts : FirstChanges) (k : ℕ) (end : length run �
   not_wrong p i j x y ms ns next = (let h = right_in p j y ns next.second in h.right.turns i x ms (rw h.entries at next))
 
   one_met : (x : ConfId) (ms ns : List ℕ) (c d : RingId) → IsMet firsts x ms c → IsMet firsts x ns d → (ms ≡ ns) × (c ≡ d)
-  one_met x ms ns c d h g = grind arith
+  one_met x ms ns c d h g =
+      let one : h.at ≡ g.at = once.one h.at g.at h.change g.change h.is g.is (h.conf ∙ sym g.conf) in
+      let same : h.change ≡ g.change = (let at : slice_get firsts.list.items h.at ≡ Some g.change = rw one g.is in cc) in
+      (sym h.members ∙ ap (λ (f : FirstChange). f.members.now) same ∙ g.members, sym h.from ∙ ap (λ (f : FirstChange). f.from.now) same ∙ g.from)
 
   all_one : (p i q j : ℕ) (x : ConfId) (ms ns : List ℕ) → ChangesWith (log_of run p) i x ms → ChangesWith (log_of run q) j x ns → ms ≡ ns
   all_one p i q j x ms ns a b =

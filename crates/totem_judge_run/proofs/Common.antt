@@ -21,7 +21,7 @@ pub use Rattle.totem_evs.specs.declared.entry.Entry.TheVariants.{Conf, Deliver, 
 pub use Rattle.totem_evs.specs.declared.log.Log.{Log}
 pub use Rattle.totem_judge_run.specs.Endings.{EndsNowhere, StandsAtEnd, AreWaitingAt, HoldsPending, IsEnd, IsInOrder}
 pub use Rattle.totem_judge_run.specs.Ends.{IsLast, GoesOn, HasNoChange, HasNoLog, IsChangeTo, StandsLast, AllShare, EndsWithAll, IsLogEnd, IsLogOf, LogShares, NeverChangesTo, SomeStrays, StraysAt}
-pub use Rattle.totem_judge_run.specs.FirstChanges.{IsLastBefore, AreRight, ComesFrom, Enters, Keeps, EntersLog, IsMet, IsRight, Meets, NoneBefore, StandsBefore, first_to}
+pub use Rattle.totem_judge_run.specs.FirstChanges.{IsLastBefore, AreRight, ComesFrom, Enters, Keeps, EntersLog, IsMet, IsRight, Meets, NoneBefore, StandsBefore}
 pub use Rattle.totem_judge_run.specs.Once.{IsNoSendBetween, messages_in, sent_in, message_in, message_order, AddsSend, RisesByOrder}
 pub use Rattle.totem_judge_run.specs.Orderly.{AllStayInPlace, ChangesAgree, IsOrderly, SendsAreOnce, DeliveriesAreOnce}
 

@@ -4,6 +4,7 @@ pub mod Distinct
 pub mod Decisions
 pub mod Behind
 pub mod ChangesMet
+pub mod EachOnce
 pub mod Walk
 pub mod Placed
 pub mod Orderliness

@@ -1,6 +1,5 @@
 -- The first change to each configuration so far (docs/SPECIFICATIONS.md, "2 Changes of configuration").
-use Rattle.std.specs.Prelude.{◌≡◌, ℕ, ◌<◌, List, length, slice_get, Option, None, Some, option_and_then, Contains}
-use Rattle.std.specs.BTreeMap as tree
+use Rattle.std.specs.Prelude.{◌≡◌, ℕ, ◌<◌, List, length, slice_get, Option, None, Some, Contains}
 use Rattle.totem_names.specs.declared.ring.RingId.{RingId}
 use Rattle.totem_names.specs.declared.conf.ConfId.{ConfId}
 use Rattle.totem_names.specs.declared.conf.ConfId.TheVariants.{Regular, Transitional}
@@ -10,11 +9,7 @@ use Rattle.totem_evs.specs.Events.{ChangesWith, IsChange, IsRegular, IsTransitio
 use Rattle.totem_evs.specs.Changes.{ChangesNext}
 use Rattle.totem_judge_run.specs.declared.changes_2_3.FirstChange.{FirstChange}
 use Rattle.totem_judge_run.specs.declared.first_changes.FirstChanges.{FirstChanges}
-use Rattle.totem_judge_run.specs.Indexed.{conf_order}
 use Rattle.totem_judge_run.specs.Succession.{IsWrongSuccession}
-
-abbrev pub first_to : FirstChanges → ConfId → Option FirstChange
-first_to firsts x = option_and_then (slice_get firsts.list.items) (tree.get conf_order firsts.index x)
 
 -- ---- the change before another one
 
@@ -54,18 +49,20 @@ ComesFrom log (Some i) x ms c = ComesBehind log i x ms c
 
 -- ---- the first changes
 
--- the first change to x has these members and this origin
+-- a first change to x has these members and this origin
 pub record IsMet (firsts : FirstChanges) (x : ConfId) (ms : List ℕ) (c : RingId) : Type 0 where
+  pub at : ℕ
   pub change : FirstChange
-  pub is : first_to firsts x ≡ Some change
+  pub is : slice_get firsts.list.items at ≡ Some change
+  pub conf : change.conf.now ≡ x
   pub members : change.members.now ≡ ms
   pub from : change.from.now ≡ c
 
 -- no first change was lost
 pub record Keeps (old new : FirstChanges) : Type 0 where
-  pub each : (x : ConfId) (change : FirstChange) → first_to old x ≡ Some change → first_to new x ≡ Some change
+  pub each : (k : ℕ) (change : FirstChange) → slice_get old.list.items k ≡ Some change → slice_get new.list.items k ≡ Some change
 
--- the first change to x is known and has these members and this origin, and no first change was lost
+-- a first change to x is known and has these members and this origin, and no first change was lost
 pub record Meets (old new : FirstChanges) (x : ConfId) (ms : List ℕ) (c : RingId) : Type 0 where
   pub kept : Keeps old new
   pub met : IsMet new x ms c

@@ -3,9 +3,7 @@
 //! what breaks it, is totem_pass_ab `configuration_2_3`.
 ghost use Rattle.std.specs.Prelude.{◌≡◌, ◌<◌, IfOk, length, slice_get};
 ghost use Rattle.std.specs.Bool.{OnTrue};
-ghost use Rattle.std.specs.BTreeMap.{get};
 ghost use Rattle.totem_judge_run.specs.FirstChanges.{IsLastBefore, Meets, Enters};
-ghost use Rattle.totem_judge_run.specs.Indexed.{conf_order};
 
 use crate::first_changes::FirstChanges;
 use crate::succession_2_4::came_from;
@@ -16,22 +14,10 @@ use totem_names::{ConfId, RingId};
 /// The first change to a configuration, in the order in which changes are entered.
 #[derive(Clone, Copy)]
 pub struct FirstChange<'a> {
-    conf: &'a ConfId,
+    pub conf: &'a ConfId,
     members: &'a Members,
     /// The ring from which the log comes to the configuration; for a regular configuration, its own ring.
     from: &'a RingId,
-}
-
-/// Returns the index of the first change to this configuration.
-fn index_of(firsts: &FirstChanges<'_>, conf: &ConfId) -> Option<usize>
-    ensures { result ≡ get conf_order firsts.now.index conf.now }
-{
-    if let Some(change) = firsts.list.as_slice().get(firsts.next)
-        && change.conf.is(conf)
-    {
-        return Some(firsts.next);
-    }
-    firsts.index.get(conf).copied()
 }
 
 fn first_at<'a>(firsts: &FirstChanges<'a>, index: usize) -> Option<FirstChange<'a>>
@@ -44,17 +30,18 @@ fn first_at<'a>(firsts: &FirstChanges<'a>, index: usize) -> Option<FirstChange<'
 fn meet<'a>(firsts: &mut FirstChanges<'a>, change: FirstChange<'a>) -> Result<bool, AllocError>
     ensures { IfOk result (λ ok. OnTrue ok (Meets firsts.old firsts.new change.entry.conf.now change.entry.members.now change.entry.from.now)) }
 {
-    let Some(index) = index_of(firsts, change.conf) else {
-        let index = firsts.list.len();
-        firsts.index.insert(*change.conf, index)?;
+    let Some(index) = firsts.find(change.conf)? else {
         firsts.list.push(change)?;
         return Ok(true);
     };
-    firsts.next = index.saturating_add(1);
     let Some(first) = first_at(firsts, index) else {
         return Ok(false);
     };
-    Ok(*first.from == *change.from && first.members.is(change.members))
+    Ok(
+        first.conf.is(change.conf)
+            && *first.from == *change.from
+            && first.members.is(change.members),
+    )
 }
 
 /// Enters the entry at this index of a log if it is a change; the last one before it is at `before`. Returns whether it is allowed there.

@@ -66,5 +66,8 @@ pub fn is_orderly(alloc: Global, run: &Run) -> Result<bool, AllocError>
             return Ok(false);
         }
     }
+    if !firsts.are_each_once()? {
+        return Ok(false);
+    }
     are_distinct(sent)
 }

@@ -25,4 +25,4 @@ returns c =
     let end = rw logs at c.loop-log-test.false in
     orderly_if c.args.run.now.logs _ c.requires
     (sends_once_if _ _ _ (each_process _ _ _ none_between end so.regular) (sent_all _ _ _ end so.sent) c.are_distinct.ensures)
-    (all_logs _ _ end so.placed) (all_agree _ _ _ end so.changes)
+    (all_logs _ _ end so.placed) (all_agree _ _ _ end so.changes (rw c.if-not-branch-2.false at c.in_ok-are_each_once.ensures))
