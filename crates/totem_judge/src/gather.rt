@@ -18,16 +18,19 @@ struct Spot {
     index: u32,
 }
 
-/// Where the sent messages are listed.
+/// Where the sent messages are listed, but for the first `FEW` of each configuration, which are looked through.
 #[derive(Drop)]
 struct Spots {
-    /// For each configuration, the indices of the messages named by its ring, by their numbers; `ABSENT` for a number that was not sent.
+    /// For each configuration, the indices of the messages named by its ring, by their numbers; `ABSENT` for a number that is not entered.
     numbered: Vec<Vec<u32>>,
     /// Messages named by other rings, and those whose numbers are too high for a list by number.
     others: BTreeMap<MsgId, Spot>,
 }
 
 const ABSENT: u32 = u32::MAX;
+
+/// How many messages of a configuration are looked through.
+const FEW: usize = 4;
 
 /// How high a message's number may be for a list by number: `LEFT_OUT`, and `LEFT_OUT_EACH` more for each message sent before.
 const LEFT_OUT: usize = 16;
@@ -56,11 +59,12 @@ struct Next {
     at: usize,
 }
 
-/// Where a log stands: the index of the configuration, and that of its stay there.
+/// Where a log stands: the index of the configuration, that of its stay there, and that of the entry after its last change.
 #[derive(Clone, Copy)]
 struct Standing {
     configuration: usize,
     stay: usize,
+    at: usize,
 }
 
 /// What has been gathered so far.
@@ -108,11 +112,16 @@ fn enter_log(window: &mut [Shared], first: u32, bit: u32, numbers: &[u32], from:
 }
 
 impl<'a> Cursor<'a> {
-    /// Returns the index of the entry with this number of the window.
-    fn index_of(&self, number: u32) -> Option<usize> {
-        let numbers = self.numbers.get(self.from..self.to)?;
-        let index = numbers.binary_search(&number).ok()?;
-        Some(self.from.saturating_add(index))
+    /// Returns the index of the entry with this number of the window, if it is not before the entry at `at`.
+    fn index_of(&self, number: u32, at: usize) -> Option<usize> {
+        let from = self.from.max(at);
+        let numbers = self.numbers.get(from..self.to)?;
+        let index = numbers.iter().position(|other| *other >= number)?;
+        if numbers[index] == number {
+            Some(from.saturating_add(index))
+        } else {
+            None
+        }
     }
 }
 
@@ -180,9 +189,11 @@ impl Spots {
     /// Enters a message that was sent, in the configuration of this ring.
     fn insert(&mut self, message: MsgId, ring: RingId, spot: Spot) -> Result<(), AllocError> {
         let number = message.number as usize;
-        let most = LEFT_OUT_EACH
-            .saturating_mul(spot.index as usize)
-            .saturating_add(LEFT_OUT);
+        let index = spot.index as usize;
+        if index < FEW {
+            return Ok(());
+        }
+        let most = LEFT_OUT_EACH.saturating_mul(index).saturating_add(LEFT_OUT);
         if message.ring != ring || number > most || spot.configuration >= self.numbered.len() {
             self.others.insert(message, spot)?;
             return Ok(());
@@ -197,14 +208,24 @@ impl Spots {
         Ok(())
     }
 
-    /// Returns the index at which a message is listed in this configuration, which is that of the ring.
-    fn get(&self, message: &MsgId, ring: RingId, configuration: usize) -> Option<u32> {
+    /// Returns the index at which a message is listed in this configuration, in which these are sent, and which is that of the ring.
+    fn get(
+        &self,
+        message: &MsgId,
+        sent: &[Sent],
+        ring: RingId,
+        configuration: usize,
+    ) -> Option<u32> {
         if message.ring == ring
             && let Some(indices) = self.numbered.get(configuration)
             && let Some(index) = indices.get(message.number as usize).copied()
             && index != ABSENT
         {
             return Some(index);
+        }
+        let few = sent.get(..FEW).unwrap_or(sent);
+        if let Some(index) = few.iter().position(|sent| sent.message == *message) {
+            return Some(index_of(index));
         }
         let spot = self.others.get(message).copied()?;
         if spot.configuration == configuration {
@@ -220,6 +241,7 @@ impl Gatherer {
         let nowhere = Standing {
             configuration: usize::MAX,
             stay: 0,
+            at: 0,
         };
         Ok(Gatherer {
             list: Vec::new(alloc),
@@ -232,10 +254,15 @@ impl Gatherer {
         })
     }
 
-    /// Enters that this log changes at this index, in the stay that it is in.
-    fn move_on(&mut self, log: usize, at: usize) {
-        if let Some(standing) = self.standing.get(log)
-            && let Some(gathered) = self.list.get_mut(standing.configuration)
+    /// Enters the change of this log that has this number in the stay that the log is in. Returns its index, or `None` if there is none.
+    fn turn(&mut self, log: u32, cursor: &Cursor<'_>, next: &Next) -> Option<usize> {
+        if log >= 32 || !next.logs.contains(log) {
+            return None;
+        }
+        let standing = self.standing.get_mut(log as usize)?;
+        let at = cursor.index_of(next.number, standing.at)?;
+        standing.at = at.saturating_add(1);
+        if let Some(gathered) = self.list.get_mut(standing.configuration)
             && let Some(stay) = gathered.stays.get_mut(standing.stay)
         {
             if stay.turn == stay.end {
@@ -244,14 +271,13 @@ impl Gatherer {
                 stay.end = at;
             }
         }
+        Some(at)
     }
 
     /// Enters the changes that have this number, in the stays that their logs are in.
-    fn move_all(&mut self, number: u32, walk: &Walk<'_>) {
+    fn turn_all(&mut self, next: &Next, walk: &Walk<'_>) {
         for (log, cursor) in walk.cursors.iter().enumerate() {
-            if let Some(at) = cursor.index_of(number) {
-                self.move_on(log, at);
-            }
+            let _ = self.turn(index_of(log), cursor, next);
         }
     }
 
@@ -268,14 +294,11 @@ impl Gatherer {
         for (index, cursor) in walk.cursors.iter().enumerate() {
             let log = index_of(index);
             if log < 32
-                && let Some(from) = cursor.index_of(next.number)
+                && let Some(from) = self.turn(log, cursor, next)
             {
-                self.move_on(index, from);
                 if let Some(standing) = self.standing.get_mut(index) {
-                    *standing = Standing {
-                        configuration: self.list.len(),
-                        stay: gathered.stays.len(),
-                    };
+                    standing.configuration = self.list.len();
+                    standing.stay = gathered.stays.len();
                 }
                 let end = cursor.entries.len();
                 gathered.stays.push(Stay {
@@ -287,9 +310,10 @@ impl Gatherer {
             }
         }
         self.behind = self.behind.minus(next.logs);
+        let numbers = if messages <= FEW { 0 } else { messages };
         self.spots
             .numbered
-            .push(Vec::with_capacity(alloc, messages.saturating_add(1))?)?;
+            .push(Vec::with_capacity(alloc, numbers)?)?;
         self.list.push(gathered)?;
         Ok(())
     }
@@ -331,7 +355,9 @@ impl Gatherer {
     fn deliver(&mut self, message: MsgId, next: &Next) -> Result<(), AllocError> {
         let configuration = self.configuration_of(next.log);
         if let Some(gathered) = self.list.get_mut(configuration)
-            && let Some(index) = self.spots.get(&message, gathered.ring, configuration)
+            && let Some(index) = self
+                .spots
+                .get(&message, &gathered.sent, gathered.ring, configuration)
             && let Some(sent) = gathered.sent.get_mut(index as usize)
             && let Some(origin) = gathered.origins.get_mut(index as usize)
         {
@@ -360,7 +386,7 @@ impl Gatherer {
                 self.change(alloc, *ring, messages, next, walk)
             }
             Some(Entry::Conf(ConfId::Transitional { .. }, _)) => {
-                self.move_all(next.number, walk);
+                self.turn_all(next, walk);
                 self.behind = self.behind.union(next.logs);
                 Ok(())
             }
