@@ -9,7 +9,6 @@ use crate::roll::Roll;
 use totem_names::{Version, byte_in, conf_in, message_in, service_in, word_in};
 
 #[inline(always)]
-#[tactic(auto, using(crate::proofs::ReaderSteps::reader_steps), unfolding(crate::specs::RunGrammar::change_at))]
 fn change_in(bytes: &[u8], at: usize, version: Version, roll: &Roll) -> Option<(Entry, usize)>
     ensures { IfSome result (λ e. Stands bytes.now at e.1 (change_at version false) (lines.Entry e.0)) }
 {
@@ -20,7 +19,6 @@ fn change_in(bytes: &[u8], at: usize, version: Version, roll: &Roll) -> Option<(
 }
 
 #[inline(always)]
-#[tactic(auto, using(crate::proofs::ReaderSteps::reader_steps), unfolding(crate::specs::RunGrammar::send_at))]
 fn send_in(bytes: &[u8], at: usize) -> Option<(Entry, usize)>
     ensures { IfSome result (λ e. Stands bytes.now at e.1 (send_at false) (lines.Entry e.0)) }
 {
@@ -33,7 +31,6 @@ fn send_in(bytes: &[u8], at: usize) -> Option<(Entry, usize)>
 }
 
 #[inline(always)]
-#[tactic(auto, using(crate::proofs::ReaderSteps::reader_steps), unfolding(crate::specs::RunGrammar::delivery_at))]
 fn delivery_in(bytes: &[u8], at: usize) -> Option<(Entry, usize)>
     ensures { IfSome result (λ e. Stands bytes.now at e.1 (delivery_at false) (lines.Entry e.0)) }
 {
@@ -46,22 +43,18 @@ fn delivery_in(bytes: &[u8], at: usize) -> Option<(Entry, usize)>
 /// Returns the entry with whose line these bytes begin, and how many bytes the line takes. Returns `None` unless it is a send, a delivery, or
 /// a change with the members of the roll, or if the bytes end before it does.
 #[inline(always)]
-#[tactic(auto, using(crate::proofs::ReaderSteps::reader_steps), unfolding(crate::specs::RunGrammar::line_at))]
 pub fn entry_in(bytes: &[u8], version: Version, roll: &Option<Roll>) -> Option<(Entry, usize)>
     ensures { (some failed : Bool) → IfSome result (λ e. Stands bytes.now 0 e.1 (line_at version false some failed) (lines.Entry e.0)) }
 {
     let (letter, at) = byte_in(bytes, 0)?;
     if letter == b'c' {
-        let (entry, at) = change_in(bytes, at, version, roll.as_ref()?)?;
-        return Some((entry, at));
+        return change_in(bytes, at, version, roll.as_ref()?);
     }
     if letter == b's' {
-        let (entry, at) = send_in(bytes, at)?;
-        return Some((entry, at));
+        return send_in(bytes, at);
     }
     if letter == b'd' {
-        let (entry, at) = delivery_in(bytes, at)?;
-        return Some((entry, at));
+        return delivery_in(bytes, at);
     }
     None
 }

@@ -2,10 +2,6 @@
 use Rattle.std.proofs.lemmas.Grind.{common_steps}
 use Rattle.totem_names.proofs.Common.{Some, None, IfSome, ◌==◌, ◌≡◌, ℕ, ◌+◌, ◌-◌, ◌<◌, ◌≤◌, arith, rules, List, [], ◌∷◌, ◌++◌, true, length, take, drop, get_or, Result, Ok, Err, refl, sym, ◌∙◌, ap, subst, append_assoc, length-drop, length-append, append-nil, take_more, take-append-le, take-append-drop, drop-append-le, drop-drop, drop-take, length-take-le, Consumes, Keeps, prepend_known, Seen, Parsed, Comes, Settles}
 use Rattle.std.specs.declared.option.Option.{Option}
-use Rattle.std.proofs.Math.Seq.{take-append_seam}
-use Rattle.std.proofs.lemmas.Slice.Eq.{starts_is}
-use Rattle.std.proofs.lemmas.Bool.Decides.{Decides-eqb}
-use Rattle.std.specs.List.{starts_with}
 use Rattle.std.specs.Io.{StartsWith}
 use Rattle.std.proofs.KnownBytes.{prepend_known-front, Keeps-refl, starts_with_rest}
 use Rattle.totem_names.specs.declared.fault.TextFault.{TextFault}
@@ -42,15 +38,6 @@ pub settles_at : {Y : Type 0} (parse rest : List ℕ → Parsed Y) (bytes : List
     → ((more : List ℕ) → rest (b ∷ more) ≡ Ok (y, more)) → Settles parse (take (at + 1) bytes) y
 settles_at parse rest bytes at b y so_far short lt is next = grind (arith, common_steps, one_more, front_is, take_more, append-nil)
 
--- a word at hand was taken
-pub skipped_word : (hand word : List ℕ) (old new : Option (List ℕ)) → IfSome old (λ bytes. StartsWith bytes hand)
-    → true ≡ starts_with (λ (x y : ℕ). x == y) hand word → length word ≤ length hand → Skips old new (length word) → Consumes old new word
-skipped_word hand word old new starts begins within skipped =
-    let whole : hand ≡ word ++ drop (length word) hand = (starts_is Decides-eqb hand word true begins).0 refl in
-    let same : take (length word) hand ≡ word = ap (take (length word)) whole ∙ take-append_seam word (drop (length word) hand) in
-    let P : List ℕ → Type 0 = Consumes old new in
-    subst P same (skips_front hand (length word) old new within starts skipped)
-
 word_whole : (fault : TextFault) (word more : List ℕ) → word_at fault word (word ++ more) ≡ Ok (tt, more)
 unfolding word_at
 word_whole fault [] more = refl
@@ -63,11 +50,6 @@ word_short fault (w ∷ front) byte = let test : (w == w) ≡ true = search rule
 
 pub word_settles : (fault : TextFault) (word : List ℕ) → Settles (word_at fault word) word tt
 word_settles fault word = record { left = word_whole fault word; before = λ front byte h. rw h (word_short fault front byte) }
-
--- the bytes taken are the word
-pub word_taken : (a b : Seen) (fault : TextFault) (word : List ℕ) → Consumes a.remaining b.remaining word → b.failures ≡ a.failures
-    → Comes a b (word_at fault word) (λ more. Ok (tt, more))
-word_taken a b fault word taken same = grind (arith, word_whole, word_short)
 
 -- ---- what a buffer holds
 

@@ -103,12 +103,10 @@ pub fn conf_in(bytes: &[u8], at: usize, end: u8) -> Option<(ConfId, usize)>
 {
     let (kind, at) = byte_in(bytes, at)?;
     if kind == b'r' {
-        let (conf, at) = regular_in(bytes, at, end)?;
-        return Some((conf, at));
+        return regular_in(bytes, at, end);
     }
     if kind == b't' {
-        let (conf, at) = transitional_in(bytes, at, end)?;
-        return Some((conf, at));
+        return transitional_in(bytes, at, end);
     }
     None
 }

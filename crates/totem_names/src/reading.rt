@@ -23,21 +23,9 @@ pub fn next<S: Source>(source: &mut S) -> Result<u8, ReadError>
     }
 }
 
-// Takes the word if all of it is at hand. Otherwise it takes nothing and returns `false`.
-fn word_at_hand<S: Source>(source: &mut S, word: &[u8]) -> bool
-    ensures taken { result ≡ true → Consumes (S.remaining source.old) (S.remaining source.new) word.now }
-    ensures kept { result ≡ false → Keeps (S.remaining source.old) (S.remaining source.new) }
-    ensures failures { S.failures source.new ≡ S.failures source.old }
-{
-    let begins = source.at_hand().starts_with(word);
-    if !begins {
-        return false;
-    }
-    source.skip(word.len())
-}
-
-// Reads as `word` does, one byte at a time.
-fn word_by_bytes<S: Source>(source: &mut S, word: &[u8], fault: TextFault) -> Result<(), ReadError>
+/// Reads exactly this word. At the first byte that differs from it, returns `fault`.
+#[inline(never)]
+pub fn word<S: Source>(source: &mut S, word: &[u8], fault: TextFault) -> Result<(), ReadError>
     requires { is_short fault ≡ false }
     ensures read { Reads (seen S.remaining S.failures source.old)
         (seen S.remaining S.failures source.new) result (word_at fault word.now) }
@@ -50,20 +38,6 @@ fn word_by_bytes<S: Source>(source: &mut S, word: &[u8], fault: TextFault) -> Re
         }
     }
     Ok(())
-}
-
-/// Reads exactly this word. At the first byte that differs from it, returns `fault`.
-pub fn word<S: Source>(source: &mut S, word: &[u8], fault: TextFault) -> Result<(), ReadError>
-    requires { is_short fault ≡ false }
-    ensures read { Reads (seen S.remaining S.failures source.old)
-        (seen S.remaining S.failures source.new) result (word_at fault word.now) }
-    ensures memory { IfErr result (λ e. e ≢ ReadError.Memory) }
-{
-    let taken = word_at_hand(source, word);
-    if taken {
-        return Ok(());
-    }
-    word_by_bytes(source, word, fault)
 }
 
 fn is_digit(byte: u8) -> bool

@@ -1,6 +1,6 @@
 use Rattle.totem_names.proofs.Common.{drop, Comes, seen}
 use Rattle.totem_names.specs.Numbers.{word_at}
-use Rattle.totem_names.proofs.reading.word_by_bytes.Given as goal
+use Rattle.totem_names.proofs.reading.word.Given as goal
 
 abbrev pub invariant-loop-want : goal.invariant-loop-want
 invariant-loop-want g l =
