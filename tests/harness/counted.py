@@ -73,7 +73,7 @@ class Counting:
         yield 'shared', sum(is_regular(it) for it in together)
         yield 'partition', self.crossings((x, d) for _, x, d in self.neighbours())
         yield 'merge', self.crossings((d, x) for _, x, d in self.neighbours())
-        yield 'returned', sum(log.life > 1 for log in self.logs)
+        yield 'returned', len(self.logs) - len({log.process for log in self.logs})
         yield 'transitional', sum(not is_regular(entry.configuration) for _, _, entry in self.deliveries)
         yield 'safe-sent', sum(entry.service == 's' for _, _, entry in self.sends)
         yield 'safe', len(self.safe & {entry.message for _, _, entry in self.deliveries})

@@ -19,6 +19,7 @@ pub struct Counts {
     pub shared: u32,
     pub partitions: u32,
     pub merges: u32,
+    /// Lives of which an earlier life of the same process has a log.
     pub returned: u32,
     pub safe_delivered: u32,
     /// 1.1: deliveries of what another process sent.
@@ -111,8 +112,11 @@ impl Counts {
     }
 
     fn add_logs(&mut self, run: &Run, sites: &Sites, traffic: &Traffic) {
+        let mut last = None;
         for log in run.logs.as_slice() {
-            let is_returned = log.proc.life() > 1;
+            let number = log.proc.id().number();
+            let is_returned = last == Some(number);
+            last = Some(number);
             self.returned = self.returned.saturating_add(u32::from(is_returned));
             if log.ending == Ending::Quiet {
                 let awaited = missing_at(run, log, sites) & !traffic.failed;
