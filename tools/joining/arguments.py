@@ -24,9 +24,10 @@ folder for temporary files).
 
 The first line of a log may say how it was recorded. This is then done as if the option had been given, and told:
 
-    # totem-log 1 sends=taken transitional=late
+    # totem-log 1 sends=taken ends=early transitional=late
 
-sends=taken stands for --own-sends, transitional=late for --late-changes and transitional=untold for --transitional."""
+sends=taken stands for --own-sends, ends=early for --early-ends, transitional=late for --late-changes and transitional=untold for
+--transitional."""
 EXAMPLES = """For example, for a cluster in which process 2 was killed and the others were shut down cleanly:
 
     tools/logs join --failed 2 --quiet all FOLDER
@@ -106,6 +107,9 @@ def _add_words_of_changes(join):
     join.add_argument('--late-changes', action='store_true',
                       help='for a layer that tells of a transitional configuration when it is over, such as libcpg: it begins before the first '
                       'delivery past a gap, that is, of a message before which another log delivers one that this log never does')
+    join.add_argument('--early-ends', action='store_true',
+                      help='for a layer that goes on for a while for a process that was killed, such as libcpg: messages are left out which it sent '
+                      'only then, in configurations that list the process and to which its log never came')
 
 
 def _add_words_of_parts(join):

@@ -8,10 +8,11 @@ VERSION = b'1'
 # The keys that are known, and the option that each of their values asks for.
 KEYS = {
     'sends': {'ordered': None, 'delivered': None, 'taken': 'own_sends'},
+    'ends': {'told': None, 'early': 'early_ends'},
     'transitional': {'told': None, 'late': 'late_changes', 'untold': 'transitional'},
 }
 # The options that say the same for all logs: if one is given, first lines say nothing of that.
-OPTIONS = {'sends': ('own_sends',), 'transitional': ('transitional', 'late_changes')}
+OPTIONS = {'sends': ('own_sends',), 'ends': ('early_ends',), 'transitional': ('transitional', 'late_changes')}
 
 
 def _option(name):

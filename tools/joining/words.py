@@ -7,6 +7,7 @@ import tempfile
 from joining import again, endings, folder, mapping, texts, torn, where
 from joining.arguments import read_words
 from joining.cuts import Cutting, trim
+from joining.early_ends import leave_out
 from joining.entries import MOST_ENTRIES, MOST_LOGS
 from joining.first_lines import FirstLines
 from joining.late_changes import begin_earlier
@@ -29,8 +30,8 @@ class Joining:
         self.numbers = Numbers() if asked.renumber else None
         found = folder.find(asked)
         first_lines = FirstLines(found, asked)
-        keeps = asked.transitional or asked.late_changes or asked.torn or asked.lives or asked.own_sends or asked.renumber or asked.trim \
-            or asked.cut or first_lines.ask_for_anything()
+        keeps = asked.transitional or asked.late_changes or asked.early_ends or asked.torn or asked.lives or asked.own_sends or asked.renumber \
+            or asked.trim or asked.cut or first_lines.ask_for_anything()
         words = {'is_numbered_anew': asked.renumber, 'adds_lives': asked.lives, 'keeps_changes': bool(keeps)}
         scan = Scan(sees=self.numbers.see if self.numbers else None, **words)
         self.logs = scan.read_all(found, working, bool(asked.map), self.changes)
@@ -43,6 +44,8 @@ class Joining:
         if self.lives:
             self.lives.write(self.changes)
         self._tell_missing(self.lives.listed() if self.lives else scan.listed)
+        if asked.early_ends:
+            self.logs = leave_out(self.logs, working, words, self.changes)
         if asked.late_changes:
             self.logs = begin_earlier(self.logs, working, words, self.changes)
         if asked.own_sends:
