@@ -4,6 +4,7 @@ import tempfile
 from functools import partial
 
 from harness import process
+from parts.early_ends import EARLY_ENDS
 from parts.joined import EXAMPLES, join, join_files, try_folder, try_refused, write_files
 from parts.first_lines import FIRST_LINES, FIRST_LINES_REFUSED
 from parts.late_changes import LATE_CHANGES
@@ -244,7 +245,7 @@ def try_end(words, files, told, _program):
 
 def mended():
     """Added lives, moved sends and changes, new numbers, cut logs."""
-    for folders in (LIVES, SENDS, TRANSITIONAL, LATE_CHANGES, FIRST_LINES, TORN, NUMBERS, TRIMMED):
+    for folders in (LIVES, SENDS, TRANSITIONAL, EARLY_ENDS, LATE_CHANGES, FIRST_LINES, TORN, NUMBERS, TRIMMED):
         for what, (words, files, wanted, told) in folders.items():
             yield what, partial(try_folder, words, files, wanted, with_recording(words, told))
     for what, (words, files, told) in HANGS.items():
