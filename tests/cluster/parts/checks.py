@@ -4,6 +4,9 @@ import os
 from parts import judging
 from parts.watching import logs_in
 
+# How many messages of each node a quiet log has at least.
+FEWEST = 3
+
 
 def endings(folder, expected):
     """What is wrong with how logs end. `expected` has for each node the endings of its logs, in the order in which these began."""
@@ -15,7 +18,7 @@ def endings(folder, expected):
 
 
 def deliveries(folder):
-    """Logs that lack deliveries: each log that is quiet has to have messages of each node."""
+    """Logs that lack deliveries: each log that is quiet has to have messages of each node, not only its last answer."""
     logs = logs_in(folder)
     sent = {}
     for log in logs:
@@ -23,8 +26,8 @@ def deliveries(folder):
     for log in logs:
         delivered = {line.words[1] for line in log.of_kind('dlv')}
         for node, messages in sorted(sent.items()):
-            if log.ending == 'quiet' and not delivered & messages:
-                yield '%s has no message that node %d sent' % (log.name, node)
+            if log.ending == 'quiet' and len(delivered & messages) < FEWEST:
+                yield '%s has %d messages that node %d sent' % (log.name, len(delivered & messages), node)
 
 
 def counts(judged, expected):
