@@ -41,7 +41,7 @@ def _keep(folder, name, content):
         it.write(content)
 
 
-def judge(program, folder, name='logs', words=('--own-sends',)):
+def judge(program, folder, name='logs', words=()):
     """Joins the logs of a folder, without an option if none is given, and has the run judged. What comes is kept beside the logs."""
     joined = _ask([sys.executable, '-B', JOIN, 'join', *words, os.path.join(folder, name)])
     _keep(folder, name + '.joining', joined.errors)
