@@ -30,9 +30,9 @@ class Scene:
         for it in (self.stand_in, os.path.join(folder, 'bin'), os.path.join(folder, 'room')):
             os.mkdir(it)
         os.makedirs(os.path.join(self.top, 'tools'))
-        for it in ('totem', *('tools/' + it for it in ('prove', 'release', 'sources', 'logs', 'shrink', 'play', 'hunt')), 'HANDLES'):
+        for it in ('totem', *('tools/' + it for it in ('prove', 'release', 'sources', 'record', 'logs', 'shrink', 'play', 'hunt')), 'HANDLES'):
             shutil.copy(os.path.join(REPOSITORY, it), os.path.join(self.top, it))
-        for it in ('proving', 'running', 'joining', 'shrinking', 'hunting', 'playing'):
+        for it in ('proving', 'running', 'recording', 'joining', 'shrinking', 'hunting', 'playing'):
             it = os.path.join('tools', it)
             shutil.copytree(os.path.join(REPOSITORY, it), os.path.join(self.top, it), ignore=shutil.ignore_patterns('__pycache__'))
         shutil.copy(STAND_IN, os.path.join(folder, 'bin', 'rt'))

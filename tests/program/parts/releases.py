@@ -122,13 +122,17 @@ def content_of(*path):
 
 
 def archive_suffices(program):
-    """With the archive alone the commands of its README join, explain, shrink, audit and check; its links lead somewhere."""
+    """With the archive alone the commands of its README join, explain, shrink, audit and check; its recorder explains itself; its links lead
+    somewhere."""
     with archive(program) as folder:
         dead = list(dead_links(folder))
         if dead:
             return 'the links lead nowhere: %s' % dead
         answers = [shell(line, folder) for line in commands(os.path.join(folder, 'README.md'), 'From logs to a verdict')]
         is_right = [answer.status for answer in answers] == [0, 0, 0, 1, 0, 0, 0] and answers[-1].output == b'verdict yes\nend\n'
+        helped = shell('tools/record --help', folder)
+        if helped.status or b'docs/COROSYNC.md' not in helped.output:
+            return 'tools/record came: %s' % helped
         is_noted = any(b'note:' in answer.errors for answer in answers)
         if not is_right or is_noted or content_of(folder, 'small.run') != DELIVERED_TWICE:
             return 'came: %s' % '\n  '.join(map(str, answers))
