@@ -84,10 +84,12 @@ class OwnSends:
     def _place_of(file, number, place):
         """The place of a send after the moves; None if it is left out."""
         if number in file.moves:
-            before = next((at for at, line in enumerate(file.before_sends) if line.number == file.moves[number][0]), len(file.before_sends))
-            while before and file.moves[number][0] and file.before_sends[before - 1].number is None:
-                before -= 1
-            return sum(not is_send(text) for text in texts_of(file.before_sends)[:before])
+            before, place = file.moves[number][0], len(file.before_sends)
+            if before is not None:
+                place = next(at for at, line in enumerate(file.before_sends) if line.number == before)
+                while place and file.before_sends[place - 1].number is None:
+                    place -= 1
+            return sum(not is_send(text) for text in texts_of(file.before_sends)[:place])
         return None if number in file.gone else place
 
     def _order(self, file, old, new):

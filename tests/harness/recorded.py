@@ -16,8 +16,10 @@ def asked_by(firsts, with_entries, words):
         return []
     said = {}
     for name, line in firsts.items():
-        said[name] = dict(word.split('=', 1) for word in line.split(' ')[3:] if '=' in word)
-        if line and (line.split(' ')[2] != '1' or any(said[name].get(key, 'none') not in (*ASKED[key], 'none') for key in ASKED)):
+        pairs = [word.split('=', 1) for word in line.split(' ')[3:]]
+        known = [key for key, _ in pairs if key in ASKED]
+        said[name] = dict(pairs)
+        if line and (line.split(' ')[2:3] != ['1'] or any(said[name][key] not in ASKED[key] for key in known) or len(set(known)) < len(known)):
             return None
     options = []
     for key, values in ASKED.items():

@@ -78,7 +78,8 @@ def say_first(recording):
     """The logs say in their first lines how they were recorded, mostly all the same; and the caller says it, too, or not. Returns the lines."""
     draw, words = recording.draw, recording.words
     sends = 'taken' if '--own-sends' in words else draw.choice(('ordered', 'delivered', '', '', 'taken'))
-    changes = 'untold' if '--transitional' in words else 'late' if '--late-changes' in words else draw.choice(('told', 'told', '', '', 'late', 'untold'))
+    changes = 'untold' if '--transitional' in words else 'late' if '--late-changes' in words else \
+        draw.choice(('told', 'told', '', '', 'late', 'untold'))
     needed = {'--own-sends'} if {'--own-order-unknown', '--late-sends'} & {word for word in words if isinstance(word, str)} else set()
     for option in ('--own-sends', '--transitional', '--late-changes'):
         if option in words and option not in needed and recording.chance(70):
