@@ -2,6 +2,7 @@
 with the tool."""
 import re
 from dataclasses import dataclass, field
+from typing import NamedTuple, Optional
 
 FORMS = {name: re.compile(form) for name, form in {
     'line': r'(\S+\.log), line (\d+): left out: (.*)',
@@ -10,17 +11,30 @@ FORMS = {name: re.compile(form) for name, form in {
     'moved': r'(\S+\.log), line (\d+): moved to just before line (\d+), as (send \S+ [as] \S+): (.*)',
     'moved to the end': r'(\S+\.log), line (\d+): moved to the end, as (send \S+ [as] \S+): (.*)',
     'inserted': r'(\S+\.log), line (\d+): (conf t\S+ .*) is added before it',
-    'added': r'(\S+\.log), end: (fail \S+) is added',
-    'added no more': r'(\S+\.log), end: left out: (fail \S+)',
+    'earlier': r'(\S+\.log), line (\d+): moved to just before line (\d+): (.*)',
+    'inserted earlier': r'(\S+\.log), added before line (\d+): moved to just before line (\d+): (conf t\S+ .*)',
+    'later': r'(\S+\.log), line (\d+): (dlv t\S+ \S+) in place of (dlv r\S+ \S+)',
+    'added': r'(\S+\.log), end: (fail \S+|send \S+ a \S+) is added',
+    'added no more': r'(\S+\.log), end: left out: (fail \S+|send \S+ a \S+)',
     'ending': r'(\S+\.log), end: (open|failed|quiet) in place of (open|failed|quiet)',
     'member': r'([rt]\S+): member (\d+) is (\d+):(\d+)',
     'process': r'process (\d+) becomes (\d+)',
     'ring': r'ring number (\d+) becomes (\d+)',
 }.items()}
+# In which order the tool changes a log: what comes first in its file, what it adds and leaves out; then changes that go to earlier places; then
+# sends.
+EARLIER, SENDS = ('earlier', 'inserted earlier', 'later'), ('moved', 'moved to the end', 'line')
 
 
 class Unfit(Exception):
     """The list of changes does not fit the logs."""
+
+
+class Line(NamedTuple):
+    """An entry of a log: its line in the file, or None if it was added, and what it says now."""
+
+    number: Optional[int]
+    text: str
 
 
 @dataclass
@@ -34,16 +48,21 @@ class File:
     lines: list
     is_torn: bool
     ending: str
+    # What the log has after the changes so far; what it had at first, before changes went to earlier places, and before sends moved.
+    now: list = field(default_factory=list)
+    first: list = field(default_factory=list)
+    before_earlier: Optional[list] = None
+    before_sends: Optional[list] = None
     gone: set = field(default_factory=set)
     # The last line that is kept, together with what is moved to before it.
     last: int = 0
-    # By the number of a line: what is moved to just before it. Behind all lines for what goes to the end.
-    moved: dict = field(default_factory=dict)
-    # By the number of a line that moves: the line before which it goes, and what it is then.
+    # By the number of a line that moves: the line before which it goes (None for the end), and what it is then.
     moves: dict = field(default_factory=dict)
     added: list = field(default_factory=list)
-    # By the number of a line: the change that is added just before it, after all that is moved there.
+    ever_added: list = field(default_factory=list)
+    # By the number of a line: the change that is added just before it. Also as these changes are after they went to earlier places.
     inserted: dict = field(default_factory=dict)
+    inserted_now: dict = field(default_factory=dict)
     is_left_out: bool = False
 
     def line(self, number):
@@ -52,35 +71,52 @@ class File:
             raise Unfit('%s has no line %d' % (self.name, number))
         return self.lines[number - 1]
 
+    def place(self, number):
+        """Where a line is now."""
+        self.line(number)
+        for place, line in enumerate(self.now):
+            if line.number == number:
+                return place
+        raise Unfit('%s, line %d is left out already' % (self.name, number))
+
+    def place_before(self, number):
+        """The place just before a line, and before what is added there."""
+        place = self.place(number)
+        while place and self.now[place - 1].number is None:
+            place -= 1
+        return place
+
+    def keep_copies(self, kind):
+        """Keeps what the log has before the first change of a later kind."""
+        if kind in EARLIER + SENDS and self.before_earlier is None:
+            self.before_earlier = list(self.now)
+        if kind in SENDS and self.before_sends is None:
+            self.before_sends = list(self.now)
+
     @property
     def is_trimmed(self):
         """Whether what comes after some line is left out."""
         return self.last > 0
 
+    def _count(self):
+        """How many of the lines are kept."""
+        return self.place(self.last) + 1 if self.last else len(self.now)
+
     def is_kept(self, number):
-        """Whether what stands at this line, or is moved to before it, comes before the place after which all is left out."""
-        return not self.last or number <= self.last
+        """Whether what stands at this line comes before the place after which all is left out."""
+        return number in [line.number for line in self.now[:self._count()]]
+
+    def kept(self):
+        """The lines that are kept."""
+        return [line.text for line in self.now[:self._count()]]
 
     def result(self):
         """The lines that come out."""
-        return self._lines_at(self.is_kept) + self.added
-
-    def result_of_lines(self):
-        """The same without what is added before lines."""
-        return self._lines_at(self.is_kept, {}) + self.added
+        return self.kept() + self.added
 
     def left_behind(self):
         """The lines that come after the last one that is kept, or are moved there."""
-        return self._lines_at(lambda number: not self.is_kept(number))
-
-    def _lines_at(self, is_meant, inserted=None):
-        """The lines at some places, and those that are moved to before them, or added there."""
-        lines, inserted = [], self.inserted if inserted is None else inserted
-        for number in filter(is_meant, range(1, len(self.lines) + 2)):
-            lines += self.moved.get(number, [])
-            lines += [inserted[number]] if number in inserted else []
-            lines += [] if number in self.gone else self.lines[number - 1:number]
-        return lines
+        return [line.text for line in self.now[self._count():]]
 
 
 def read_file(name, text):
@@ -96,7 +132,8 @@ def read_file(name, text):
         lines.pop()
     elif any(line.startswith('fail ') for line in (lines[-2:-1] if is_torn else lines[-1:])):
         ending = 'failed'
-    return File(name, int(found[1]), int(found[2]) if found[2] else None, lines, is_torn, ending)
+    now = [Line(number, line) for number, line in enumerate(lines, 1)]
+    return File(name, int(found[1]), int(found[2]) if found[2] else None, lines, is_torn, ending, now, now[:-1] if is_torn else list(now))
 
 
 class Applied:
@@ -110,6 +147,7 @@ class Applied:
         for text in changes.splitlines():
             self._take(text)
         for file in self.files.values():
+            file.keep_copies('line')
             if adds_lives:
                 file.life = file.life or 1
             if file.is_torn and len(file.lines) not in file.gone and not file.is_left_out:
@@ -130,48 +168,73 @@ class Applied:
         return self.files[name]
 
     def _remove(self, name, number, text):
+        """Takes a line, which says this, off its place."""
         file, number = self._file(name), int(number)
-        if file.line(number) != text:
+        place = file.place(number)
+        if file.now[place].text != text:
             raise Unfit('%s, line %d is not %r' % (name, number, text))
-        if number in file.gone:
-            raise Unfit('%s, line %d is changed twice' % (name, number))
-        file.gone.add(number)
-        return file
+        return file, file.now.pop(place)
 
     def _take_line(self, name, number, text):
+        file = self._file(name)
+        if not (file.is_torn and int(number) == len(file.lines)):
+            file.keep_copies('line')
         self._remove(name, number, text)
+        file.gone.add(int(number))
 
     def _take_trimmed(self, name, number):
         file = self._file(name)
-        file.line(int(number))
+        file.place(int(number))
         file.last = int(number)
 
     def _take_log(self, name):
         self._file(name).is_left_out = True
 
     def _take_moved(self, name, number, before, new, text):
-        self._file(name).line(int(before))
         self._move(name, number, int(before), new, text)
 
     def _take_moved_to_the_end(self, name, number, new, text):
-        self._move(name, number, len(self._file(name).lines) + 1, new, text)
+        self._move(name, number, None, new, text)
 
     def _move(self, name, number, before, new, text):
-        file = self._remove(name, number, text)
-        if new.split(' ')[2:] != text.split(' ')[2:]:
+        self._file(name).keep_copies('moved')
+        file, line = self._remove(name, number, text)
+        if new.split(' ')[2:] != text.split(' ')[2:] or line.number in file.moves:
             raise Unfit('%s: %r became %r' % (name, text, new))
-        file.moved.setdefault(before, []).append(new)
-        file.moves[int(number)] = before, new
+        file.now.insert(len(file.now) if before is None else file.place_before(before), Line(line.number, new))
+        file.moves[line.number] = before, new
 
     def _take_inserted(self, name, number, line):
         file = self._file(name)
-        file.line(int(number))
         if int(number) in file.inserted:
             raise Unfit('%s: two changes are added before line %s' % (name, number))
-        file.inserted[int(number)] = line
+        file.now.insert(file.place(int(number)), Line(None, line))
+        file.inserted[int(number)] = file.inserted_now[int(number)] = line
+
+    def _take_earlier(self, name, number, before, text):
+        self._file(name).keep_copies('earlier')
+        file, line = self._remove(name, number, text)
+        file.now.insert(file.place(int(before)), line)
+
+    def _take_inserted_earlier(self, name, number, before, text):
+        file = self._file(name)
+        file.keep_copies('inserted earlier')
+        place = file.place(int(number)) - 1
+        if file.now[place] != Line(None, text) or file.inserted_now.pop(int(number), None) != text:
+            raise Unfit('%s: %r was not added before line %s' % (name, text, number))
+        file.now.insert(file.place(int(before)), file.now.pop(place))
+        file.inserted_now[int(before)] = text
+
+    def _take_later(self, name, number, new, text):
+        self._file(name).keep_copies('later')
+        file, place = self._file(name), self._file(name).place(int(number))
+        if file.now[place].text != text or new.split(' ')[2] != text.split(' ')[2]:
+            raise Unfit('%s, line %s: %r became %r' % (name, number, text, new))
+        file.now[place] = Line(int(number), new)
 
     def _take_added(self, name, line):
         self._file(name).added.append(line)
+        self._file(name).ever_added.append(line)
 
     def _take_added_no_more(self, name, line):
         if line not in self._file(name).added:

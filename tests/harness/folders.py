@@ -3,6 +3,7 @@ from dataclasses import dataclass, field
 from functools import partial
 from typing import Optional
 
+from harness import recorders
 from harness.recordings import Entry, is_regular, line_of
 
 # What is added to the numbers of rings and processes that are made large.
@@ -17,6 +18,8 @@ class Folder:
     logs: list
     files: dict = field(default_factory=dict)
     words: list = field(default_factory=list)
+    # The first lines that say how logs were recorded, by the names of the files; an empty one is none.
+    firsts: dict = field(default_factory=dict)
     # How many bytes are read at once; None if the tool decides.
     block: Optional[int] = None
 
@@ -34,6 +37,7 @@ class Recording:
         # By the life: what stands behind the last whole line of its log.
         self.torn = {}
         self.words = []
+        self.firsts = {}
         self.clock = None
 
     def chance(self, of_hundred):
@@ -45,6 +49,8 @@ class Recording:
         draw = self.draw
         if not self.is_without_lives and self.chance(12):
             self.forget_transitional()
+        elif self.chance(25):
+            recorders.tell_late(self)
         if self.chance(45):
             self.record_sends()
         if self.chance(20):
@@ -55,7 +61,11 @@ class Recording:
         large = draw.choice(((True, True), (True, False), (False, True))) if self.chance(12) else (False, False)
         if any(large) or self.chance(2):
             self.words.append('--renumber')
+        if self.chance(12):
+            recorders.tear(self, Names.lives if self.has_lives or self.is_without_lives else Names.processes)
         self.say_endings()
+        if self.chance(25):
+            self.firsts = recorders.say_first(self)
         if self.chance(22):
             self.words.append('--trim')
         if self.chance(60 if self.run.has_names_again else 15):
@@ -69,6 +79,7 @@ class Recording:
 
     def forget_transitional(self):
         """The layer reports no transitional configurations, and delivers in the regular one before."""
+        recorders.skip_some(self)
         for log in self.logs:
             entries, there = [], None
             for entry in log.entries:
@@ -78,7 +89,7 @@ class Recording:
                 entries.append(entry if is_regular(entry.configuration) or not there else entry._replace(configuration=there))
             log.entries = entries
         if self.chance(90):
-            self.words.append('--transitional')
+            self.words += ['--transitional', *(['--late-changes'] if self.chance(50) else [])]
 
     def record_sends(self):
         """Sends are written down at other places."""
@@ -222,7 +233,9 @@ class Recording:
             life = '' if is_plain and log.life == 1 else '.%d' % log.life
             lines = [line_of(names.of_entry(entry), self.has_lives and not self.is_without_lives) for entry in log.entries]
             text = ''.join(line + '\n' for line in lines) + ('quiet\n' if log.ending == 'quiet' else '')
-            folder.files['%d%s.log' % (names.process(log.process), life)] = text + self.torn.get(log.who, '')
+            name = '%d%s.log' % (names.process(log.process), life)
+            folder.files[name] = text + self.torn.get(log.who, '')
+            folder.firsts[name] = self.firsts.get(log.who, '')
         if self.clock is not None:
             self.words += ['--clock', 'FOLDER/times']
             folder.files['times'] = ''.join(names.of_clock(line) + '\n' for line in self.clock)

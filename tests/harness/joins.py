@@ -10,9 +10,10 @@ import traceback
 from contextlib import redirect_stderr, redirect_stdout
 from typing import NamedTuple
 
-from harness import process, told
-from harness.applied import Applied, Unfit, glue
+from harness import process, recorded, told
+from harness.applied import Applied, Unfit, glue, read_file
 from harness.folders import Recording
+from harness.lines import entries_of
 from harness.own_sends import OwnSends
 from harness.recordings import broken_run, good_run, text_of
 
@@ -129,6 +130,11 @@ class Case:
         """The arguments."""
         return self.folder.words
 
+    def asked(self):
+        """The options that the first lines ask for, or None if the logs are to be refused."""
+        logs = {name: read_file(name, text) for name, text in self.folder.files.items() if name.endswith('.log')}
+        return recorded.asked_by(self.folder.firsts, [name for name, log in logs.items() if entries_of(log)], self.words)
+
     def recorded(self, has_lives=True):
         """The run that the folder has, with nothing done to it but that its members have their lives."""
         return text_of([log for log in self.folder.logs if log.entries], has_lives)
@@ -139,7 +145,7 @@ class Case:
         made = tool.join(self.folder)
         verdicts = {'the run': auditor.verdict(text_of(self.run.logs, True)), 'its folder': auditor.verdict(self.recorded())}
         verdicts['what was written'] = auditor.of_parts(made.runs) if made.status == 0 else ('not joined',)
-        wrongs = list(self._of_status(made))
+        wrongs = [*self._of_status(made), *self._of_first_lines(made)]
         if made.status == 0 and not wrongs:
             try:
                 wrongs = [*self._of_run(made, auditor), *self._of_verdict(verdicts['what was written'])]
@@ -156,25 +162,40 @@ class Case:
         elif made.status == 0 and not made.runs:
             yield 'nothing was written'
 
+    def _of_first_lines(self, made):
+        """What is wrong with what is done for first lines."""
+        asked, refused = self.asked(), '--as-written ' in made.errors
+        if asked is None and made.status == 0:
+            yield 'the first lines are wrong or disagree, and that is not refused'
+        if asked is not None and refused:
+            yield 'first lines are refused that agree'
+        wanted = ['logs: as the first lines of the logs say: %s' % ' '.join(asked)] if asked else []
+        if made.status == 0 and [line for line in made.errors.splitlines() if 'as the first lines' in line] != wanted:
+            yield 'what first lines ask for is not told'
+
     def _of_run(self, made, auditor):
         """What is wrong with the run, the list of changes and the messages."""
-        applied = Applied(self.folder.files, made.changes, '--lives' in self.words)
+        words = [*self.words, *self.asked()]
+        applied = Applied(self.folder.files, made.changes, '--lives' in words)
         whole = glue(made.runs) if '--cut' in self.words else made.runs[0]
         if whole != applied.text():
             yield 'the list of changes gives another run:\n%s' % applied.text().decode()
             return
         errors = made.errors.splitlines()
-        own_sends = OwnSends(applied, self.words, errors)
-        yield from told.not_asked_for(applied, self.words)
-        yield from told.endings_not_asked_for(applied, self.words)
+        own_sends = OwnSends(applied, words, errors)
+        yield from told.not_asked_for(applied, words)
+        yield from told.endings_not_asked_for(applied, words)
+        yield from recorded.torn(applied, words)
         yield from told.untold(applied, errors)
         yield from own_sends.wrongs()
-        if '--own-sends' in self.words:
+        if '--own-sends' in words:
             yield from own_sends.untold()
         if '--lives' in self.words:
             yield from told.Lives(applied, self.words, self.folder.files.get('times', '')).wrongs()
-        if '--transitional' in self.words:
+        if '--transitional' in words:
             yield from told.transitional(applied)
+        if '--late-changes' in words:
+            yield from recorded.late_changes(applied)
         yield from told.trims(applied)
         yield from told.names_again(applied, errors)
         if '--cut' in self.words:
@@ -182,7 +203,7 @@ class Case:
             yield from self._of_cut(made, auditor.verdict(whole), auditor.of_parts(made.runs))
         if '--renumber' not in self.words:
             yield from told.differences(told.logs_of(self.recorded()), told.logs_of(whole), applied.files, errors)
-        if not self.words and whole != self.recorded(not whole.startswith(b'totem-run 1\n')):
+        if not set(words) - {'--as-written'} and whole != self.recorded(not whole.startswith(b'totem-run 1\n')):
             yield 'a plain join writes another run than the folder has'
 
     def _of_cut(self, made, whole, parts):

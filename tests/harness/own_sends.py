@@ -1,7 +1,7 @@
 """What `tools/logs join --own-sends` promises of the sends that it moves, leaves where they are or leaves out, tested by loops of its own."""
 from collections import Counter
 
-from harness.lines import changes_of, configuration_of, entries_of, has_line, is_send, message_of, shortens
+from harness.lines import changes_of, configuration_of, has_line, is_send, message_of, shortens
 from harness.recordings import is_regular
 
 
@@ -28,8 +28,13 @@ class Places:
         return self.others[place] if place < len(self.others) else ''
 
 
+def texts_of(lines):
+    """What lines say."""
+    return [line.text for line in lines]
+
+
 class OwnSends:
-    """What became of the sends of all logs."""
+    """What became of the sends of all logs, from what these had before sends moved."""
 
     def __init__(self, applied, words, errors):
         self.applied = applied
@@ -37,15 +42,15 @@ class OwnSends:
         self.errors = errors
         self.delivered, self.sent = set(), Counter()
         for file in applied.files.values():
-            lines = entries_of(file)
+            lines = texts_of(file.before_sends)
             self.delivered |= {message_of(line) for line in lines if line.startswith('dlv ')}
             self.sent.update(message_of(line) for line in lines if is_send(line))
 
     def wrongs(self):
         """What is wrong with the sends and with the order of the other entries."""
         for file in self.applied.logs():
-            old, new = Places(entries_of(file)), Places(file.result_of_lines())
-            others = new.others[:len(new.others) - len(file.added)]
+            old, new = Places(texts_of(file.before_sends)), Places(file.kept())
+            others = new.others
             is_whole = not file.is_trimmed
             if others != old.others[:len(others)] or is_whole and len(others) != len(old.others):
                 yield '%s: entries other than sends are changed' % file.name
@@ -54,9 +59,8 @@ class OwnSends:
                 yield '%s: %s' % (file.name, what)
 
     def _of_log(self, file, old, new):
-        lines = entries_of(file)
         fail = next((at for at, line in enumerate(old.others) if line.startswith('fail ')), len(old.others))
-        numbers = [number for number, line in enumerate(lines, 1) if is_send(line)]
+        numbers = [line.number for line in file.before_sends if is_send(line.text)]
         places = [self._place_of(file, number, place) for number, (_, place, _) in zip(numbers, old.sends)]
         for at, (message, place, line) in enumerate(old.sends):
             number, new_place = numbers[at], places[at]
@@ -80,7 +84,12 @@ class OwnSends:
     def _place_of(file, number, place):
         """The place of a send after the moves; None if it is left out."""
         if number in file.moves:
-            return sum(not is_send(line) for line in entries_of(file)[:file.moves[number][0] - 1])
+            before, place = file.moves[number][0], len(file.before_sends)
+            if before is not None:
+                place = next(at for at, line in enumerate(file.before_sends) if line.number == before)
+                while place and file.before_sends[place - 1].number is None:
+                    place -= 1
+            return sum(not is_send(text) for text in texts_of(file.before_sends)[:place])
         return None if number in file.gone else place
 
     def _order(self, file, old, new):
@@ -151,9 +160,9 @@ class OwnSends:
         """Sends that stay, elsewhere than just before their own delivery, of which standard error says nothing."""
         moved = {(found[1], int(found[2])) for kind, found in self.applied.changes if kind.startswith('moved') or kind == 'line'}
         for file in self.applied.logs():
-            lines = entries_of(file)
+            lines = texts_of(file.before_sends)
             places = iter(Places(lines).sends)
-            for number, line in enumerate(lines, 1):
+            for number, line in file.before_sends:
                 if not is_send(line):
                     continue
                 message, place, _ = next(places)

@@ -7,8 +7,9 @@ from harness.recordings import is_regular
 
 
 # Which kinds of changes an option allows; without an option only a last line that is cut off is left out, and a log without an entry.
-ALLOWED = {'moved': '--own-sends', 'moved to the end': '--own-sends', 'line': '--own-sends', 'trimmed': '--trim', 'added': '--failed', 'inserted': '--transitional',
-           'added no more': '--trim', 'member': '--lives', 'process': '--renumber', 'ring': '--renumber'}
+ALLOWED = {'moved': '--own-sends', 'moved to the end': '--own-sends', 'line': '--own-sends', 'trimmed': '--trim', 'inserted': '--transitional',
+           'earlier': '--late-changes', 'inserted earlier': '--late-changes', 'later': '--late-changes', 'added no more': '--trim',
+           'member': '--lives', 'process': '--renumber', 'ring': '--renumber'}
 
 
 def is_torn_line(applied, found):
@@ -38,7 +39,8 @@ def _named(words, option):
 
 def endings_not_asked_for(applied, words):
     """Logs that end in another way than their files and the call say."""
-    failed, quiet = _named(words, '--failed'), _named(words, '--quiet')
+    torn, quiet = _named(words, '--torn'), _named(words, '--quiet')
+    failed = _named(words, '--failed') | torn
     for kind, found in applied.changes:
         if kind not in ('added', 'ending'):
             continue
@@ -47,7 +49,8 @@ def endings_not_asked_for(applied, words):
         is_said = {'failed': names & failed, 'quiet': names & quiet or 'all' in quiet, 'open': '--trim' in words}
         changes = changes_of(entries_of(file))
         if kind == 'added':
-            if not names & failed or found[2] != 'fail ' + changes[-1]:
+            wanted = 'fail ' + changes[-1] if found[2].startswith('fail ') else 'send %s a %s' % (changes[-1], message_of(found[2]))
+            if not names & (failed if found[2].startswith('fail ') else torn) or found[2] != wanted:
                 yield 'nobody said so: %s' % found[0]
         elif not is_said[found[2]]:
             yield 'nobody said so: %s' % found[0]
@@ -68,8 +71,16 @@ def untold(applied, errors):
             if has_line(errors, found[1] + ': transitional configurations that are assumed', configuration_of(found[3])):
                 continue
             parts = [found[1], 'transitional configurations that are assumed', '..']
+        elif kind in ('added', 'added no more') and is_send(found[2]):
+            if has_line(errors, found[1] + ': sends that are added', message_of(found[2])):
+                continue
+            parts = [found[1], 'sends that are added', '..']
         elif kind in ('added', 'added no more'):
             parts = [found[1], found[2]]
+        elif kind in ('inserted earlier', 'later') or kind == 'earlier' and found[4].startswith('conf '):
+            parts = [found[1], 'past a gap', configuration_of(found[3] if kind == 'later' else found[4])]
+        elif kind == 'earlier':
+            parts = [found[1], 'stay in the regular configurations before', message_of(found[4])]
         elif kind == 'ending':
             if has_line(errors, found[1], found[3]):
                 continue

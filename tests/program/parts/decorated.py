@@ -30,7 +30,7 @@ def _in_seconds(time):
 class Decorated:
     """A log, written with more than its entries, or with some of that, or nothing."""
 
-    def __init__(self, draw, name, text):
+    def __init__(self, draw, name, text, first=''):
         self.name = name
         self.counts = dict.fromkeys(KINDS, 0)
         # By the number of a line of the file: the number of the line that it was, what it says as an entry, and its time.
@@ -40,6 +40,10 @@ class Decorated:
         self.time = BEGIN
         self.spell = draw.choice((None, None, _in_utc, _elsewhere, _in_seconds))
         self.has_gaps, self.has_checksums = draw.randrange(3) == 0, draw.randrange(2) == 0
+        if first:
+            # (the line that says how the log was recorded)
+            self.counts['blank lines and comments'] += 1
+            self.written.append(first)
         whole, _, torn = text.rpartition('\n')
         for number, line in enumerate(whole.split('\n') if whole else (), 1):
             self._add_empty()

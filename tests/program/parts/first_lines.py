@@ -86,5 +86,6 @@ FIRST_LINES_REFUSED = {
     'a key that comes twice': ('', _both(FIRST + ' sends=taken sends=taken', ''), 'logs: 1.log, line 1: sends comes twice ('),
     'a word without a value': ('', _both(FIRST + ' sends', ''), 'logs: 1.log, line 1: this is not KEY=VALUE: sends ('),
     'two blanks': ('', _both(FIRST + '  sends=taken', ''), 'logs: 1.log, line 1: this is not KEY=VALUE:  ('),
-    'a line end of another system': ('', _both(FIRST + ' sends=taken\r', ''), 'logs: 1.log, line 1: sends is ordered or delivered or taken, not taken? ('),
+    'a line end of another system': (
+        '', _both(FIRST + ' sends=taken\r', ''), 'logs: 1.log, line 1: sends is ordered or delivered or taken, not taken? ('),
 }

@@ -38,12 +38,14 @@ LATE_CHANGES = {
         '--late-changes', {'1.log': ALL, '2.log': 'conf r4.1 1 2 3\ndlv r4.1 4.1#3\n', '3.log': 'conf r4.1 1 2 3\ndlv r4.1 4.1#3\nfail r4.1\n'},
         _run(ALL, 'conf r4.1 1 2 3\ndlv r4.1 4.1#3\n', 'conf r4.1 1 2 3\ndlv r4.1 4.1#3\nfail r4.1\n').replace('4.1\nopen', '4.1\nfailed'), NO_GAP),
     'a log that goes on after a failure': (
-        '--late-changes', {'1.log': 'conf r4.1 1 2\ndlv r4.1 4.1#1\ndlv r4.1 4.1#3\n', '2.log': 'conf r4.1 1 2\ndlv r4.1 4.1#3\nfail r4.1\nconf t8.2/2 2\n'},
+        '--late-changes', {'1.log': 'conf r4.1 1 2\ndlv r4.1 4.1#1\ndlv r4.1 4.1#3\n',
+                           '2.log': 'conf r4.1 1 2\ndlv r4.1 4.1#3\nfail r4.1\nconf t8.2/2 2\n'},
         _run('conf r4.1 1 2\ndlv r4.1 4.1#1\ndlv r4.1 4.1#3\n', 'conf r4.1 1 2\ndlv r4.1 4.1#3\nfail r4.1\nconf t8.2/2 2\n'), NO_GAP),
     'two orders of the same messages': (
         '--late-changes', {'1.log': 'conf r4.1 1 2\ndlv r4.1 4.1#1\ndlv r4.1 4.1#2\nconf t8.1/1 1\n',
                            '2.log': 'conf r4.1 1 2\ndlv r4.1 4.1#2\ndlv r4.1 4.1#1\nconf t8.2/2 2\n'},
-        _run('conf r4.1 1 2\ndlv r4.1 4.1#1\ndlv r4.1 4.1#2\nconf t8.1/1 1\n', 'conf r4.1 1 2\ndlv r4.1 4.1#2\ndlv r4.1 4.1#1\nconf t8.2/2 2\n'), NO_GAP),
+        _run('conf r4.1 1 2\ndlv r4.1 4.1#1\ndlv r4.1 4.1#2\nconf t8.1/1 1\n',
+             'conf r4.1 1 2\ndlv r4.1 4.1#2\ndlv r4.1 4.1#1\nconf t8.2/2 2\n'), NO_GAP),
     'two that lack a message each': (
         '--late-changes', {'1.log': 'conf r4.1 1 2\ndlv r4.1 4.1#1\ndlv r4.1 4.1#3\nconf t8.1/1 1\n',
                            '2.log': 'conf r4.1 1 2\ndlv r4.1 4.1#2\ndlv r4.1 4.1#3\nconf t8.2/2 2\n'},
@@ -81,7 +83,8 @@ LATE_CHANGES = {
         _run('conf r4.1 1 2\ndlv r4.1 4.1#1\nsend r4.1 a 4.1#2\ndlv r4.1 4.1#2\nconf t8.1/1 1\nconf r8.1 1\n',
              'conf r4.1 1 2\nsend r4.1 a 4.1#1\ndlv r4.1 4.1#1\nsend r4.1 a 4.1#3\nconf t8.2/2 2\ndlv t8.2/2 4.1#3\ndlv t8.2/2 4.1#4\nconf r8.2 2\n',
              'conf r4.1 1 2\ndlv r4.1 4.1#1\ndlv r4.1 4.1#2\ndlv r4.1 4.1#3\n'),
-        'logs: 1.log: transitional configurations that are assumed: 1 (t8.1/1)\nlogs: 2.log: transitional configurations that are assumed: 1 (t8.2/2)\n'
+        'logs: 1.log: transitional configurations that are assumed: 1 (t8.1/1)\n'
+        'logs: 2.log: transitional configurations that are assumed: 1 (t8.2/2)\n'
         + _past(2, 2, 't8.2/2: 2') + 'logs: 2.log: sends moved to just before their own deliveries: 1 (4.1#1)\n'
         'logs: 2.log: sends moved to the end of r4.1, since it delivered the messages after it or not at all: 1 (4.1#3)\n'),
 }

@@ -62,29 +62,32 @@ class Origins:
         if added and added[2]:
             return self._wrong_insertion(entry, file, int(added[2]))
         if added:
-            return None if [entry] == [self.applied._line(file, it, self.has_lives) for it in file.added] else 'nothing was added'
+            return None if entry in [self.applied._line(file, it, self.has_lives) for it in file.added] else 'nothing was added'
         return self._wrong_line(who, entry, file, int(found[3]), found[4] or '')
 
     def _wrong_insertion(self, entry, file, number):
         lines = self.logs[file.name].lines
-        inserted = file.inserted.get(lines[number][0]) if number in lines else None
+        inserted = file.inserted_now.get(lines[number][0]) if number in lines else None
         return 'another entry' if not inserted or self.applied._line(file, inserted, self.has_lives) != entry else None
 
     def _wrong_line(self, who, entry, file, number, time):
         if number not in self.logs[file.name].lines:
             return 'no entry'
-        _, own, own_time = self.logs[file.name].lines[number]
+        before, own, own_time = self.logs[file.name].lines[number]
         if time != own_time:
             return 'another time'
         if (file.name, number) in self.named:
             return 'two entries have this line'
         self.named.add((file.name, number))
+        # (where the line is, and what it says, before sends move: --late-changes makes that another place)
+        place = next((at for at, line in enumerate(file.before_sends) if line.number == before), None)
+        own = own if place is None else file.before_sends[place].text
         words, there = entry.split(' '), self.applied._line(file, own, self.has_lives).split(' ')
         if words[0] == 'send':
             # (which --own-sends moves into another configuration)
             return None if [words[0], *words[2:]] == [there[0], *there[2:]] else 'another entry'
-        is_later = number > self.last.get(who, 0)
-        self.last[who] = number
+        is_later = place is not None and place > self.last.get(who, -1)
+        self.last[who] = place
         return 'another entry' if words != there else None if is_later else 'another order'
 
 
@@ -122,7 +125,8 @@ class MappedCase(Case):
     def __init__(self, seed, number):
         super().__init__(seed, number)
         draw = random.Random('%s lines %d' % (seed, number))
-        self.logs = {name: Decorated(draw, name, text) for name, text in self.folder.files.items() if name.endswith('.log')}
+        self.logs = {name: Decorated(draw, name, text, self.folder.firsts[name])
+                     for name, text in self.folder.files.items() if name.endswith('.log')}
         self.tool = None
 
     def judge(self, tool, auditor):

@@ -95,15 +95,18 @@ TORN_REFUSED = {
     'two whose numbers have the same remainder': (
         '--torn 1,2', {'1.log': 'conf r4.1 1 2 3\nsend r4.1 a 4.1#1\nsend r4.1 a 4.1#33\n', '2.log': 'conf r4.1 1 2 3\nsend r4.1 a 4.1#97\n',
                        '3.log': 'conf r4.1 1 2 3\ndlv r4.1 4.1#65\n'}, 'logs: 4.1#65: nobody sends it, both 1.log and 2.log may have, '),
-    'a torn log that failed': ('--torn 1', {'1.log': 'conf r4.1 1\nfail r4.1\n'}, 'logs: 1.log ends with fail, and the call says that its end was torn off\n'),
-    'a torn log that is quiet': ('--torn 1', {'1.log': 'conf r4.1 1\nquiet\n'}, 'logs: 1.log says that it is quiet, and the call says that its end was '),
-    'a torn log without a change': ('--torn 1', {'1.log': 'send r4.1 a 4.1#1\n'}, 'logs: 1.log changes to no configuration, so it can have failed in none\n'),
+    'a torn log that failed': ('--torn 1', {'1.log': 'conf r4.1 1\nfail r4.1\n'}, 'logs: 1.log ends with fail, and the call says that its end was '),
+    'a torn log that is quiet': (
+        '--torn 1', {'1.log': 'conf r4.1 1\nquiet\n'}, 'logs: 1.log says that it is quiet, and the call says that its end was torn off\n'),
+    'a torn log without a change': (
+        '--torn 1', {'1.log': 'send r4.1 a 4.1#1\n'}, 'logs: 1.log changes to no configuration, so it can have failed in none\n'),
     'a torn log that is not there': ('--torn 2', {'1.log': 'conf r4.1 1\n'}, 'logs: there is no log of process 2\n'),
-    'a torn log that is to be quiet': ('--torn 1 --quiet 1', {'1.log': 'conf r4.1 1\n'}, 'logs: 1.log ends with fail, and the call says that it is quiet\n'),
+    'a torn log that is to be quiet': (
+        '--torn 1 --quiet 1', {'1.log': 'conf r4.1 1\n'}, 'logs: 1.log ends with fail, and the call says that it is quiet\n'),
 }
 
-HANG = 'logs: warning: at the end of all logs that did not fail nobody delivers anything, though messages were handed over that nobody ever delivers: ' \
-    '%d (%s). Does the layer hang? The verdict may be yes nevertheless: no specification that is judged promises progress\n'
+HANG = 'logs: warning: at the end of all logs that did not fail nobody delivers anything, though messages were handed over that nobody ever ' \
+    'delivers: %d (%s). Does the layer hang? The verdict may be yes nevertheless: no specification that is judged promises progress\n'
 HOLE = 'logs: warning: %s.log: of the sends that are left out, those of messages after which it sends one that was delivered: %d (%s). The layer ' \
     'took the messages and lost them, and the verdict may be yes nevertheless\n'
 MOVED = 'logs: %s.log: sends moved to just before their own deliveries: 1 (%s)\n'
@@ -143,7 +146,8 @@ HANGS = {
         '--failed 2', {'1.log': 'conf r4.1 1 2\n' + _sends(10, 10), '2.log': 'conf r4.1 1 2\ndlv r4.1 4.1#11\n'}, 'logs: 2.log: fail r4.1 is added\n'),
     'messages that are lost between others': (
         '--own-sends', {'1.log': 'conf r4.1 1 2\n' + _sends(1, 5) + 'dlv r4.1 4.1#2\n', '2.log': 'conf r4.1 1 2\ndlv r4.1 4.1#2\ndlv r4.1 4.1#4\n'},
-        KEPT_BACK + 'logs: 1.log: sends that are left out, since nobody delivered the messages: 3 (4.1#1, 4.1#3, 4.1#5)\n' + HOLE % (1, 2, '4.1#1, 4.1#3')),
+        KEPT_BACK + 'logs: 1.log: sends that are left out, since nobody delivered the messages: 3 (4.1#1, 4.1#3, 4.1#5)\n'
+        + HOLE % (1, 2, '4.1#1, 4.1#3')),
     'messages that are the last ones': (
         '--own-sends', {'1.log': 'conf r4.1 1\n' + _sends(1, 3) + 'dlv r4.1 4.1#1\n'},
         MOVED % (1, '4.1#1') + 'logs: 1.log: sends that are left out, since nobody delivered the messages: 2 (4.1#2, 4.1#3)\n'),

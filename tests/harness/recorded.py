@@ -1,0 +1,170 @@
+"""What `tools/logs join` promises of first lines, of changes that are told late and of torn ends, worked out by loops of its own over the logs of a
+folder."""
+from harness.lines import configuration_of, entries_of, is_send, message_of
+from harness.recordings import is_regular
+
+# The options that first lines ask for, and those that take their place.
+ASKED = {'sends': {'ordered': '', 'delivered': '', 'taken': '--own-sends'},
+         'transitional': {'told': '', 'late': '--late-changes', 'untold': '--transitional'}}
+INSTEAD = {'sends': {'--own-sends'}, 'transitional': {'--transitional', '--late-changes'}}
+
+
+def asked_by(firsts, with_entries, words):
+    """The options that the first lines ask for, in their order, or None if the logs are to be refused. `firsts` has the first line of each log, or
+    an empty one; `with_entries` are the logs that have an entry."""
+    if '--as-written' in words:
+        return []
+    said = {}
+    for name, line in firsts.items():
+        pairs = [word.split('=', 1) for word in line.split(' ')[3:]]
+        known = [key for key, _ in pairs if key in ASKED]
+        said[name] = dict(pairs)
+        if line and (line.split(' ')[2:3] != ['1'] or any(said[name][key] not in ASKED[key] for key in known) or len(set(known)) < len(known)):
+            return None
+    options = []
+    for key, values in ASKED.items():
+        wanted = {values.get(said[name].get(key), '') for name in with_entries}
+        if not INSTEAD[key] & set(words):
+            if len(wanted) > 1:
+                return None
+            options += [option for option in wanted if option]
+    return options
+
+
+class Stay:
+    """What a log has from one change to the next."""
+
+    def __init__(self, file, change):
+        self.file = file
+        self.change = change
+        self.lines = []
+        self.next = None
+
+    @property
+    def name(self):
+        """The configuration."""
+        return configuration_of(self.change.text) if self.change else ''
+
+    def delivered(self):
+        """What it delivers in that configuration, in order."""
+        return [message_of(line.text) for line in self.lines if line.text.startswith('dlv %s ' % self.name)]
+
+    def goes_to(self):
+        """The transitional configuration to which the log goes from here, or None."""
+        has_failed = any(line.text.startswith('fail ') for line in self.lines)
+        return self.next.name if self.next and not is_regular(self.next.name) and not has_failed else None
+
+    def has(self):
+        """What it delivers here, or in the transitional configuration right after."""
+        return set(self.delivered()) | set(self.next.delivered() if self.next and not is_regular(self.next.name) else ())
+
+
+def stays_of(file, lines):
+    """The stays of a log, the first of which is before its first change."""
+    stays = [Stay(file, None)]
+    for line in lines:
+        if line.text.startswith('conf '):
+            stays.append(Stay(file, line))
+            stays[-2].next = stays[-1]
+        else:
+            stays[-1].lines.append(line)
+    return stays
+
+
+def _is_past_a_gap(message, one, others):
+    """Whether another log delivers, before this message, one that this log never delivers there."""
+    for other in others:
+        delivered = other.delivered()
+        if message in delivered and not set(delivered[:delivered.index(message)]) <= one.has():
+            return True
+    return False
+
+
+def late_changes(applied):
+    """What is wrong with the places of transitional configurations."""
+    stays = {file.name: stays_of(file, file.before_earlier) for file in applied.files.values()}
+    everywhere = [stay for of_log in stays.values() for stay in of_log if is_regular(stay.name or 't')]
+    late = {}
+    for stay in everywhere:
+        others = [other for other in everywhere if other.name == stay.name]
+        if stay.goes_to():
+            late.setdefault((stay.name, stay.goes_to()), set()).update(
+                message for message in stay.delivered() if _is_past_a_gap(message, stay, others))
+    for name, of_log in stays.items():
+        wanted = []
+        for before, stay in zip([None, *of_log], of_log):
+            is_moved = before in everywhere and before.goes_to() and late[before.name, before.goes_to()].intersection(before.delivered())
+            if stay.change and not is_moved:
+                wanted.append(stay.change)
+            is_late = stay in everywhere and stay.goes_to() and late[stay.name, stay.goes_to()]
+            wanted += _parted(stay, is_late) if is_late else stay.lines
+        if wanted != applied.files[name].before_sends:
+            yield '%s: with its changes at their places it is %r, and should be %r' % (name, applied.files[name].before_sends, wanted)
+
+
+def _parted(stay, late):
+    """The lines of a stay, the deliveries from the first one of these on in the transitional configuration after it."""
+    begin = 'dlv %s ' % stay.name
+    first = next((at for at, line in enumerate(stay.lines) if line.text.startswith(begin) and message_of(line.text) in late), None)
+    if first is None:
+        return stay.lines
+    rest = stay.lines[first:]
+    moved = [line._replace(text='dlv %s %s' % (stay.goes_to(), message_of(line.text))) for line in rest if line.text.startswith(begin)]
+    return [*stay.lines[:first], *(line for line in rest if not line.text.startswith(begin)), stay.next.change, *moved]
+
+
+class Torn:
+    """The sends that torn logs get. `names` are the files of these logs."""
+
+    def __init__(self, applied, names):
+        self.files = applied.files
+        self.names = names
+        self.sends = {name: [message_of(line) for line in entries_of(file) if is_send(line)] for name, file in self.files.items()}
+        self.stays = [stay for file in self.files.values() for stay in stays_of(file, [line for line in file.first if line.text])]
+
+    def _lost(self, name):
+        """What nobody sends and some log delivers where this one ends, in the order in which it is added."""
+        last = [configuration_of(line) for line in entries_of(self.files[name]) if line.startswith('conf ')][-1]
+        sent = {message for messages in self.sends.values() for message in messages}
+        lists = []
+        for stay in self.stays if is_regular(last) else ():
+            if stay.name == last:
+                after = stay.next.delivered() if stay.next and not is_regular(stay.next.name) else []
+                lists.append(stay.delivered() + after)
+        lists.sort(key=len, reverse=True)
+        return [message for message in dict.fromkeys(sum(lists, [])) if message not in sent]
+
+    def _may_have_sent(self, name, message):
+        """Whether the name of a message allows that this log sent it."""
+        ring = message.partition('#')[0]
+        numbers = {log: [int(other.partition('#')[2]) for other in sent if other.startswith(ring + '#')] for log, sent in self.sends.items()}
+        numbers = {log: those for log, those in numbers.items() if those}
+        remainders = [{number % 32 for number in those} for those in numbers.values()]
+        is_telling = all(len(one) == 1 for one in remainders) and len(set().union(*remainders)) == len(remainders) \
+            and any(len(those) > 1 for those in numbers.values())
+        own = int(message.partition('#')[2]) % 32
+        if not is_telling:
+            return True
+        if any(own in one for one in remainders):
+            return name in numbers and numbers[name][0] % 32 == own
+        return name not in numbers
+
+    def wanted(self):
+        """By file, the messages whose sends are added; None if the logs are to be refused."""
+        can = {name: [message for message in self._lost(name) if self._may_have_sent(name, message)] for name in self.names}
+        everything = sum(can.values(), [])
+        return can if len(everything) == len(set(everything)) else None
+
+
+def torn(applied, words):
+    """What is wrong with the sends that torn logs get."""
+    named = {who for word, value in zip(words, words[1:]) if word == '--torn' for who in value.split(',')}
+    files = [name for name, file in applied.files.items() if {str(file.process), '%d:%d' % (file.process, file.life or 1)} & named]
+    wanted = Torn(applied, files).wanted()
+    if wanted is None:
+        yield 'two torn logs may have sent a message, and that is not refused'
+        return
+    for name, file in applied.files.items():
+        sends = [message_of(line) for line in file.ever_added if is_send(line)]
+        if sends != wanted.get(name, []):
+            yield '%s gets the sends %r, and should get %r' % (name, sends, wanted.get(name, []))

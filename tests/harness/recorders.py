@@ -1,0 +1,96 @@
+"""What recorders do that folders.py does not: they tell of transitional configurations late, lose their ends with the power, and say in a first line
+how they record."""
+from harness.recordings import Entry, is_regular, line_of
+
+FIRST = '# totem-log 1'
+WRONG = ('# totem-log 2', '# totem-log', FIRST + ' sends=later', FIRST + ' node=1 transitional=', FIRST + ' sends=taken transitional=never')
+OTHERS = ('by=record/1', 'node=2', 'group=a=b', 'sync=')
+
+
+def skip_some(recording):
+    """In some transitional configurations nobody delivers some message: its sender was left behind."""
+    names = sorted({entry.configuration for log in recording.logs for entry in log.entries if not is_regular(entry.configuration)})
+    for name in names:
+        messages = sorted({entry.message for log in recording.logs for entry in log.entries if (entry.word, entry.configuration) == ('dlv', name)})
+        if len(messages) > 1 and recording.chance(60):
+            skipped = Entry('dlv', name, message=recording.draw.choice(messages[:-1]))
+            for log in recording.logs:
+                log.entries = [entry for entry in log.entries if entry != skipped]
+
+
+def tell_late(recording):
+    """The layer says nothing of a transitional configuration until it is over: what was delivered there is written in the regular one before."""
+    skip_some(recording)
+    for log in recording.logs:
+        # The regular configuration in which the log is, or from which it just came, and the change that waits.
+        entries, regular, waiting = [], None, None
+        for entry in log.entries:
+            if waiting and (entry.word, entry.configuration) == ('dlv', waiting.configuration):
+                entries.append(entry._replace(configuration=regular))
+                continue
+            if waiting:
+                entries, regular, waiting = [*entries, waiting], None, None
+            if entry.word == 'conf' and regular and not is_regular(entry.configuration) and not recording.chance(5):
+                waiting = entry
+                continue
+            entries.append(entry)
+            if entry.word == 'conf':
+                regular = entry.configuration if is_regular(entry.configuration) else None
+        log.entries = entries + ([waiting] if waiting else [])
+    if recording.chance(90):
+        recording.words.append('--late-changes')
+
+
+def name_by_senders(recording):
+    """Messages are named by their senders' places, as names in the payload are."""
+    places = {entry.message: place for place, log in enumerate(recording.logs, 1) for entry in log.entries if entry.word == 'send'}
+    for log in recording.logs:
+        log.entries = [entry._replace(message=_renamed(entry.message, places)) if entry.message else entry for entry in log.entries]
+
+
+def _renamed(message, places):
+    ring, _, number = message.partition('#')
+    return '%s#%d' % (ring, 32 * int(number) + places.get(message, 0))
+
+
+def tear(recording, name):
+    """The power failure of one process or two. `name` writes a list of them."""
+    if recording.chance(60):
+        name_by_senders(recording)
+    draw, chosen = recording.draw, []
+    for log in draw.sample(recording.logs, min(len(recording.logs), draw.choice((1, 1, 2)))):
+        changes = [at for at, entry in enumerate(log.entries) if entry.word == 'conf']
+        last = changes[-1] if changes and recording.chance(80) else 0
+        kept = draw.randint(min(last + 1, len(log.entries)), len(log.entries))
+        gone = log.entries[kept:]
+        while log.entries[:kept] and log.entries[kept - 1].word == 'fail' and recording.chance(90):
+            kept -= 1
+        del log.entries[kept:]
+        if gone and log.entries and recording.chance(30):
+            recording.torn[log.who] = line_of(gone[0], True)[:-1]
+        log.ending = 'open' if recording.chance(95) else log.ending
+        log.close()
+        chosen.append(log.who)
+    recording.words += ['--torn', lambda names: name(names, chosen)]
+
+
+def say_first(recording):
+    """The logs say in their first lines how they were recorded, mostly all the same; and the caller says it, too, or not. Returns the lines."""
+    draw, words = recording.draw, recording.words
+    sends = 'taken' if '--own-sends' in words else draw.choice(('ordered', 'delivered', '', '', 'taken'))
+    changes = 'untold' if '--transitional' in words else 'late' if '--late-changes' in words else \
+        draw.choice(('told', 'told', '', '', 'late', 'untold'))
+    needed = {'--own-sends'} if {'--own-order-unknown', '--late-sends'} & {word for word in words if isinstance(word, str)} else set()
+    for option in ('--own-sends', '--transitional', '--late-changes'):
+        if option in words and option not in needed and recording.chance(70):
+            words.remove(option)
+    if recording.chance(10):
+        words.append('--as-written')
+    lines = {}
+    for log in recording.logs:
+        said = ['sends=' + sends if sends else '', 'transitional=' + changes if changes else '', draw.choice(OTHERS)]
+        if recording.chance(4):
+            said[draw.randrange(2)] = draw.choice(('', 'sends=ordered', 'transitional=told')) if len(set(said)) > 2 else ''
+        draw.shuffle(said)
+        lines[log.who] = draw.choice(WRONG) if recording.chance(2) else '' if recording.chance(2) else ' '.join([FIRST, *filter(None, said)])
+    return lines
