@@ -61,7 +61,6 @@ def load():
     library.cpg_leave.argtypes = [_Handle, POINTER(_Name)]
     library.cpg_mcast_joined.argtypes = [_Handle, c_int, POINTER(_Piece), c_uint]
     library.cpg_dispatch.argtypes = [_Handle, c_int]
-    library.cpg_finalize.argtypes = [_Handle]
     return library
 
 
@@ -132,10 +131,6 @@ class Group:
         if self.raised is not None:
             raise self.raised
         self._is_done('cpg_dispatch', answer)
-
-    def close(self):
-        """Ends the connection."""
-        self.library.cpg_finalize(self.handle)
 
     @staticmethod
     def _is_done(call, answer):

@@ -3,6 +3,8 @@ import os
 import select
 import socket
 import time
+from errno import EADDRINUSE
+from hashlib import sha256
 
 from recording import library
 from recording.library import Failed, Group
@@ -42,8 +44,11 @@ class Life:
         """Takes a name that only one process of this node can have, until it ends."""
         guard = socket.socket(socket.AF_UNIX, socket.SOCK_DGRAM)
         try:
-            guard.bind('\0totem-record %d %s' % (self.views.me.node, self.asked.group))
-        except OSError:
+            # (the name of a socket is short, that of a group need not be)
+            guard.bind('\0totem-record %d %s' % (self.views.me.node, sha256(os.fsencode(self.asked.group)).hexdigest()[:32]))
+        except OSError as error:
+            if error.errno != EADDRINUSE:
+                raise
             raise Refused('another recorder of the group %s runs on this node, %d' % (self.asked.group, self.views.me.node)) from None
         return guard
 
@@ -109,7 +114,8 @@ class Life:
         may_send = self.views.can_send and self.leaving_since is None and self.quiet_since is None
         if not may_send or now < next_send and not word:
             return next_send
-        if self.waiting is not None or word or self.views.byes is None:
+        # (a message also ends a change that is pending)
+        if self.waiting is not None or word or self.views.byes is None or self.views.pending:
             self._send(word)
         gap = 1 / self.asked.rate
         return max(next_send + gap, now - 5 * gap)
@@ -141,8 +147,13 @@ class Life:
         while not self._is_over():
             next_send = self._act(next_send)
             events = poll.poll(1000 * max(0, min(next_send - time.monotonic(), .1)))
-            self.connection.dispatch()
-            if any(event & (select.POLLHUP | select.POLLERR) for _, event in events):
+            is_gone = any(event & (select.POLLHUP | select.POLLERR) for _, event in events)
+            try:
+                self.connection.dispatch()
+            except Failed as failed:
+                if not is_gone:
+                    raise LifeOver(str(failed)) from failed
+            if is_gone:
                 raise LifeOver('corosync is gone')
 
     def live(self):

@@ -99,9 +99,9 @@ def _close(path, clock):
         fcntl.flock(descriptor, fcntl.LOCK_EX | fcntl.LOCK_NB)
         size = os.fstat(descriptor).st_size
         tail = os.pread(descriptor, TAIL, max(0, size - TAIL))
-        if not tail.endswith(b'\n'):
+        if tail and not tail.endswith(b'\n'):
             say('%s ends in the middle of a line, and stays as it is: join the logs with --torn %s' % (path, _life_of(path)))
-        elif tail.split(b'\n')[-2].split(b' ')[1:2] not in ([b'quiet'], [b'fail']):
+        elif tail and tail.split(b'\n')[-2].split(b' ')[1:2] not in ([b'quiet'], [b'fail']):
             _add_failure(path, descriptor, clock)
     except BlockingIOError:
         # (its recorder is alive: it records another group)

@@ -66,6 +66,11 @@ def _reasons(left, joined):
     return {it.reason for it in (*left, *joined)}
 
 
+def _up_to_end(lines):
+    """The lines up to the one that ends the log, if it is among them."""
+    return lines[:lines.index('quiet') + 1] if 'quiet' in lines else lines
+
+
 def _listed(members):
     return ' '.join(map(str, sorted(members)))
 
@@ -87,20 +92,22 @@ class Views:
 
     def group(self, members, left, joined):
         """The members of the group changed."""
+        if self.is_over:
+            return []
         lines = [' '.join(['# group', *('left ' + str(it) for it in left), *('joined ' + str(it) for it in joined), 'members',
                            *('%d:%d' % it for it in members)])]
         self._look(members, left)
         if self.has_left or self.trouble:
             return lines
         reasons = _reasons(left, joined)
-        if self.pending and not self.pending.is_of_ring and JOIN in reasons:
+        if self.ring and self.pending and not self.pending.is_of_ring and JOIN in reasons:
             lines += self._change(self.pending.moved)
         self.pending = self.pending or Pending(self.view or ())
         self.pending.add(left, joined)
         self.view = sorted(members)
         if self.ring and not self.pending.is_of_ring and PROCDOWN not in reasons:
             lines += self._change(self.pending.moved)
-        return lines
+        return _up_to_end(lines)
 
     def _look(self, members, left):
         """Finds out whether this member is still in the group, and whether each node has one member."""
@@ -111,14 +118,21 @@ class Views:
 
     def ring_changed(self, representative, number, nodes):
         """There is another ring, or this member is told for the first time which one there is."""
+        if self.is_over:
+            return []
         lines = ['# ring %d.%d members %s' % (representative, number, ' '.join(map(str, nodes)))]
-        is_first, self.ring, self.nodes = self.ring is None, (number, representative), sorted(nodes)
-        if self.view:
-            lines += self._change(self.pending.moved if is_first and self.pending else None)
+        is_first, is_again = self.ring is None, self.ring == (number, representative)
+        self.ring, self.nodes = (number, representative), sorted(nodes)
+        # (a member that comes while the group synchronises may be told of one ring twice: nothing changed, or what is pending changed in it)
+        if self.view and (self.pending or not is_again):
+            is_within = self.pending and (is_first or is_again and not self.pending.is_of_ring)
+            lines += self._change(self.pending.moved if is_within else None)
         return lines
 
     def message(self, node, process, contents):
         """A message is delivered."""
+        if self.is_over:
+            return []
         # (a change that is pending was one in the same ring: another one would have ended with the ring)
         lines = self._change(self.pending.moved) if self.pending and self.ring else []
         head = HEAD.match(contents)
@@ -132,7 +146,7 @@ class Views:
         if head[2] == b'bye':
             self.byes.add(Member(node, process))
             lines += self._end()
-        return lines
+        return _up_to_end(lines)
 
     def _change(self, moved):
         """All callbacks of a change are there. `moved` is the sum over who came or went if the ring stayed."""
@@ -151,6 +165,11 @@ class Views:
             self.is_quiet = True
             return ['quiet']
         return []
+
+    @property
+    def is_over(self):
+        """Whether nothing more belongs into the log: what comes after the own leaving, others deliver behind a change that this member never sees."""
+        return self.has_left or self.is_quiet
 
     @property
     def can_send(self):

@@ -10,6 +10,7 @@ from recording.library import MOST_OF_A_NAME, Failed
 from recording.life import Life
 from recording.requests import HELD
 from recording.trouble import Ended, LifeOver, Refused, say
+from running import streams
 from running.signals import end_with_parent
 from running.words import Words
 
@@ -169,6 +170,7 @@ class Recorder:
 
 def main(words):
     """Does what the arguments ask for, and returns the status."""
+    streams.reserve()
     asked = read_words(words)
     try:
         os.makedirs(asked.logs, exist_ok=True)

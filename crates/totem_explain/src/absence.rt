@@ -1,6 +1,8 @@
 //! Events that a log lacks where a fault is that they are absent, and where they were due.
 use crate::fate::{Fate, course_of, next_of};
-use crate::lookup::{change_before, delivery_in, entry_at, log_of, message_at, place_of};
+use crate::lookup::{
+    change_before, delivery_in, entry_at, log_of, message_at, origin_of, place_of,
+};
 use crate::members::{Member, parted, told_together};
 use std::alloc::{AllocError, Global};
 use totem_evs::{Entry, Fault, Run, SpecNo};
@@ -100,16 +102,18 @@ fn lacked_at(
     let Some((conf, all)) = change_before(log, delivery.at) else {
         return Ok(None);
     };
-    let (event, missed) = match spec {
+    // (7.1 asks for the message in the configuration in which it was sent and in what follows it, wherever others delivered it)
+    let (event, missed, wanted) = match spec {
         SpecNo::Safety => (
             Lacked::Delivery(message),
             format!(in alloc; "did not deliver {message}")?,
+            origin_of(run, message),
         ),
-        _ => (Lacked::Change(conf), String::new(alloc)),
+        _ => (Lacked::Change(conf), String::new(alloc), conf),
     };
     let mut members = Vec::new(alloc);
     for proc in all {
-        let course = course_of(run, *proc, &conf);
+        let course = course_of(run, *proc, &wanted);
         let lacks = match event {
             Lacked::Delivery(_) => {
                 let own = log_of(run, *proc).and_then(|log| delivery_in(log, message));

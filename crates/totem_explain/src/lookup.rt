@@ -58,6 +58,13 @@ pub fn send_in(log: &Log, message: MsgId) -> Option<(Place, ConfId)> {
     })
 }
 
+/// Returns the configuration in which a message was sent; if no log sends it, the regular one of the ring after which it is named.
+pub fn origin_of(run: &Run, message: MsgId) -> ConfId {
+    let mut logs = run.logs.as_slice().iter();
+    let send = logs.find_map(|log| send_in(log, message));
+    send.map_or(ConfId::Regular(message.ring), |(_, conf)| conf)
+}
+
 /// Returns the place at which a log first changes to a configuration, or `None` if it does not.
 pub fn change_in(log: &Log, conf: &ConfId) -> Option<Place> {
     let mut entries = log.entries.as_slice().iter().enumerate();

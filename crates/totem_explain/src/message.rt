@@ -2,7 +2,7 @@
 use crate::event::{event_of, place_name};
 use crate::fate::{Number, course_of};
 use crate::fitted::fitted;
-use crate::lookup::{change_in, entry_at, place_of, send_in};
+use crate::lookup::{change_in, origin_of, place_of};
 use crate::members::{Member, named, told_together};
 use std::alloc::{AllocError, Global};
 use totem_evs::{Entry, Log, Run};
@@ -55,21 +55,14 @@ impl Trace {
     }
 }
 
-/// Returns the configuration in which a message was sent; if no log sends it, the regular one of the ring after which it is named.
-fn origin_of(run: &Run, message: MsgId) -> ConfId {
-    let mut logs = run.logs.as_slice().iter();
-    let send = logs.find_map(|log| send_in(log, message));
-    send.map_or(ConfId::Regular(message.ring), |(_, conf)| conf)
-}
-
-/// Returns the members of a configuration as the first log has them that changes to it, or `None` if none does.
-fn members_of<'r>(run: &'r Run, conf: &ConfId) -> Option<&'r [Proc]> {
-    let mut logs = run.logs.as_slice().iter();
-    let place = logs.find_map(|log| change_in(log, conf))?;
-    match entry_at(run, place)? {
-        Entry::Conf(_, members) => Some(members.as_slice()),
-        _ => None,
-    }
+/// Returns whether some change to a configuration lists this process.
+fn is_member(run: &Run, conf: &ConfId, proc: Proc) -> bool {
+    run.logs.as_slice().iter().any(|log| {
+        log.entries.as_slice().iter().any(|entry| match entry {
+            Entry::Conf(to, members) => to.is(conf) && members.as_slice().contains(&proc),
+            _ => false,
+        })
+    })
 }
 
 /// Returns where the processes were that did not deliver a message of this configuration.
@@ -82,14 +75,15 @@ fn elsewhere(
     if without.is_empty() {
         return Ok(String::new(alloc));
     }
-    let Some(all) = members_of(run, conf) else {
+    let mut logs = run.logs.as_slice().iter();
+    if !logs.any(|log| change_in(log, conf).is_some()) {
         let procs = named(alloc, run.version, without)?;
         return format!(in alloc; "  {procs}: no log changes to {conf}.\n");
-    };
+    }
     let mut members = Vec::new(alloc);
     let mut others = Vec::new(alloc);
     for proc in without {
-        if all.contains(proc) {
+        if is_member(run, conf, *proc) {
             members.push(Member {
                 proc: *proc,
                 course: course_of(run, *proc, conf),
