@@ -20,7 +20,8 @@
      gone                        the daemon ends: its end of the descriptor is closed, and each call of which no `answer` speaks returns 2
 
    Beside it, `script.lives` has a byte for each process that has loaded this library, and `script.calls` a line for each call but dispatch: the
-   number of the life, the process, the call, what it returned, and of a message its first two words, of a join the group.
+   number of the life, the process, the call, what it returned, and of a message its length and its first two words, of a join the group. If it is
+   loaded by LD_PRELOAD too, there is also a line for each fsync of a file, with the size of the file.
 
    Loaded by LD_AUDIT, it hides libcpg.so.4 from the dynamic loader, as if it were not installed. */
 #define _GNU_SOURCE
@@ -32,6 +33,7 @@
 #include <stdlib.h>
 #include <string.h>
 #include <sys/stat.h>
+#include <sys/syscall.h>
 #include <sys/uio.h>
 #include <unistd.h>
 
@@ -300,7 +302,7 @@ int cpg_mcast_joined(uint64_t handle, int guarantee, const struct iovec *pieces,
     int came = answer(MCAST), words = 0, length = 0;
     const char *text = pieces->iov_base;
     while (length < (int)pieces->iov_len && length < 80 && !(text[length] == ' ' && words++)) length++;
-    note("mcast %d %.*s", came, length, text);
+    note("mcast %d %d %.*s", came, (int)pieces->iov_len, length, text);
     if (came == OK) {
         struct message *it = malloc(sizeof *it + pieces->iov_len);
         *it = (struct message){ 0, pieces->iov_len };
@@ -331,12 +333,18 @@ int cpg_finalize(uint64_t handle) {
     return answer(FINALIZE);
 }
 
-/* ---- for LD_AUDIT (only the dynamic loader calls these) */
+/* ---- for LD_PRELOAD, and for LD_AUDIT */
+
+int fsync(int file) {
+    struct stat it;
+    if (script && !fstat(file, &it) && S_ISREG(it.st_mode)) note("fsync %ld", (long)it.st_size);
+    return syscall(SYS_fsync, file);
+}
+
 
 unsigned la_version(unsigned version) { return version; }
 
 char *la_objsearch(const char *name, uintptr_t *cookie, unsigned how) {
-    (void)cookie; (void)how;
-    const char *slash = strrchr(name, '/');
-    return strcmp(slash ? slash + 1 : name, "libcpg.so.4") ? (char *)name : 0;
+    (void)cookie, (void)how;
+    return strcmp(basename(name), "libcpg.so.4") ? (char *)name : 0;
 }

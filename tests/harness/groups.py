@@ -73,7 +73,7 @@ class Cluster:
                 self._tell(who, left, joined)
 
     def join(self, node):
-        """A process joins on a node that has none. It's told of the ring before the group or behind it."""
+        """A process joins on a node that has none. It's told of the ring before the group, behind it, or both."""
         ring = self.rings[node]
         self.numbers += self.draw.randrange(1, 50)
         who = Who(node, self.numbers)
@@ -82,7 +82,8 @@ class Cluster:
         if is_ring_first:
             process.listener.ring(process.view, ring.nodes[0], ring.number, ring.nodes)
         self._change_within(ring, joined=[(who, JOIN)])
-        if not is_ring_first:
+        # (a process that joins while a ring forms may be told of it twice)
+        for _ in range(not is_ring_first or self.draw.randrange(4) == 0):
             process.listener.ring(process.view, ring.nodes[0], ring.number, ring.nodes)
 
     def _end(self, who):

@@ -235,23 +235,23 @@ class Orders:
         self.draw = random.Random(seed)
         self.me = self._who()
         self.views = Views(*self.me)
-        self.lines, self.named = [], []
+        self.lines, self.named, self.members = [], [], [self.me]
 
     def _who(self):
         node = self.draw.choice((1, 1, 2, 3, 4, 65535, MOST_NUMBER))
         return Member(node, self.draw.choice((0, 1, 2, 65534, 65535, MOST_NUMBER)))
 
     def _some(self):
-        some = [self._who() for _ in range(self.draw.choice((0, 1, 1, 2, 3, 40)))]
-        return some + [self.me] * (self.draw.randrange(6) > 0)
+        some = [self._who() for _ in range(self.draw.choice((0, 0, 0, 1, 1, 1, 2, 3, 40)))]
+        return some + [self.me] * (self.draw.randrange(40) > 0)
 
     def _moved(self):
         return [Moved(who, self.draw.choice((0, 1, 1, 2, 2, 3, 3, 4, 4, 5, 5, 6, MOST_NUMBER))) for who in self._some()
-                if who != self.me or self.draw.randrange(4) == 0]
+                if who != self.me or self.draw.randrange(40) == 0]
 
     def _contents(self):
         name = self.draw.choice((b'2500000.1#33', b'4000099999.65535#4294967295', b'1.1#0', b'#', b''))
-        word = self.draw.choice((b' - ', b' - ', b' bye ', b' stop ', b' other ', b' ', b''))
+        word = self.draw.choice((b' - ', b' - ', b' bye ', b' bye ', b' stop ', b' other ', b' ', b''))
         return name + word + self.draw.choice((b'', b'\n', bytes(range(256))))
 
     def call_back(self):
@@ -259,15 +259,16 @@ class Orders:
         what = self.draw.randrange(8)
         if what < 3:
             members = self._some()
-            if self.draw.randrange(3):
+            if self.draw.randrange(8):
                 members = list({who.node: who for who in members}.values())
+            self.members = members or self.members
             came = self.views.group(members, self._moved(), self._moved() if self.draw.randrange(2) else [])
         elif what < 5:
             nodes = [self._who().node for _ in range(self.draw.randrange(5))] + [self.me.node] * self.draw.randrange(2)
             number = self.draw.choice((0, 1, 25, 40000, 40001, 2 ** 32, 2 ** 64 - 1, self.draw.randrange(1, 100)))
             came = self.views.ring_changed(self._who().node, number, nodes)
         else:
-            came = self.views.message(*self._who(), self._contents())
+            came = self.views.message(*self.draw.choice(self.members + [self._who()]), self._contents())
         self.lines += came
         if self.views.can_send:
             self.named.append((self.views.configuration, self.views.next_name()))

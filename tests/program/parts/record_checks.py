@@ -2,6 +2,12 @@
 from parts.joined import join
 
 
+def boot():
+    """What the system says of its last start."""
+    with open('/proc/sys/kernel/random/boot_id', encoding='ascii') as it:
+        return it.read().strip()
+
+
 def text_of(it):
     """The text of the only log, if there is one."""
     names = it.names()

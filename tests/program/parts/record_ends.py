@@ -38,7 +38,7 @@ def wrong_end(it, came, ending, name=None):
 def words_sent(it, life=1):
     """The words that the messages of a life have, other than `-`."""
     sent = [call.split(' ') for number, _, call in it.calls() if number == life and call.startswith('mcast 1 ')]
-    return [word for _, _, _, word in sent if word != '-']
+    return [words[-1] for words in sent if words[-1] != '-']
 
 
 def begun(script, *words, count=2, given=None):
@@ -127,7 +127,11 @@ def end_blocked(numbers, _program):
         if not started.says(HANGS):
             return 'it did not say it: %r' % started.said
         life, = it.lives()
-        wrong = checked(it, started.end(*numbers), 1, HANGS, 'corosync did not answer: the log stays open, and the next recorder on this node closes it')
+        # (a signal that comes before the first one was handled is none, so there are as many as it takes)
+        for number in numbers:
+            started.signal(number)
+            stand_in.until(lambda: started.process.poll() is not None, 5)
+        wrong = checked(it, started.end(), 1, HANGS, 'corosync did not answer: the log stays open, and the next recorder on this node closes it')
         return wrong or (last_words(it, it.names()[0]) != 'send' and 'it is closed') or stand_in.is_running(life) and 'it runs on' or (
             REMARK not in it.text(it.names()[0]) and 'the log does not say it')
 
@@ -272,7 +276,7 @@ def _all():
     for what, case in OF_TWO.items():
         yield 'all end: ' + what, partial(end_of_two, *case)
     yield 'two interrupts', interrupt_twice
-    yield 'two interrupts of a call that does not return', partial(end_blocked, (signal.SIGINT, signal.SIGINT))
+    yield 'two interrupts of a call that does not return', partial(end_blocked, (signal.SIGINT,) * 4)
     yield 'SIGTERM in a call that does not return', partial(end_blocked, (signal.SIGTERM,))
     yield 'nothing is delivered', hang
     yield 'messages are delivered', no_hang

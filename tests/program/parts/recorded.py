@@ -1,17 +1,15 @@
 """`tools/record` over a stand-in for Corosync's library: what it refuses, what it says, and the logs that it leaves."""
 import os
-import re
-import resource
 import signal
 import subprocess
+from datetime import datetime
 from functools import partial
 
 from harness import process, stand_in
-from harness.stand_in import ALONE, BEGIN, LEAVE, LIBRARY, NODE, NoCompiler, Place, Started
+from harness.stand_in import ALONE, LIBRARY, NODE, NoCompiler, Place, Started
 from harness.together import Together
-from parts import record_ends
-from parts.joined import join
-from parts.record_checks import checked, differs, text_of
+from parts import record_ends, record_files
+from parts.record_checks import boot, checked, differs
 
 # Little patience, for cases in which nothing comes.
 IMPATIENT = {'TOTEM_RECORD_PATIENCE': '0.4'}
@@ -20,8 +18,6 @@ BUSY = 'for 0.4 s corosync has been too busy to '
 ENDED = 'ended before corosync let it record'
 WAITS = 'waits for corosync (error %d of libcpg, %s)'
 NO_RIGHT = 'no right to use corosync: run this as root, or allow the user in a file of /etc/corosync/uidgid.d: uidgid { uid: %d }' % os.geteuid()
-# A second life that records as usual.
-THEN = 'life\n' + ALONE
 
 # The daemon refuses something: the script, what is waited for on standard error before the signals, the signals, the status, and what is told.
 REFUSALS = {
@@ -131,9 +127,9 @@ def send_again(answers, _program):
             return 'it did not come so far: %r, %r' % (it.calls(), started.said)
         wrong = checked(it, started.end(signal.SIGTERM), 0, '; it left')
         sent = [call.split(' ') for _, _, call in it.calls() if call.startswith('mcast')]
-        same = [name for _, _, name, _ in sent[:len(answers.split()) + 1]]
+        same = [name for _, _, _, name, _ in sent[:len(answers.split()) + 1]]
         lines = [line for line in it.entries(it.names()[0]) if not line.startswith('conf ')]
-        rest = [name for _, answer, name, _ in sent if answer == '1']
+        rest = [name for _, answer, _, name, _ in sent if answer == '1']
         wanted = [line for name in rest for line in ('send %s a %s' % (lines[-1].split(' ')[1], name), 'dlv %s %s' % (lines[-1].split(' ')[1], name))]
         if len(set(same)) != 1 or len(set(rest)) != len(rest):
             return 'it sent %r' % sent
@@ -152,156 +148,6 @@ def send_never(_program):
         words = [line.split(' ')[0] for line in it.entries(name)]
         return wrong or (words != ['conf', 'send', 'fail'] and 'it wrote %r' % words) or (
             it.text(name).count(' # nothing delivered for 0.4 s though messages wait\n') != 1 and 'the log does not say it once: %s' % it.text(name))
-
-
-# ---- files
-
-def refuse_folder(path, told, _program):
-    """The folder can't be made, or no file in it: LOGS in the path is a file."""
-    with Place() as it:
-        with open(it.path, 'wb'):
-            pass
-        came = it.start(ALONE, '--logs', path.replace('LOGS', it.path)).end()
-        return differs(it, came, 1, told) or (os.stat(it.path).st_size and 'it wrote into the file')
-
-
-def make_folder(_program):
-    """Folders that are not there are made."""
-    with Place() as it:
-        it.path = os.path.join(it.path, 'a', 'b')
-        started = it.start(ALONE)
-        if not it.goes('mcast 1'):
-            return 'it did not come so far: %r' % started.said
-        return checked(it, started.end(signal.SIGTERM), 0, '; it left') or (len(it.names()) != 1 and 'it made %r' % it.names())
-
-
-def fill_disk(size, told, _program):
-    """No more than so many bytes of a file can be written: the recorder ends, and what it wrote can be joined."""
-    with Place() as it:
-        def before():
-            resource.setrlimit(resource.RLIMIT_FSIZE, (size, size))
-        came = it.start(ALONE, before=before).end()
-        wrong = differs(it, came, 1, told)
-        if wrong or not size:
-            return wrong or (text_of(it) and 'it wrote %r' % text_of(it))
-        joined = join([], it.path)
-        return joined.status and 'joined: %s' % joined or len(text_of(it)) != size and 'it wrote %d bytes' % len(text_of(it))
-
-
-def find_log(_program):
-    """There is a log of this life already: it stays as it is, and another life begins."""
-    with Place() as it:
-        os.makedirs(it.path)
-        started = it.start('node %d\noccupy LOGS\nlife\n%s' % (NODE, ALONE))
-        if not it.goes('mcast 1', count=2):
-            return 'it did not come so far: %r' % started.said
-        old, new = it.names()
-        came = started.end(signal.SIGTERM)
-        wrong = differs(it, came, 0, old + ' is there already: ', new, '; it left')
-        return wrong or it.wrong_log(new) or (it.text(old) != '# of another process\n' and 'it wrote into the other log: %r' % it.text(old))
-
-
-def boot():
-    """What the system says of its last start."""
-    with open('/proc/sys/kernel/random/boot_id', encoding='ascii') as it:
-        return it.read().strip()
-
-
-FIRST = '# totem-log 1 sends=taken transitional=late by=record/1 node=5 pid=100 group=old sync=%s boot=%s\n'
-BODY = '%s conf r2500001.5 5:101\n%s send r2500001.5 a 2500001.5#1\n'
-THEN_TIME = '2026-11-29T07:45:27.251234Z'
-LATER = '2999-01-01T00:00:00.000000Z'
-OLD = BODY % (THEN_TIME, THEN_TIME)
-CLOSED = '101.log is closed with `fail`: that life was killed'
-TORN = '5.101.log ends in the middle of a line, and stays as it is: join the logs with --torn 5:101'
-OPEN = '5.101.log stays open, since its end may be lost: the machine has started again; join the logs with --torn 5:101'
-# The log of an earlier life, what is added to it, and what is said. BOOT is this start of the machine.
-EARLIER = {
-    'killed': (FIRST % ('yes', 'BOOT') + OLD, 'TIME fail r2500001.5\n', CLOSED),
-    'killed, without sync': (FIRST % ('no', 'BOOT') + OLD, 'TIME fail r2500001.5\n', CLOSED),
-    'killed before the machine started again': (FIRST % ('yes', 'another') + OLD, 'TIME fail r2500001.5\n', CLOSED),
-    'killed before the machine started again, without sync': (FIRST % ('no', 'another') + OLD, '', OPEN),
-    'killed after a remark': (
-        FIRST % ('yes', 'BOOT') + OLD + THEN_TIME + ' # nothing delivered for 30 s though messages wait\n', 'TIME fail r2500001.5\n', CLOSED),
-    'killed in its second configuration': (
-        FIRST % ('yes', 'BOOT') + OLD + '{0} conf t2900000.5/5 5:101\n{0} conf r2900000.5 5:101\n'.format(THEN_TIME), 'TIME fail r2900000.5\n', CLOSED),
-    'killed between two changes': (
-        FIRST % ('yes', 'BOOT') + OLD + THEN_TIME + ' conf t2900000.5/5 5:101\n', 'TIME fail t2900000.5/5\n', CLOSED),
-    'killed, by a clock that was ahead': (FIRST % ('yes', 'BOOT') + BODY % (LATER, LATER), LATER + ' fail r2500001.5\n', CLOSED),
-    'killed before its first configuration': (FIRST % ('yes', 'BOOT') + THEN_TIME + ' # ring 5.25 members 5\n', '', ''),
-    'torn': (FIRST % ('yes', 'BOOT') + OLD + '2026-11-29T07:45:28.251', '', TORN),
-    'torn before the machine started again': (FIRST % ('no', 'another') + OLD + '2026-11-29T07:45:28.251', '', TORN),
-    'torn, in its first line': ('# totem-log 1 sends', '', ''),
-    'empty': ('', '', ''),
-    'failed': (FIRST % ('yes', 'BOOT') + OLD + THEN_TIME + ' fail r2500001.5\n', '', ''),
-    'quiet': (FIRST % ('yes', 'BOOT') + OLD + THEN_TIME + ' quiet\n', '', ''),
-    'of something else': ('conf r2500001.5 5:101\n', '', ''),
-    'of another recorder': ('# totem-log 1 sends=delivered by=other/1\n' + OLD, '', ''),
-}
-
-
-def find_earlier(before, added, told, _program):
-    """The log of an earlier life of this node: what is added to it. Those of other nodes and other files stay as they are."""
-    with Place() as it:
-        text = before.replace('BOOT', boot())
-        others = {'15.101.log': text, '55.101.log': text, '5.101.log.1': text, '5.log': text, 'notes.txt': text}
-        for name, content in {'5.101.log': text, **others}.items():
-            it.write(name, content)
-        started = it.start(ALONE)
-        if not it.goes('mcast 1'):
-            return 'it did not come so far: %r' % started.said
-        came = started.end(signal.SIGTERM)
-        wrong = differs(it, came, 0, *[told] if told else [], ' writes LOGS/', '; it left')
-        after, form = it.text('5.101.log'), re.escape(added).replace('TIME', stand_in.TIME)
-        if not after.startswith(text) or not re.fullmatch(form, after[len(text):]):
-            return 'the log was %r, and is %r' % (text, after)
-        if not told and before.startswith(FIRST[:20]) and before.endswith('\n') and b'5.101' in came.errors:
-            return 'it said %s' % came
-        return wrong or next(('%s is %r' % (name, it.text(name)) for name in others if it.text(name) != text), None)
-
-
-def kill_and_close(_program):
-    """A recorder is killed, with all of it: the next one closes its log, and both are joined."""
-    with Place() as it:
-        killed = it.start(ALONE)
-        if not it.goes('mcast 1', count=2):
-            return 'it did not come so far: %r' % killed.said
-        killed.end(signal.SIGKILL)
-        life, = it.lives()
-        if not stand_in.until(lambda: not stand_in.is_running(life)):
-            return 'the recording process runs on'
-        old = it.text(it.name(life))
-        started = it.start(ALONE)
-        if not it.goes('mcast 1', which=2):
-            return 'it did not come so far: %r' % started.said
-        wrong = checked(it, started.end(signal.SIGTERM), 0, it.name(life) + ' is closed with `fail`: that life was killed', '; it left')
-        new = it.text(it.name(life))
-        return wrong or (not re.fullmatch('%s fail %s\n' % (stand_in.TIME, re.escape(it.entries(it.name(life))[0].split(' ')[1])), new[len(old):])
-                         and 'the log was %r, and is %r' % (old, new))
-
-
-def record_beside(_program):
-    """A recorder of another group writes into the same folder: neither touches the log of the other one."""
-    with Place() as it:
-        one = it.start(ALONE)
-        if not it.goes('mcast 1'):
-            return 'it did not come so far: %r' % one.said
-        other = it.start(ALONE, '--group', it.group + '-other')
-        if not it.goes('mcast 1', which=2, count=2) or not it.goes('mcast 1', count=4):
-            return 'it did not come so far: %r' % other.said
-        wrong = checked(it, other.end(signal.SIGTERM), 0, ' writes LOGS/', 'members 5:', '; it left')
-        return wrong or checked(it, one.end(signal.SIGTERM), 0, '; it left') or (len(it.names()) != 2 and 'there are %r' % it.names())
-
-
-def record_twice(_program):
-    """A second recorder of the same group and node is refused, and the first one goes on."""
-    with Place() as it:
-        one = it.start(ALONE)
-        if not it.goes('mcast 1'):
-            return 'it did not come so far: %r' % one.said
-        came = it.start(ALONE).end()
-        wrong = differs(it, came, 1, 'another recorder of the group GROUP runs on this node, %d' % NODE) or not it.goes('mcast 1', count=3) and 'the first one does not go on'
-        return wrong or checked(it, one.end(signal.SIGTERM), 0, '; it left') or (len(it.names()) != 1 and 'there are %r' % it.names())
 
 
 # ---- streams
@@ -340,15 +186,39 @@ def help_nowhere(_program):
     return None if (came.status, came.errors) == (4, b'record: write failed\n') else 'came: %s' % came
 
 
-def words_of_log(words, wanted, _program):
-    """What the arguments do in the log: its first line, the size and the rate of messages."""
+def words_of_log(words, wanted, size, rate, _program):
+    """What the arguments do: the first line of the log, the size of messages, and that no more are sent than the rate says."""
     with Place() as it:
-        started = it.start('node %d\nview joined self 1 members self\nring %d 25 %d\necho\n%s' % (NODE, NODE, NODE, LEAVE), *words)
-        if not it.goes('mcast 1', count=2):
+        started = it.start(ALONE, *words)
+        if not it.goes('mcast 1', count=9):
             return 'it did not come so far: %r' % started.said
         wrong = differs(it, started.end(signal.SIGTERM), 0, '; it left') or it.wrong_log(it.names()[0], 'sync=yes' in wanted)
-        first = it.text(it.names()[0]).split('\n', 1)[0] + ' '
-        return wrong or (wanted + ' boot=%s ' % boot() not in first.replace('group=' + it.group, 'group=GROUP') and 'it begins %r' % first)
+        text = it.text(it.names()[0])
+        first = text.split('\n', 1)[0].replace('group=' + it.group, 'group=GROUP')
+        sizes = {int(call.split(' ')[2]) for _, _, call in it.calls() if call.startswith('mcast')}
+        times = [datetime.fromisoformat(line[:26]) for line in text.split('\n') if ' send ' in line]
+        # (the first ones may come faster, since it makes good for a pause)
+        seconds = (times[-1] - times[0]).total_seconds()
+        return wrong or (not first.endswith(' %s boot=%s' % (wanted, boot())) and 'it begins %r' % first) or (
+            sizes != {size} and 'it sent messages of %r bytes' % sizes) or (
+                seconds < (len(times) - 6) / rate and 'it sent %d in %.2f s' % (len(times), seconds))
+
+
+def sync(words, _program):
+    """The line of a message is on the disk before the message goes out, unless nobody wants that."""
+    with Place() as it:
+        started = it.start(ALONE, *words, '--rate', '50', given={'LD_PRELOAD': os.path.join(LIBRARY.build(), 'libcpg.so.4')})
+        if not it.goes('mcast 1', count=10):
+            return 'it did not come so far: %r' % started.said
+        wrong = differs(it, started.end(signal.SIGTERM), 0, '; it left')
+        text, size, count = it.text(it.names()[0]), 0, 0
+        for _, _, call in it.calls():
+            kind, _, *rest = call.split(' ')
+            if kind == 'fsync':
+                size, count = int(call.split(' ')[1]), count + 1
+            elif kind == 'mcast' and not words and ' a %s\n' % rest[1] not in text[:size]:
+                return wrong or '%s went out before its line was on the disk' % rest[1]
+        return wrong or (words and count and 'it synced %d times' % count)
 
 
 def _cases():
@@ -365,27 +235,20 @@ def _cases():
     for answers in ('6', '6 6 6 6'):
         yield 'messages that are tried again: ' + answers, partial(send_again, answers)
     yield 'messages that are never taken', send_never
-    for path, told in (('LOGS', 'LOGS: File exists'), ('LOGS/in', 'LOGS/in: Not a directory'), ('/proc/none/in', '/proc/none: No such file or directory'),
-                       ('/proc/self', '.log: No such file or directory; nothing more is recorded')):
-        yield 'logs in ' + path, partial(refuse_folder, path, told)
-    yield 'folders that are not there', make_folder
-    for size, told in ((0, '.log: File too large; nothing more is recorded'),
-                       (600, '.log: only a part of a line could be written: no space is left; nothing more is recorded')):
-        yield 'a full disk after %d bytes' % size, partial(fill_disk, size, told)
-    yield 'a log that is there', find_log
-    for what, case in EARLIER.items():
-        yield 'an earlier log: ' + what, partial(find_earlier, *case)
-    yield 'an earlier recorder that was killed', kill_and_close
-    yield 'two recorders of two groups', record_beside
-    yield 'two recorders of one node', record_twice
+    yield from record_files.cases()
     for streams in ({'stderr': 'closed'}, {'stderr': 'full'}, {'stderr': 'nobody'}, {'stdout': 'closed'}, {'stdin': 'closed'},
                     {'stdin': 'closed', 'stdout': 'closed', 'stderr': 'closed'}):
         yield 'streams: %r' % streams, partial(record_into, streams)
     yield 'help', show_help
     yield 'help on a full device', help_nowhere
-    for words, wanted in ((['--no-sync'], 'group=GROUP sync=no'), (['--size', '64', '--rate', '1000'], 'group=GROUP sync=yes'),
-                          (['--size', '1000000'], 'group=GROUP sync=yes'), (['--group', 'g' * 128], 'group=%s sync=yes' % ('g' * 128))):
-        yield 'the words %s' % ' '.join(words)[:40], partial(words_of_log, words, wanted)
+    for words, wanted, size, rate in (
+            ([], 'group=GROUP sync=yes', 100, 5), (['--no-sync', '--rate', '10.5'], 'group=GROUP sync=no', 100, 10.5),
+            (['--size', '64', '--rate', '1000'], 'group=GROUP sync=yes', 64, 1000),
+            (['--size', '1000000', '--rate', '20'], 'group=GROUP sync=yes', 1000000, 20),
+            (['--group', 'g' * 113 + str(os.getpid()).zfill(15)], 'group=%s%015d sync=yes' % ('g' * 113, os.getpid()), 100, 5)):
+        yield 'the words %s' % ' '.join(words)[:40], partial(words_of_log, words, wanted, size, rate)
+    for words in ([], ['--no-sync']):
+        yield 'what is on the disk %s' % ' '.join(words), partial(sync, words)
     yield from record_ends.cases()
 
 
