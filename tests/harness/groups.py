@@ -95,9 +95,12 @@ class Cluster:
         self._end(who)
 
     def kill(self, who):
-        """A process is killed, and its daemon says so."""
-        self._end(who)
-        self._change_within(self.rings[who.node], left=[(who, PROCDOWN)])
+        """A process is killed, or another one of its ring too, and their daemons say so at once."""
+        others = sorted(self.rings[who.node].members - {who})
+        killed = [who] + (self.draw.sample(others, 1) if others and self.draw.randrange(3) == 0 else [])
+        for it in killed:
+            self._end(it)
+        self._change_within(self.rings[who.node], left=[(it, PROCDOWN) for it in killed])
 
     def send(self, who):
         """A process sends a message, which all members deliver."""

@@ -203,6 +203,15 @@ def go_away_for_good(number, _program):
         return checked(it, came, 0, AGAIN, WAITS) or wrong_end(it, came, 'fail')
 
 
+def go_away_for_long(_program):
+    """A daemon that was there once is waited for longer than one that is not there at first."""
+    with Place() as it:
+        started = it.start(BEGIN + 'gone\nlife\nanswer initialize %s 1\n' % ' '.join(['2'] * 14) + ALONE, given=IMPATIENT)
+        if not stand_in.until(lambda: [call for life, _, call in it.calls() if life == 2 and 'mcast 1' in call]):
+            return 'it did not come so far: %r, %r' % (it.calls(), started.said)
+        return checked(it, started.end(signal.SIGTERM), 0, AGAIN, WAITS, '; it left') or wrong_end(it, started.end(), 'fail')
+
+
 def go_away_quiet(_program):
     """The daemon ends when all have ended: nothing is added."""
     it, started = begun(BEGIN + 'echo\nawait go\ngone\n')
@@ -284,6 +293,7 @@ def _all():
         yield what, partial(go_away, *case)
     for number in (signal.SIGTERM, signal.SIGINT):
         yield 'the daemon ends for good, and the signal %d' % number, partial(go_away_for_good, number)
+    yield 'the daemon ends for long', go_away_for_long
     yield 'the daemon ends when all have ended', go_away_quiet
     yield 'the recording process is killed', lose_life
     yield 'the recorder is killed', lose_starter
