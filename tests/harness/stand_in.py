@@ -229,6 +229,6 @@ class Place:
             if found[1] < time:
                 return '%s, line %d: the time goes back: %s comes after %s' % (name, number, found[1], time)
             time = found[1]
-            if found[2] == 'quiet' and number < len(lines) - 1:
-                return '%s, line %d: quiet is not the last line' % (name, number)
+            if found[2].split(' ')[0] in ('quiet', 'fail') and number < len(lines) - 1:
+                return '%s, line %d: this is not the last line: %s' % (name, number, found[2])
         return None

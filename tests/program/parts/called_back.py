@@ -195,7 +195,8 @@ class History:
 
     def files(self):
         """The logs as files."""
-        return {'%d.%d.log' % (log.who.node, log.who.number % 65535 + 1): ''.join(line + '\n' for line in log.lines) for log in self.logs if log.lines}
+        return {'%d.%d.log' % (log.who.node, log.who.number % 65535 + 1): ''.join(line + '\n' for line in log.lines)
+                for log in self.logs if log.lines}
 
 
 def judge(history, program):

@@ -6,7 +6,7 @@ from functools import partial
 
 from harness import process, stand_in
 from harness.stand_in import ALONE, BEGIN, LEAVE, NODE, Place
-from parts.record_checks import checked, differs
+from parts.record_checks import checked
 
 IMPATIENT = {'TOTEM_RECORD_PATIENCE': '0.4'}
 # Two members: this one, and 2:200, which says what a test lets it say after `await go`.
@@ -142,18 +142,20 @@ def hang(_program):
         started = it.start(BEGIN + 'await go\necho\n' + LEAVE, '--rate', '20', given=IMPATIENT)
         if not started.says(HANGS) or not it.goes('mcast 1', count=30):
             return 'it did not come so far: %r' % started.said
+        before = started.said['stderr'].count(HANGS.encode())
         it.go()
-        if not started.says('messages are delivered again'):
-            return 'it did not say that they come: %r' % started.said
+        if before != 1 or not started.says('messages are delivered again'):
+            return 'it said %d times that none come, and %r' % (before, started.said)
         came = started.end(signal.SIGTERM)
         wrong = checked(it, came, 0, HANGS, 'messages are delivered again', '; it left') or wrong_end(it, came, 'fail')
-        counts = came.errors.count(HANGS.encode()), it.text(it.names()[0]).count(REMARK)
-        return wrong or (process.allowed(1) == 1 and counts != (1, 1) or counts[0] != counts[1]) and 'it said it %r times' % (counts,)
+        # (on a machine that does other work there may be another one)
+        return wrong or (it.text(it.names()[0]).count(REMARK) != came.errors.count(HANGS.encode()) and 'the log does not say it: %s' % came)
 
 
 def no_hang(_program):
     """As long as messages are delivered, nothing is said."""
-    it, started = begun(ALONE, '--rate', '20', count=60, given={'TOTEM_RECORD_PATIENCE': '2.5'})
+    seconds = process.allowed(2.5)
+    it, started = begun(ALONE, '--rate', '20', count=int(24 * seconds), given={'TOTEM_RECORD_PATIENCE': str(seconds)})
     with it:
         came = started.end(signal.SIGTERM)
         return checked(it, came, 0, '; it left') or b'ring hang' in came.errors and 'it said %s' % came
@@ -212,11 +214,11 @@ def go_away_for_long(_program):
         return checked(it, started.end(signal.SIGTERM), 0, AGAIN, WAITS, '; it left') or wrong_end(it, started.end(), 'fail')
 
 
-def go_away_quiet(_program):
-    """The daemon ends when all have ended: nothing is added."""
-    it, started = begun(BEGIN + 'echo\nawait go\ngone\n')
+def go_away_quiet(script, numbers, _program):
+    """The daemon ends when all have ended: nothing is added, and no other life begins."""
+    it, started = begun(script + 'await go\ngone\n')
     with it:
-        started.signal(signal.SIGINT)
+        started.signal(*numbers)
         if not stand_in.until(lambda: last_words(it, it.names()[0]) == 'quiet'):
             return 'it did not end: %r' % it.text(it.names()[0])
         it.go()
@@ -294,7 +296,9 @@ def _all():
     for number in (signal.SIGTERM, signal.SIGINT):
         yield 'the daemon ends for good, and the signal %d' % number, partial(go_away_for_good, number)
     yield 'the daemon ends for long', go_away_for_long
-    yield 'the daemon ends when all have ended', go_away_quiet
+    yield 'the daemon ends when all have ended', partial(go_away_quiet, BEGIN + 'echo\n', (signal.SIGINT,))
+    yield 'the daemon ends when all have ended, as another one wished', partial(
+        go_away_quiet, TWO.replace('await go', 'await sends 2') + OTHER % (1, 'stop') + OTHER % (33, 'bye'), ())
     yield 'the recording process is killed', lose_life
     yield 'the recorder is killed', lose_starter
 

@@ -73,7 +73,8 @@ EARLIER = {
     'killed after a remark': (
         FIRST % ('yes', 'BOOT') + OLD + THEN_TIME + ' # nothing delivered for 30 s though messages wait\n', 'TIME fail r2500001.5\n', CLOSED),
     'killed in its second configuration': (
-        FIRST % ('yes', 'BOOT') + OLD + '{0} conf t2900000.5/5 5:101\n{0} conf r2900000.5 5:101\n'.format(THEN_TIME), 'TIME fail r2900000.5\n', CLOSED),
+        FIRST % ('yes', 'BOOT') + OLD + '{0} conf t2900000.5/5 5:101\n{0} conf r2900000.5 5:101\n'.format(THEN_TIME),
+        'TIME fail r2900000.5\n', CLOSED),
     'killed between two changes': (
         FIRST % ('yes', 'BOOT') + OLD + THEN_TIME + ' conf t2900000.5/5 5:101\n', 'TIME fail t2900000.5/5\n', CLOSED),
     'killed, by a clock that was ahead': (FIRST % ('yes', 'BOOT') + BODY % (LATER, LATER), LATER + ' fail r2500001.5\n', CLOSED),
@@ -123,10 +124,12 @@ def kill_and_close(_program):
         started = it.start(ALONE)
         if not it.goes('mcast 1', which=2):
             return 'it did not come so far: %r' % started.said
-        wrong = checked(it, started.end(signal.SIGTERM), 0, it.name(life) + ' is closed with `fail`: that life was killed', '; it left')
+        came = started.end(signal.SIGTERM)
+        wrong = checked(it, came, 0, it.name(life) + ' is closed with `fail`: that life was killed', '; it left')
         new = it.text(it.name(life))
-        return wrong or (not re.fullmatch('%s fail %s\n' % (stand_in.TIME, re.escape(it.entries(it.name(life))[0].split(' ')[1])), new[len(old):])
-                         and 'the log was %r, and is %r' % (old, new))
+        form = '%s fail %s\n' % (stand_in.TIME, re.escape(it.entries(it.name(life))[0].split(' ')[1]))
+        is_right = new.startswith(old) and re.fullmatch(form, new[len(old):])
+        return wrong or (None if is_right else 'the log was %r, and is %r' % (old, new))
 
 
 def record_beside(_program):
@@ -155,7 +158,8 @@ def record_twice(_program):
 
 def cases():
     """Folders, files, and earlier logs."""
-    for path, told in (('LOGS', 'LOGS: File exists'), ('LOGS/in', 'LOGS/in: Not a directory'), ('/proc/none/in', '/proc/none: No such file or directory'),
+    for path, told in (('LOGS', 'LOGS: File exists'), ('LOGS/in', 'LOGS/in: Not a directory'),
+                       ('/proc/none/in', '/proc/none: No such file or directory'),
                        ('/proc/self', '.log: No such file or directory; nothing more is recorded')):
         yield 'logs in ' + path, partial(refuse_folder, path, told)
     yield 'folders that are not there', make_folder

@@ -61,10 +61,10 @@ USAGE = {
 }
 
 
-def refuse(script, waits_for, numbers, status, told, _program):
-    """The daemon refuses something."""
+def refuse(script, waits_for, numbers, status, told, is_long, _program):
+    """The daemon refuses something, perhaps for so long that the recorder says something of that."""
     with Place() as it:
-        started = it.start(script if 'node' in script else 'node %d\n%s' % (NODE, script), given=IMPATIENT)
+        started = it.start(script if 'node' in script else 'node %d\n%s' % (NODE, script), given=IMPATIENT if is_long else {})
         if waits_for and not started.says(waits_for):
             return 'it did not say %r: %r' % (waits_for, started.said)
         return checked(it, started.end(*numbers), status, *told)
@@ -82,10 +82,10 @@ def refuse_early(numbers, words, status, _program):
 def refuse_words(words, _program):
     """A usage error has the status 64, and nothing is begun."""
     with Place() as it:
-        came = subprocess.run([stand_in.TOOL, *(word.replace('LOGS', it.path) for word in words)], env={**process.ENVIRONMENT}, check=False,
-                              stdin=subprocess.DEVNULL, capture_output=True, timeout=process.allowed(process.SECONDS))
-        is_right = came.returncode == 64 and not came.stdout and b'\nrecord: ' in came.stderr and came.stderr.startswith(b'usage: record ')
-        return None if is_right and not os.path.exists(it.path) else 'came: %r' % came
+        environment = {**process.ENVIRONMENT, 'LD_AUDIT': os.path.join(LIBRARY.build(), 'libcpg.so.4')}
+        came = Started([stand_in.TOOL, *(word.replace('LOGS', it.path) for word in words)], environment, None, {}).end()
+        is_right = came.status == 64 and not came.output and b'\nrecord: ' in came.errors and came.errors.startswith(b'usage: record ')
+        return None if is_right and not os.path.exists(it.path) else 'came: %s' % came
 
 
 # ---- the library, and the daemon that comes
@@ -201,7 +201,7 @@ def words_of_log(words, wanted, size, rate, _program):
         seconds = (times[-1] - times[0]).total_seconds()
         return wrong or (not first.endswith(' %s boot=%s' % (wanted, boot())) and 'it begins %r' % first) or (
             sizes != {size} and 'it sent messages of %r bytes' % sizes) or (
-                seconds < (len(times) - 6) / rate and 'it sent %d in %.2f s' % (len(times), seconds))
+                seconds < (len(times) - 8) / rate and 'it sent %d in %.2f s' % (len(times), seconds))
 
 
 def sync(words, _program):
@@ -223,7 +223,7 @@ def sync(words, _program):
 
 def _cases():
     for what, case in REFUSALS.items():
-        yield what, partial(refuse, *case)
+        yield what, partial(refuse, *case, 'right' not in what)
     for number in (signal.SIGTERM, signal.SIGHUP, signal.SIGINT):
         yield 'no daemon, and the signal %d' % number, partial(refuse_early, (number,), (), 1)
     yield 'no daemon, and an end', partial(refuse_early, (), ('--for', '0.3'), 1)
