@@ -152,7 +152,8 @@ def record_twice(_program):
         if not it.goes('mcast 1'):
             return 'it did not come so far: %r' % one.said
         came = it.start(ALONE).end()
-        wrong = differs(it, came, 1, 'another recorder of the group GROUP runs on this node, %d' % NODE) or not it.goes('mcast 1', count=3) and 'the first one does not go on'
+        wrong = differs(it, came, 1, 'another recorder of the group GROUP runs on this node, %d' % NODE)
+        wrong = wrong or not it.goes('mcast 1', count=3) and 'the first one does not go on'
         return wrong or checked(it, one.end(signal.SIGTERM), 0, '; it left') or (len(it.names()) != 1 and 'there are %r' % it.names())
 
 
