@@ -24,7 +24,7 @@ ALONE = BEGIN + 'echo\n' + LEAVE
 
 TIME = r'[0-9]{4}-[0-9]{2}-[0-9]{2}T[0-9]{2}:[0-9]{2}:[0-9]{2}\.[0-9]{6}Z'
 RING = r'[1-9][0-9]*\.[1-9][0-9]*'
-FIRST = re.compile(r'# totem-log 1 sends=taken transitional=late by=record/1 node=([0-9]+) pid=([0-9]+) group=(\S+) sync=(yes|no) boot=(\S+)')
+FIRST = re.compile(r'# totem-log 1 sends=taken ends=early transitional=late by=record/1 node=([0-9]+) pid=([0-9]+) group=(\S+) sync=(yes|no) boot=(\S+)')
 # What an entry of the run text looks like, and what else a line may be.
 ENTRY = re.compile(r'conf (?:r{r}|t{r}/[1-9][0-9]*)(?: [1-9][0-9]*:[1-9][0-9]*)+|send r{r} a {r}#[1-9][0-9]*'
                    r'|dlv r{r} {r}#[1-9][0-9]* crc=[0-9a-f]{{8}}|fail r{r}|quiet'.format(r=RING))

@@ -229,6 +229,11 @@ class Account:
         elif later[0] > inside:
             self._go_to_end(index, later[0])
 
+    def holes(self):
+        """The messages that are left out though the log sends a later one, in its place, that somebody delivered."""
+        last = max((index for index in range(len(self.lines)) if index not in self.left_out and index not in self.stays), default=-1)
+        return [self.names[index] for index in sorted(self.left_out) if index < last]
+
     def settle_moves(self):
         """Returns the indexes of the sends that get another line or another configuration, in their order. Those that come right before their
         place already do not move, and others of that place go before them."""

@@ -20,7 +20,14 @@ entry is a failure, with `quiet` if that is its last line, otherwise with `open`
 A line may have a time before it (2026-11-29T07:45:27.25Z, 2026-11-29T08:45:27.25+01:00, or in seconds, 1795938327.25), which must not go
 back within a file; a delivery may have a checksum of 8 hexadecimal digits after it (dlv r4.1 4.1#7 crc=0123abcd), which must be the
 same in all logs. Times, checksums, blank lines, and comments, which begin with #, do not go into the run (such logs are rewritten into the
-folder for temporary files)."""
+folder for temporary files).
+
+The first line of a log may say how it was recorded. This is then done as if the option had been given, and told:
+
+    # totem-log 1 sends=taken ends=early transitional=late
+
+sends=taken stands for --own-sends, ends=early for --early-ends, transitional=late for --late-changes and transitional=untold for
+--transitional."""
 EXAMPLES = """For example, for a cluster in which process 2 was killed and the others were shut down cleanly:
 
     tools/logs join --failed 2 --quiet all FOLDER
@@ -62,6 +69,9 @@ def _add_words_of_ends(join):
     join.add_argument('--failed', action='append', metavar='LIST',
                       help='these processes are known to have failed (they crashed, or were killed): their logs get `fail`. '
                       'A list is 2, or 2,3:1 with lives')
+    join.add_argument('--torn', action='append', metavar='LIST',
+                      help='the last lines of the logs of these processes are lost, as after a power failure: their logs get a `send` for each message '
+                      'that no log sends and others delivered in the configuration in which the log ends, and `fail`')
     join.add_argument('--quiet', action='append', metavar='LIST',
                       help='for these nothing more was to come (they were shut down cleanly): their logs are closed as quiet. '
                       '`all` are those that did not fail')
@@ -94,6 +104,12 @@ def _add_words_of_changes(join):
     join.add_argument('--transitional', action='store_true',
                       help='for a layer that reports no transitional configurations: add them, assuming that those who change straight from one '
                       'regular configuration to the next went there together')
+    join.add_argument('--late-changes', action='store_true',
+                      help='for a layer that tells of a transitional configuration when it is over, such as libcpg: it begins before the first '
+                      'delivery past a gap, that is, of a message before which another log delivers one that this log never does')
+    join.add_argument('--early-ends', action='store_true',
+                      help='for a layer that goes on for a while for a process that was killed, such as libcpg: messages are left out which it sent '
+                      'only then, in configurations that list the process and to which its log never came')
 
 
 def _add_words_of_parts(join):
@@ -108,6 +124,8 @@ def _add_words_of_parts(join):
 
 def _add_words_of_join(join):
     join.add_argument('folder', metavar='FOLDER')
+    join.add_argument('--as-written', action='store_true',
+                      help='do nothing of what the first lines of the logs say (# totem-log 1 ..)')
     join.add_argument('--pattern', action='append', metavar='NAME',
                       help='the files are not called P.log or P.L.log, but so, with {P} for the process, and {L} for the life if they have one: '
                       "--pattern 'node{P}.log'. With several patterns, a file has the name of one of them")

@@ -143,7 +143,7 @@ class Cutting:
         """Why the entries between two cuts are too many for a part, or None."""
         there = self._there(begin, end)
         for index in there:
-            entries = self._range(index, begin, end)[2] + bool(self.logs[index].added)
+            entries = self._range(index, begin, end)[2] + self.logs[index].added.count(b'\n')
             if entries > self.most:
                 return '%s has %d entries' % (self.logs[index].name, entries)
         return 'there are %d logs' % len(there) if len(there) > MOST_LOGS else None
@@ -216,7 +216,8 @@ def _trimmed(log, cut, index, changes):
     if trimmed.changes and trimmed.changes[-1].configuration == cut.configuration and log.ending != 'open':
         tell('%s: is open after its change to %s, and no longer %s' % (log.name, name, log.ending))
         if log.added:
-            changes.add('%s, end: left out: %s' % (log.name, log.added.decode().rstrip()))
+            for line in log.added.decode().splitlines():
+                changes.add('%s, end: left out: %s' % (log.name, line))
             trimmed.added = b''
         trimmed.end_as('open', changes)
     return trimmed

@@ -48,6 +48,8 @@ class Log:
     # Which line of that file each entry is, and a file with the times of these lines, if there are any (joining.lines).
     lines: LineNumbers = field(default_factory=LineNumbers)
     times: Optional[str] = None
+    # How many seconds the file goes on after its last delivery, if its lines have times.
+    silence: Optional[float] = None
 
     def line_of(self, entry):
         """The line of an entry in the log's own file."""

@@ -14,6 +14,8 @@ TIME = re.compile(rb'(?:([0-9]{4}-[0-9]{2}-[0-9]{2}T(?:[01][0-9]|2[0-3]):[0-5][0
 NO_TIME = 'this is not a time: %s (such as 2026-11-29T07:45:27.25Z, 2026-11-29T08:45:27.25+01:00, or in seconds 1795938327.25)'
 EMPTY = re.compile(rb'[ \t]*(?:#.*)?', re.DOTALL)
 CHECKSUM = re.compile(rb' crc=([0-9a-fA-F]{8})')
+# What is left out of logs, each kind with its name in messages.
+KINDS = ('blank lines and comments', 'times', 'checksums')
 # How many bytes a time gets in the file that has the times of a log, by the numbers of their lines.
 WIDTH = 40
 BLANK_TIME = b' ' * WIDTH
@@ -74,7 +76,9 @@ class Plain:
         # The path of a file for the times, if they are asked for.
         self.times = times
         self.last, self.last_time = None, b''
-        self.counts = {'blank lines and comments': 0, 'times': 0, 'checksums': 0}
+        # The first time of the log, and the one at its last delivery.
+        self.first, self.delivered = None, None
+        self.counts = dict.fromkeys(KINDS, 0)
 
     def write(self, is_torn):
         """Writes the file. `is_torn`: the last line of the log was cut off, so no claim is at its end."""
@@ -97,6 +101,12 @@ class Plain:
                 log.size -= len(b'quiet\n')
         log.path = self.path
         log.times = self.times if self.counts['times'] else None
+        log.silence = self._silence() if self.counts['times'] else None
+
+    def _silence(self):
+        """How many seconds the log goes on after its last delivery, or after its first time if it delivers nothing."""
+        (begin, begin_part), (end, end_part) = self.delivered or self.first, self.last
+        return end - begin + float(b'0.' + end_part + b'0') - float(b'0.' + begin_part + b'0')
 
     def _read(self, number, line):
         """The time of a line, and the entry that it is, or None."""
@@ -107,10 +117,12 @@ class Plain:
         if line[:1] in (b'', b' ', b'\t', b'#') and EMPTY.fullmatch(line):
             self.counts['blank lines and comments'] += 1
             return time, None
-        if line.startswith(b'dlv ') and CHECKSUM.fullmatch(line, len(line) - 13):
-            line, checksum = line[:-13], line[-8:]
-            self.counts['checksums'] += 1
-            self.checksums.see(self.log, number, line[line.rfind(b' ') + 1:], checksum.lower())
+        if line.startswith(b'dlv '):
+            self.delivered = self.last
+            if CHECKSUM.fullmatch(line, len(line) - 13):
+                line, checksum = line[:-13], line[-8:]
+                self.counts['checksums'] += 1
+                self.checksums.see(self.log, number, line[line.rfind(b' ') + 1:], checksum.lower())
         return time, line
 
     def _take_time(self, number, time):
@@ -121,12 +133,19 @@ class Plain:
             raise Refused('%s, line %d: the time goes back: %s comes after %s' % (
                 self.log.name, number, time.decode(), self.last_time.decode()))
         self.last, self.last_time = now, time
+        self.first = self.first or now
         self.counts['times'] += 1
 
-    def tell(self, changes):
-        """Reports what is left out."""
+    def list_changes(self, changes):
+        """Adds what is left out to the list of changes."""
         for what, count in self.counts.items():
             if count:
-                line = '%s: %s left out: %d' % (self.log.name, what, count)
-                tell(line)
-                changes.add(line)
+                changes.add('%s: %s left out: %d' % (self.log.name, what, count))
+
+
+def tell_left_out(plains):
+    """Reports in one line what is left out of all logs."""
+    counts = {what: sum(plain.counts[what] for plain in plains) for what in KINDS}
+    told = ['%s %d' % pair for pair in counts.items() if pair[1]]
+    if told:
+        tell('left out of the logs: %s' % ', '.join(told))

@@ -5,7 +5,7 @@ from functools import partial
 
 from joining import entries
 from joining.folder import Change, blocks, measure
-from joining.lines import Checksums, Plain
+from joining.lines import Checksums, Plain, tell_left_out
 from joining.trouble import Refused, shown, tell
 
 
@@ -145,15 +145,17 @@ class Scan:
 
     def read_all(self, logs, working, keeps_times, changes):
         """Reads all logs, and returns those that have an entry. Those with more than entries are written into a folder for temporary files."""
-        checksums = Checksums()
+        checksums, plains = Checksums(), []
         for log in logs:
             cut_off = measure(log)
             plain = Plain(log, os.path.join(working, log.name + '.plain'), checksums,
                           os.path.join(working, log.name + '.times') if keeps_times else None)
             self.read(log, partial(plain.write, bool(cut_off)))
-            plain.tell(changes)
+            plain.list_changes(changes)
+            plains.append(plain)
             if cut_off:
                 changes.add('%s, line %d: left out: %s' % (log.name, log.line_of(log.entries + 1), shown(cut_off)))
+        tell_left_out(plains)
         checksums.check()
         for log in logs:
             if not log.entries:

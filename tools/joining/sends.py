@@ -7,6 +7,7 @@ from joining.folder import Log
 from joining.line_numbers import LineNumbers
 from joining.scan import Scan
 from joining.trouble import MOST_TOLD, Refused, some, tell, tell_each
+from joining.warnings import tell_holes
 
 
 def _delivered_in(accounts):
@@ -114,6 +115,7 @@ class Rewriting:
         self._tell('sends that are now in a later configuration than the messages were taken in', beyond)
         self._tell('sends moved back over a change, since the call says so', sorted(account.late))
         self._tell('sends that are left out, since nobody delivered the messages', sorted(account.left_out))
+        tell_holes(account.log.name, account.holes())
         reasons = {}
         for index in sorted(account.stays):
             reasons.setdefault(account.stays[index], []).append(index)

@@ -110,11 +110,12 @@ class Map:
 
     def _take_row(self, number, row):
         log, first, last = self.log, int(row[1]), int(row[2] or row[1])
-        if first != log.entries + 1 or last < first or log.has_added:
+        is_behind = not row[3] and not row[5]
+        if first != log.entries + 1 or last < first or log.has_added and not is_behind:
             self.refuse(number, 'the entries of log %s are not in their order' % log.who)
         if row[2] and (row[4] or not row[3]):
             self.refuse(number, 'this line does not belong here: %s' % shown(row[0]))
-        log.entries, log.has_added = last, not row[3] and not row[5]
+        log.entries, log.has_added = last, is_behind
         if self._is_chosen():
             wanted = self.wanted.get(log.who, ())
             for entry in wanted if len(wanted) < last - first else range(first, last + 1):

@@ -4,16 +4,20 @@ import shutil
 import sys
 import tempfile
 
-from joining import again, endings, folder, mapping, texts, where
+from joining import again, endings, folder, mapping, texts, torn, where
 from joining.arguments import read_words
 from joining.cuts import Cutting, trim
+from joining.early_ends import leave_out
 from joining.entries import MOST_ENTRIES, MOST_LOGS
+from joining.first_lines import FirstLines
+from joining.late_changes import begin_earlier
 from joining.lives import Lives, add_lives
 from joining.numbers import Numbers
 from joining.scan import Scan
 from joining.sends import move_sends
 from joining.transitional import add_transitional
 from joining.trouble import Changes, Refused, WriteFailed, tell
+from joining.warnings import tell_by_recording, tell_hang
 from running import signals, streams
 
 
@@ -24,26 +28,41 @@ class Joining:
         self.asked = asked
         self.changes = Changes(asked.changes, working)
         self.numbers = Numbers() if asked.renumber else None
-        keeps = asked.transitional or asked.lives or asked.own_sends or asked.renumber or asked.trim or bool(asked.cut)
-        words = {'is_numbered_anew': asked.renumber, 'adds_lives': asked.lives, 'keeps_changes': keeps}
         found = folder.find(asked)
+        first_lines = FirstLines(found, asked)
+        keeps = asked.transitional or asked.late_changes or asked.early_ends or asked.torn or asked.lives or asked.own_sends or asked.renumber \
+            or asked.trim or asked.cut or first_lines.ask_for_anything()
+        words = {'is_numbered_anew': asked.renumber, 'adds_lives': asked.lives, 'keeps_changes': bool(keeps)}
         scan = Scan(sees=self.numbers.see if self.numbers else None, **words)
         self.logs = scan.read_all(found, working, bool(asked.map), self.changes)
         self.read = self.logs
-        if asked.failed:
-            endings.fail(self.logs, asked.failed, self.changes)
-        if asked.quiet:
-            endings.be_quiet(self.logs, asked.quiet, self.changes)
+        first_lines.follow(self.logs)
+        self._end()
         if asked.transitional:
             self.logs = add_transitional(self.logs, working, words, self.changes)
         self.lives = Lives(self.logs, found, asked) if asked.lives else None
         if self.lives:
             self.lives.write(self.changes)
         self._tell_missing(self.lives.listed() if self.lives else scan.listed)
+        if asked.early_ends:
+            self.logs = leave_out(self.logs, working, words, self.changes)
+        if asked.late_changes:
+            self.logs = begin_earlier(self.logs, working, words, self.changes)
         if asked.own_sends:
             self.logs = move_sends(self.logs, working, words, asked, self.changes)
+            tell_by_recording()
         if self.numbers:
             self.numbers.settle(self.logs, self.changes)
+
+    def _end(self):
+        """Lets logs end as the call says."""
+        if self.asked.torn:
+            torn.mend(self.logs, self.asked.torn, self.changes)
+        if self.asked.failed:
+            endings.fail(self.logs, self.asked.failed, self.changes)
+        if self.asked.quiet:
+            endings.be_quiet(self.logs, self.asked.quiet, self.changes)
+        tell_hang(self.logs)
 
     def _tell_missing(self, listed):
         """Reports all members that have no log, each with the first line that lists it."""
@@ -92,7 +111,7 @@ class Joining:
         if len(logs) > MOST_LOGS:
             raise Refused('there are %d logs, and a run has %d at most: --cut makes several runs' % (len(logs), MOST_LOGS))
         for log in logs:
-            if log.entries + bool(log.added) > MOST_ENTRIES:
+            if log.entries + log.added.count(b'\n') > MOST_ENTRIES:
                 raise Refused('%s has %d entries, and a run has %d of a log at most: --cut makes several runs' % (
                     log.name, log.entries, MOST_ENTRIES))
 

@@ -14,7 +14,8 @@ from proving.telling import Unmade
 
 PROGRAM = 'totem'
 # The tools that need no sources, with their packages, and the pages that are about the sources.
-TOOLS, PACKAGES = ('logs', 'shrink', 'play', 'hunt'), ('joining', 'shrinking', 'hunting', 'playing', 'running')
+TOOLS = 'record', 'logs', 'shrink', 'play', 'hunt'
+PACKAGES = 'recording', 'joining', 'shrinking', 'hunting', 'playing', 'running'
 SOURCE_PAGES = ('ARCHITECTURE.md', 'CONTRIBUTING.md', 'DECISIONS.md', 'LIBRARY.md')
 LINK = re.compile(r'\[([^]]*)\]\(([^)#]+)(?:#[^)]*)?\)')
 SECTION = re.compile(r'(?ms)^## ([^\n]*)\n.*?(?=^## |\Z)')

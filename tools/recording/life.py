@@ -16,6 +16,8 @@ from recording.watch import Watch
 
 # How long it waits for the daemon to say that it has left, and stays after the last answer, for others that are slower.
 SECONDS_TO_LEAVE, SECONDS_TO_STAY = 5, 2
+# How long it waits for callbacks before it looks what was asked of it.
+SECONDS_TO_LOOK = .1
 NO_LIBRARY = '%s: install the package libcpg4 (Debian, Ubuntu) or corosynclib (Fedora, RHEL)'
 
 
@@ -54,6 +56,8 @@ class Life:
 
     def group(self, members, left, joined):
         """The members of the group changed."""
+        if self.views.configuration is None:
+            self.watch.end()
         self._write(self.views.group(members, left, joined))
 
     def ring_changed(self, representative, number, nodes):
@@ -62,7 +66,7 @@ class Life:
 
     def message(self, node, process, contents):
         """A message is delivered."""
-        self.watch.delivered()
+        self.watch.end()
         self._write(self.views.message(node, process, contents))
 
     def _write(self, lines):
@@ -95,7 +99,7 @@ class Life:
             head = ('%s %s ' % (name, word or '-')).encode()
             self.waiting = head + os.urandom(self.asked.size - len(head))
             self.said.add(word)
-            self.watch.sent()
+            self.watch.begin('nothing is delivered', ' though messages wait')
         try:
             if self.connection.send(self.waiting):
                 self.waiting = None
@@ -112,7 +116,9 @@ class Life:
             self.has_asked_to_leave = self.connection.leave()
         word = self._word()
         may_send = self.views.can_send and self.leaving_since is None and self.quiet_since is None
-        if not may_send or now < next_send and not word:
+        if not may_send:
+            return now + SECONDS_TO_LOOK
+        if now < next_send and not word:
             return next_send
         # (a message also ends a change that is pending)
         if self.waiting is not None or word or self.views.byes is None or self.views.pending:
@@ -138,6 +144,7 @@ class Life:
             if failed.error in library.GONE:
                 raise
             raise Refused('--group %s: %s' % (self.asked.group, failed)) from failed
+        self.watch.begin('no view of the group comes')
 
     def _record(self):
         """Joins the group, and records until the life is over."""
@@ -146,7 +153,7 @@ class Life:
         poll.register(self.connection.descriptor(), select.POLLIN)
         while not self._is_over():
             next_send = self._act(next_send)
-            events = poll.poll(1000 * max(0, min(next_send - time.monotonic(), .1)))
+            events = poll.poll(1000 * max(0, min(next_send - time.monotonic(), SECONDS_TO_LOOK)))
             is_gone = any(event & (select.POLLHUP | select.POLLERR) for _, event in events)
             try:
                 self.connection.dispatch()

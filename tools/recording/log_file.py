@@ -9,7 +9,7 @@ from datetime import datetime, timezone
 
 from recording.trouble import LifeOver, say
 
-FIRST = '# totem-log 1 sends=taken transitional=late by=record/1 node=%d pid=%d group=%s sync=%s boot=%s'
+FIRST = '# totem-log 1 sends=taken ends=early transitional=late by=record/1 node=%d pid=%d group=%s sync=%s boot=%s'
 OWN_FIRST = re.compile(r'# totem-log 1 .*\bby=record/1 .*\bsync=(yes|no) boot=(\S+)')
 # More than any line of an entry has.
 TAIL = 4096

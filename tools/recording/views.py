@@ -66,6 +66,14 @@ def _reasons(left, joined):
     return {it.reason for it in (*left, *joined)}
 
 
+def _twins(members):
+    """What is wrong with a view in which a node has two members. (While a change is told in pieces, a node may have an old one and a new one.)"""
+    for one, other in combinations(members, 2):
+        if one.node == other.node:
+            return 'two recorders of node %d are in the group, the processes %d and %d' % (one.node, one.process, other.process)
+    return None
+
+
 def _up_to_end(lines):
     """The lines up to the one that ends the log, if it is among them."""
     return lines[:lines.index('quiet') + 1] if 'quiet' in lines else lines
@@ -96,8 +104,8 @@ class Views:
             return []
         lines = [' '.join(['# group', *('left ' + str(it) for it in left), *('joined ' + str(it) for it in joined), 'members',
                            *('%d:%d' % it for it in members)])]
-        self._look(members, left)
-        if self.has_left or self.trouble:
+        if any(it.member == self.me for it in left) or self.me not in members:
+            self.has_left = True
             return lines
         reasons = _reasons(left, joined)
         if self.ring and self.pending and not self.pending.is_of_ring and JOIN in reasons:
@@ -108,13 +116,6 @@ class Views:
         if self.ring and not self.pending.is_of_ring and PROCDOWN not in reasons:
             lines += self._change(self.pending.moved)
         return _up_to_end(lines)
-
-    def _look(self, members, left):
-        """Finds out whether this member is still in the group, and whether each node has one member."""
-        self.has_left = any(it.member == self.me for it in left) or self.me not in members
-        for one, other in combinations(sorted(members), 2):
-            if one.node == other.node:
-                self.trouble = 'two recorders of node %d are in the group, the processes %d and %d' % (one.node, one.process, other.process)
 
     def ring_changed(self, representative, number, nodes):
         """There is another ring, or this member is told for the first time which one there is."""
@@ -150,6 +151,9 @@ class Views:
 
     def _change(self, moved):
         """All callbacks of a change are there. `moved` is the sum over who came or went if the ring stayed."""
+        self.trouble = _twins(self.view)
+        if self.trouble:
+            return []
         number = ((self.ring[0] - 1) % RINGS + 1) * CHANGES + (0 if moved is None else moved % (CHANGES - 1) + 1)
         name, lines = '%d.%d' % (number, self.ring[1]), []
         together = sorted(self.pending.together if self.pending else self.view)
@@ -169,7 +173,7 @@ class Views:
     @property
     def is_over(self):
         """Whether nothing more belongs into the log: what comes after the own leaving, others deliver behind a change that this member never sees."""
-        return self.has_left or self.is_quiet
+        return self.has_left or self.is_quiet or self.trouble is not None
 
     @property
     def can_send(self):

@@ -1,5 +1,5 @@
-"""Watches that messages which were handed over are delivered. No specification that an audit judges promises it, so the log alone would not
-show that the ring hangs."""
+"""Watches that views come, and that messages are delivered which were handed over. No specification that an audit judges promises it, so the log alone
+would not show that the ring hangs."""
 import os
 import threading
 import time
@@ -11,25 +11,25 @@ PATIENCE = float(os.environ.get('TOTEM_RECORD_PATIENCE', '30'))
 
 
 class Watch:
-    """Says when messages wait and none is delivered. A thread of its own looks, since a call of the library can wait for the daemon."""
+    """Says when what has to come does not come. A thread of its own looks, since a call of the library can wait for the daemon."""
 
     def __init__(self, log):
         self.log = log
-        # Since when a message has waited without any delivery, and whether that was said.
-        self.since, self.is_told = None, False
+        # Since when something has been missing, what is missing, and whether that was said.
+        self.since, self.what, self.is_told = None, ('', ''), False
         threading.Thread(target=self._look, daemon=True).start()
 
-    def sent(self):
-        """A message is handed over."""
+    def begin(self, what, why=''):
+        """From now on something is missing, if nothing is yet."""
         if self.since is None:
-            self.since = time.monotonic()
+            self.since, self.what = time.monotonic(), (what, why)
 
-    def delivered(self):
-        """A message is delivered."""
+    def end(self):
+        """It has come."""
         self.since = None
         if self.is_told:
             self.is_told = False
-            say('messages are delivered again')
+            say('corosync goes on')
 
     def stop(self):
         """Nothing more is to come."""
@@ -41,5 +41,6 @@ class Watch:
             since, log = self.since, self.log
             if since is not None and log and not self.is_told and time.monotonic() > since + PATIENCE:
                 self.is_told = True
-                log.write(['# nothing delivered for %g s though messages wait' % PATIENCE])
-                say('nothing is delivered for %g s though messages wait: does the ring hang?' % PATIENCE)
+                told = '%s for %g s%s' % (self.what[0], PATIENCE, self.what[1])
+                log.write(['# ' + told])
+                say(told + ': does the ring hang?')

@@ -7,8 +7,10 @@ from datetime import datetime, timedelta, timezone
 BEGIN = datetime(2026, 11, 29, 7, 45, 27, tzinfo=timezone.utc)
 # Lines that are no entries, and what the tool says about all of a kind: on standard error, and in the list of changes.
 EMPTY = ('', '', ' ', '# the ring was formed', '#dlv r4.1 4.1#1', '\t# 12')
-COUNTS = re.compile(r'(?:logs: )?(\S+\.log): (blank lines and comments|times|checksums) left out: (\d+)')
-NUMBERED = re.compile(r'(\S+\.log), (?:after )?line \d+')
+KINDS = ('blank lines and comments', 'times', 'checksums')
+COUNTS = re.compile(r'(\S+\.log): (%s) left out: (\d+)' % '|'.join(KINDS))
+SUMS = re.compile(r'logs: left out of the logs: (.*)')
+NUMBERED = re.compile(r'(\S+\.log), (?:after |added before )?line \d+')
 LINE = re.compile(r'\bline (\d+)')
 
 
@@ -30,7 +32,7 @@ class Decorated:
 
     def __init__(self, draw, name, text):
         self.name = name
-        self.counts = {'blank lines and comments': 0, 'times': 0, 'checksums': 0}
+        self.counts = dict.fromkeys(KINDS, 0)
         # By the number of a line of the file: the number of the line that it was, what it says as an entry, and its time.
         self.lines = {}
         self.written = []
@@ -72,12 +74,14 @@ class Decorated:
 
 def undecorated(logs, text):
     """The list of changes, with the numbers of lines that the logs had before, or messages without what is said of times and so on. Returns it,
-    and what is wrong."""
-    kept, wrongs, told = [], [], {}
+    and what it says of each log, or of all."""
+    kept, counted = [], {}
     for line in text.splitlines():
-        counted, numbered = COUNTS.fullmatch(line), NUMBERED.match(line)
-        if counted:
-            told[counted[1], counted[2]] = int(counted[3])
+        of_log, of_all, numbered = COUNTS.fullmatch(line), SUMS.fullmatch(line), NUMBERED.match(line)
+        if of_log:
+            counted[of_log[1], of_log[2]] = int(of_log[3])
+        elif of_all:
+            counted['all'] = of_all[1]
         elif numbered and numbered[1] in logs:
             log = logs[numbered[1]]
             # (what comes after the second colon is text of the log)
@@ -85,8 +89,16 @@ def undecorated(logs, text):
             kept.append(LINE.sub(lambda found, log=log: 'line %d' % log.number(int(found[1])), head) + colon + rest)
         else:
             kept.append(line)
+    return ''.join(line + '\n' for line in kept), counted
+
+
+def uncounted(logs, listed, told):
+    """What is wrong with what the list of changes and the messages say of times and so on."""
     for name, log in logs.items():
         for what, count in log.counts.items():
-            if told.get((name, what), 0) != count:
-                wrongs.append('%s has %d %s, and that is not told' % (name, count, what))
-    return ''.join(line + '\n' for line in kept), wrongs
+            if listed.get((name, what), 0) != count:
+                yield '%s has %d %s, and that is not listed' % (name, count, what)
+    sums = {what: sum(log.counts[what] for log in logs.values()) for what in KINDS}
+    wanted = ', '.join('%s %d' % pair for pair in sums.items() if pair[1])
+    if told.get('all', '') != wanted:
+        yield 'the logs have %s, and that is not told' % wanted

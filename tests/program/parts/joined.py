@@ -127,7 +127,7 @@ FOLDERS.update({
     'members without a log': (
         '', {'1.log': '#\nconf r4.1 1 2\nconf r8.1 1 2 3\n', '3.log': '', '4.log': 'conf r4.1 1 2 7\n'},
         'totem-run 1\nlog 1\nconf r4.1 1 2\nconf r8.1 1 2 3\nopen\nlog 4\nconf r4.1 1 2 7\nopen\nend\n',
-        'logs: 1.log: blank lines and comments left out: 1\nlogs: 3.log has no entry, and is left out\n'
+        'logs: left out of the logs: blank lines and comments 1\nlogs: 3.log has no entry, and is left out\n'
         'logs: there is no log of 2, a member of r4.1 (1.log, line 2)\nlogs: there is no log of 3, a member of r8.1 (1.log, line 3)\n'
         'logs: there is no log of 7, a member of r4.1 (4.log, line 1)\nlogs: totem refuses a run that has members without a log (MissingLog)\n'),
     'all members without a log, however many': (

@@ -57,7 +57,7 @@ LIVES = {
         {'1.log': '2026-11-29T07:45:30Z conf r4.1 1 2\n', '2.1.log': 'conf r5.2 2\n', '2.2.log': 'conf r6.2 2\n',
          'times': '2026-11-29T07:45:27Z start 2:1\n2026-11-29T08:45:28.5+01:00 start 2:2\n2026-11-29T07:45:28.75Z conf r4.1\n'},
         'totem-run 2\nlog 1:1\nconf r4.1 1:1 2:2\nopen\nlog 2:1\nconf r5.2 2:1\nopen\nlog 2:2\nconf r6.2 2:2\nopen\nend\n',
-        'logs: 1.log: times left out: 1\nlogs: r4.1: member 2, which never came, is 2:2: by the clock\n' + ONE +
+        'logs: left out of the logs: times 1\nlogs: r4.1: member 2, which never came, is 2:2: by the clock\n' + ONE +
         'logs: 2.1.log: member 2 is 2:1 where this log changes to the configuration: 1 (r5.2)\n'
         'logs: 2.2.log: member 2 is 2:2 where this log changes to the configuration: 1 (r6.2)\n'),
     'the only life that ran beside that which changes to it': (

@@ -14,25 +14,24 @@ ONE = 'totem-run 1\nlog 1\nconf r4.1 1\n%sopen\nend\n'
 LINES = {
     'blank lines and comments': (
         '', {'1.log': '# node 1\n\nconf r4.1 1\n \t\n\t# dlv r4.1 4.1#9\nsend r4.1 a 4.1#1\n#\n'}, ONE % 'send r4.1 a 4.1#1\n',
-        'logs: 1.log: blank lines and comments left out: 5\n'),
+        'logs: left out of the logs: blank lines and comments 5\n'),
     'times of each form, in their order': (
         '', {'1.log': '1795938327 conf r4.1 1\n1795938327.5 send r4.1 a 4.1#1\n2026-11-29T07:45:27.50Z dlv r4.1 4.1#1\n'
                       'send r4.1 a 4.1#2\n2026-11-29T05:15:28-02:30 send r4.1 a 4.1#3\n2026-11-29T08:45:28.000000001+01:00 # later\n'},
         ONE % 'send r4.1 a 4.1#1\ndlv r4.1 4.1#1\nsend r4.1 a 4.1#2\nsend r4.1 a 4.1#3\n',
-        'logs: 1.log: blank lines and comments left out: 1\nlogs: 1.log: times left out: 5\n'),
+        'logs: left out of the logs: blank lines and comments 1, times 5\n'),
     'a failure and a claim with times, and blank lines after them': (
         '', {'1.log': '1 conf r4.1 1\n2 quiet\n\n', '2.log': '1 conf r4.1 1\n2 fail r4.1\n\n'},
         'totem-run 3\nlog 1:1\nconf r4.1 1:1\nquiet\nlog 2:1\nconf r4.1 1:1\nfail r4.1\nfailed\nend\n',
-        'logs: 1.log: blank lines and comments left out: 1\nlogs: 1.log: times left out: 2\n'
-        'logs: 2.log: blank lines and comments left out: 1\nlogs: 2.log: times left out: 2\n'),
+        'logs: left out of the logs: blank lines and comments 2, times 4\n'),
     'a log with comments alone': (
         '', {'1.log': 'conf r4.1 1\n', '2.log': '# node 2 did not start\n'}, ONE % '',
-        'logs: 2.log: blank lines and comments left out: 1\nlogs: 2.log has no entry, and is left out\n'),
+        'logs: left out of the logs: blank lines and comments 1\nlogs: 2.log has no entry, and is left out\n'),
     'checksums that are the same': (
         '', {'1.log': 'conf r4.1 1\nsend r4.1 a 4.1#1\ndlv r4.1 4.1#1 crc=0123abcd\n', '2.log': 'conf r4.1 1\n5.25 dlv r4.1 4.1#1 crc=0123ABCD\n',
              '3.log': 'conf r4.1 1\ndlv r4.1 4.1#1\n'},
         (ONE % 'send r4.1 a 4.1#1\ndlv r4.1 4.1#1\n')[:-4] + ''.join('log %d\nconf r4.1 1\ndlv r4.1 4.1#1\nopen\n' % log for log in (2, 3)) + 'end\n',
-        'logs: 1.log: checksums left out: 1\nlogs: 2.log: times left out: 1\nlogs: 2.log: checksums left out: 1\n'),
+        'logs: left out of the logs: times 1, checksums 2\n'),
 }
 NO_TIME = 'logs: 1.log, line 2: this is not a time: %s (such as '
 NO_CHECKSUM = 'logs: 1.log, line 2: a checksum is crc= and 8 hexadecimal digits, after a delivery: '
@@ -110,6 +109,26 @@ MAPS = {
         '--transitional --cut FOLDER/parts --entries 3', {'1.log': 'conf r4.1 1\nconf r8.1 1\nconf r12.1 1\n'},
         'totem-map 1\nrun part-1.run\nlog 1 1.log\n1 1\n2 added 2\n3 2\nrun part-2.run\nlog 1 1.log\n1 2\n2 added 3\n3 3\nend\n',
         ('--part 2 1@2 1@3', '1@2: added by join before line 3 of 1.log\n1@3: 1.log, line 3\n')),
+    'sends that are added at a torn end': (
+        '--torn 1', {'1.log': 'conf r4.1 1 2\n', '2.log': '#\nconf r4.1 1 2\ndlv r4.1 4.1#1\n'},
+        'totem-map 1\nlog 1 1.log\n1 1\n2 added\n3 added\nlog 2 2.log\n1-2 2\nend\n',
+        ('1@2 1@3', '1@2: added by join after the last line of 1.log\n1@3: added by join after the last line of 1.log\n')),
+    'a change that goes to an earlier place': (
+        '--late-changes', {'1.log': 'conf r4.1 1 2\n1 dlv r4.1 4.1#2\n\n2 send r4.1 a 4.1#3\n3 dlv r4.1 4.1#3\n4 conf t8.1/1 1\n5 conf r8.1 1\n',
+                           '2.log': 'conf r4.1 1 2\ndlv r4.1 4.1#1\ndlv r4.1 4.1#2\n'},
+        'totem-map 1\nlog 1 1.log\n1 1\n2 4 2\n3 6 4\n4 2 1\n5 5 3\n6 7 5\nlog 2 2.log\n1-3 1\nend\n',
+        ('1@2 1@3 1@4', '1@2: 1.log, line 4, 2\n1@3: 1.log, line 6, 4\n1@4: 1.log, line 2, 1\n')),
+    'an assumed change that goes to an earlier place': (
+        '--transitional --late-changes', {'1.log': 'conf r4.1 1 2\ndlv r4.1 4.1#2\nsend r4.1 a 4.1#3\nconf r8.1 1\n',
+                                          '2.log': 'conf r4.1 1 2\ndlv r4.1 4.1#1\ndlv r4.1 4.1#2\n'},
+        'totem-map 1\nlog 1 1.log\n1 1\n2 3\n3 added 2\n4 2\n5 4\nlog 2 2.log\n1-3 1\nend\n',
+        ('1@3 1@4', '1@3: added by join before line 2 of 1.log\n1@4: 1.log, line 2\n')),
+    'a send that goes to before such a change': (
+        '--late-changes --own-sends', {
+            '1.log': 'conf r4.1 1 2\nsend r4.1 a 4.1#3\ndlv r4.1 4.1#1\ndlv r4.1 4.1#2\ndlv r4.1 4.1#3\nconf t8.1/1 1\nconf r8.1 1\n',
+            '2.log': 'conf r4.1 1 2\ndlv r4.1 4.1#1\ndlv r4.1 4.1#4\ndlv r4.1 4.1#2\n'},
+        'totem-map 1\nlog 1 1.log\n1 1\n2 3\n3 2\n4 6\n5-6 4\n7 7\nlog 2 2.log\n1-4 1\nend\n',
+        ('1@3 1@4 1@5', '1@3: 1.log, line 2\n1@4: 1.log, line 6\n1@5: 1.log, line 4\n')),
     'new numbers': (
         '--renumber', {'70000.log': 'conf r4.70000 70000\n', '9.log': '\nconf r4.70000 70000\n'},
         'totem-map 1\nlog 1 9.log\n1 2\nlog 2 70000.log\n1 1\nend\n', ('2@1 1@1', '2@1: 70000.log, line 1\n1@1: 9.log, line 2\n')),

@@ -8,7 +8,7 @@ from dataclasses import replace
 
 from harness.applied import Applied
 from harness.joins import Case, Tool
-from parts.decorated import Decorated, undecorated
+from parts.decorated import Decorated, uncounted, undecorated
 
 FOUND = re.compile(r'(\S+): (\S+\.log), line (\d+)(?:, (\S+))?')
 ADDED = re.compile(r'(\S+): added by join (?:after the last line|before line (\d+)) of (\S+\.log)')
@@ -134,13 +134,13 @@ class MappedCase(Case):
         return judged
 
     def _of_run(self, made, auditor):
-        changes, uncounted = undecorated(self.logs, made.changes)
-        errors, untold = undecorated(self.logs, made.errors)
-        yield from uncounted + untold
+        changes, listed = undecorated(self.logs, made.changes)
+        errors, told = undecorated(self.logs, made.errors)
+        yield from uncounted(self.logs, listed, told)
         yield from super()._of_run(made._replace(changes=changes, errors=errors), auditor)
         applied = Applied(self.folder.files, changes, '--lives' in self.words)
-        for run, told in zip(made.runs, self.tool.origins):
-            yield from Origins(run, told, self.logs, applied).wrongs()
+        for run, found in zip(made.runs, self.tool.origins):
+            yield from Origins(run, found, self.logs, applied).wrongs()
 
 
 class _Decorating:

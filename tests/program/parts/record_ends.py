@@ -13,7 +13,7 @@ IMPATIENT = {'TOTEM_RECORD_PATIENCE': '0.4'}
 TWO = 'node %d\nview joined self 1 members 2:200 self\nring 2 25 2 %d\necho\nawait go\n' % (NODE, NODE)
 OTHER = 'deliver 2:200 2500000.2#%d %s and so on\n'
 HANGS = 'nothing is delivered for 0.4 s though messages wait: does the ring hang?'
-REMARK = ' # nothing delivered for 0.4 s though messages wait\n'
+REMARK = ' # nothing is delivered for 0.4 s though messages wait\n'
 SUMMARY = re.compile(rb'record: (\S+\.log): sends ([0-9]+), deliveries ([0-9]+), changes ([0-9]+); ')
 
 
@@ -144,12 +144,26 @@ def hang(_program):
             return 'it did not come so far: %r' % started.said
         before = started.said['stderr'].count(HANGS.encode())
         it.go()
-        if before != 1 or not started.says('messages are delivered again'):
+        if before != 1 or not started.says('corosync goes on'):
             return 'it said %d times that none come, and %r' % (before, started.said)
         came = started.end(signal.SIGTERM)
-        wrong = checked(it, came, 0, HANGS, 'messages are delivered again', '; it left') or wrong_end(it, came, 'fail')
+        wrong = checked(it, came, 0, HANGS, 'corosync goes on', '; it left') or wrong_end(it, came, 'fail')
         # (on a machine that does other work there may be another one)
         return wrong or (it.text(it.names()[0]).count(REMARK) != came.errors.count(HANGS.encode()) and 'the log does not say it: %s' % came)
+
+
+def hang_before(_program):
+    """It joins, and no view of the group comes for long: it says so, and records when one comes."""
+    with Place() as it:
+        started = it.start('node %d\nawait go\n' % NODE + ALONE, given=IMPATIENT)
+        told = 'no view of the group comes for 0.4 s'
+        if not started.says(told + ': does the ring hang?'):
+            return 'it did not say it: %r' % started.said
+        it.go()
+        if not it.goes('mcast 1', count=2):
+            return 'it did not come so far: %r' % started.said
+        wrong = checked(it, started.end(signal.SIGTERM), 0, told, 'corosync goes on', '; it left')
+        return wrong or (it.text(it.names()[0]).count(' # %s\n' % told) != 1 and 'the log does not say it')
 
 
 def no_hang(_program):
@@ -290,6 +304,7 @@ def _all():
     yield 'two interrupts of a call that does not return', partial(end_blocked, (signal.SIGINT,) * 4)
     yield 'SIGTERM in a call that does not return', partial(end_blocked, (signal.SIGTERM,))
     yield 'nothing is delivered', hang
+    yield 'no view comes', hang_before
     yield 'messages are delivered', no_hang
     for what, case in GONE.items():
         yield what, partial(go_away, *case)

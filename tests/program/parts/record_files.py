@@ -56,7 +56,7 @@ def find_log(_program):
         return wrong or it.wrong_log(new) or (it.text(old) != '# of another process\n' and 'it wrote into the other log: %r' % it.text(old))
 
 
-FIRST = '# totem-log 1 sends=taken transitional=late by=record/1 node=5 pid=100 group=old sync=%s boot=%s\n'
+FIRST = '# totem-log 1 sends=taken ends=early transitional=late by=record/1 node=5 pid=100 group=old sync=%s boot=%s\n'
 BODY = '%s conf r2500001.5 5:101\n%s send r2500001.5 a 2500001.5#1\n'
 THEN_TIME = '2026-11-29T07:45:27.251234Z'
 LATER = '2999-01-01T00:00:00.000000Z'
@@ -71,7 +71,7 @@ EARLIER = {
     'killed before the machine started again': (FIRST % ('yes', 'another') + OLD, 'TIME fail r2500001.5\n', CLOSED),
     'killed before the machine started again, without sync': (FIRST % ('no', 'another') + OLD, '', OPEN),
     'killed after a remark': (
-        FIRST % ('yes', 'BOOT') + OLD + THEN_TIME + ' # nothing delivered for 30 s though messages wait\n', 'TIME fail r2500001.5\n', CLOSED),
+        FIRST % ('yes', 'BOOT') + OLD + THEN_TIME + ' # nothing is delivered for 30 s though messages wait\n', 'TIME fail r2500001.5\n', CLOSED),
     'killed in its second configuration': (
         FIRST % ('yes', 'BOOT') + OLD + '{0} conf t2900000.5/5 5:101\n{0} conf r2900000.5 5:101\n'.format(THEN_TIME),
         'TIME fail r2900000.5\n', CLOSED),

@@ -147,7 +147,7 @@ def send_never(_program):
         name = it.names()[0]
         words = [line.split(' ')[0] for line in it.entries(name)]
         return wrong or (words != ['conf', 'send', 'fail'] and 'it wrote %r' % words) or (
-            it.text(name).count(' # nothing delivered for 0.4 s though messages wait\n') != 1 and 'the log does not say it once: %s' % it.text(name))
+            it.text(name).count(' # nothing is delivered for 0.4 s though messages wait\n') != 1 and 'the log does not say it once: %s' % it.text(name))
 
 
 # ---- streams
