@@ -14,6 +14,7 @@ from harness import process
 HARNESS = os.path.dirname(os.path.abspath(__file__))
 SOURCE = os.path.join(HARNESS, 'cpg_stand_in.c')
 TOOL = os.path.join(HARNESS, '..', '..', 'tools', 'record')
+COMPILER = os.environ.get('CC', 'cc')
 
 # The node of most scripts.
 NODE = 5
@@ -33,10 +34,6 @@ LINE = re.compile(r'(%s) (.*)' % TIME)
 _groups = itertools.count(1)
 
 
-class NoCompiler(Exception):
-    """There is no C compiler."""
-
-
 class Library:
     """The stand-in, built once when it is needed first, in a folder that is removed at the end."""
 
@@ -45,16 +42,12 @@ class Library:
         self.folder = None
 
     def build(self):
-        """The folder with the library. Raises NoCompiler."""
+        """The folder with the library."""
         with self.lock:
             if self.folder is None:
                 folder = tempfile.TemporaryDirectory(prefix='stand-in-')  # pylint: disable=consider-using-with
-                compiler = os.environ.get('CC', 'cc')
-                try:
-                    subprocess.run([compiler, '-O2', '-Wall', '-Wextra', '-Werror', '-shared', '-fPIC', '-o',
-                                    os.path.join(folder.name, 'libcpg.so.4'), SOURCE], check=True)
-                except OSError as error:
-                    raise NoCompiler('the stand-in for libcpg needs a C compiler (cc, or $CC): %s' % error) from error
+                subprocess.run([COMPILER, '-O2', '-Wall', '-Wextra', '-Werror', '-shared', '-fPIC', '-o',
+                                os.path.join(folder.name, 'libcpg.so.4'), SOURCE], check=True)
                 self.folder = folder
         return self.folder.name
 

@@ -1,4 +1,7 @@
 """What is asked of each answer of `tools/record`, and of the logs that it leaves."""
+import re
+
+from harness import process
 from parts.joined import join
 
 
@@ -34,4 +37,12 @@ def checked(it, came, status, *told):
     if wrong or not any(it.entries(name) for name in it.names()):
         return wrong
     joined = join([], it.path)
-    return 'the logs are not joined: %s' % joined if joined.status else None
+    is_right = not joined.status and b'logs: as the first lines of the logs say: --own-sends ' in joined.errors
+    return None if is_right else 'the logs are not joined as their first lines say: %s' % joined
+
+
+def judged(it, program):
+    """What is wrong with the verdict on the logs, which all were recorded to their ends: yes, and nothing is pending or waiting."""
+    came, _ = process.run([program, 'audit'], join([], it.path).output)
+    is_right = came.status == 0 and came.output.startswith(b'verdict yes\n') and not re.search(rb'^(pending|waiting) ', came.output, re.MULTILINE)
+    return None if is_right else 'the verdict: %s' % came

@@ -8,7 +8,7 @@ from functools import partial
 from harness import stand_in
 from harness.stand_in import ALONE, NODE, Place
 from parts.joined import join
-from parts.record_checks import boot, checked, differs, text_of
+from parts.record_checks import boot, checked, differs, judged, text_of
 
 
 def refuse_folder(path, told, _program):
@@ -110,8 +110,8 @@ def find_earlier(before, added, told, _program):
         return wrong or next(('%s is %r' % (name, it.text(name)) for name in others if it.text(name) != text), None)
 
 
-def kill_and_close(_program):
-    """A recorder is killed, with all of it: the next one closes its log, and both are joined."""
+def kill_and_close(program):
+    """A recorder is killed, with all of it: the next one closes its log, and both are joined and judged."""
     with Place() as it:
         killed = it.start(ALONE)
         if not it.goes('mcast 1', count=2):
@@ -124,8 +124,8 @@ def kill_and_close(_program):
         started = it.start(ALONE)
         if not it.goes('mcast 1', which=2):
             return 'it did not come so far: %r' % started.said
-        came = started.end(signal.SIGTERM)
-        wrong = checked(it, came, 0, it.name(life) + ' is closed with `fail`: that life was killed', '; it left')
+        came = started.end(signal.SIGINT)
+        wrong = checked(it, came, 0, it.name(life) + ' is closed with `fail`: that life was killed', '; all have ended') or judged(it, program)
         new = it.text(it.name(life))
         form = '%s fail %s\n' % (stand_in.TIME, re.escape(it.entries(it.name(life))[0].split(' ')[1]))
         is_right = new.startswith(old) and re.fullmatch(form, new[len(old):])

@@ -1,12 +1,13 @@
 """`tools/record` over a stand-in for Corosync's library: what it refuses, what it says, and the logs that it leaves."""
 import os
+import shutil
 import signal
 import subprocess
 from datetime import datetime
 from functools import partial
 
 from harness import process, stand_in
-from harness.stand_in import ALONE, LIBRARY, NODE, NoCompiler, Place, Started
+from harness.stand_in import ALONE, COMPILER, LIBRARY, NODE, Place, Started
 from harness.together import Together
 from parts import record_ends, record_files
 from parts.record_checks import boot, checked, differs
@@ -116,7 +117,8 @@ def wait_for_daemon(_program):
         wrong = checked(it, started.end(signal.SIGTERM), 0, WAITS % (2, 'library error'), ' writes LOGS/', 'members 5:', '; it left')
         wanted = ['initialize 2'] * 2 + ['initialize 6', 'initialize 1', 'local 6', 'local 1', 'join 6', 'join 6', 'join 1']
         called = [call.split(' tested')[0] for _, _, call in it.calls()][:len(wanted)]
-        return wrong or (called != wanted and 'it called %r' % called)
+        said = started.said['stderr'].count(b'waits for corosync')
+        return wrong or (called != wanted and 'it called %r' % called) or (said != 1 and 'it said %d times that it waits' % said)
 
 
 def send_again(answers, _program):
@@ -252,14 +254,9 @@ def _cases():
     yield from record_ends.cases()
 
 
-def _with_compiler(call, program):
-    """A case, or that there is no compiler."""
-    try:
-        return call(program)
-    except NoCompiler as error:
-        return str(error)
-
-
 def recorded():
     """A recorder over a stand-in for the library. Most cases wait, so they are done beside each other."""
-    yield from Together(((what, partial(_with_compiler, call)) for what, call in _cases()), 8)
+    if not shutil.which(COMPILER):
+        yield 'a compiler', lambda _program: 'there is no C compiler (%s, or another one by $CC) for the stand-in for libcpg' % COMPILER
+        return
+    yield from Together(_cases(), 8)
