@@ -237,6 +237,8 @@ class Orders:
         self.me = self._who()
         self.views = Views(*self.me)
         self.lines, self.named, self.members = [], [], [self.me]
+        # Whether it was told that it is no member any more, and the lines that came later.
+        self.is_gone, self.late = False, []
 
     def _who(self):
         node = self.draw.choice((1, 1, 2, 3, 4, 65535, MOST_NUMBER))
@@ -262,8 +264,9 @@ class Orders:
             members = self._some()
             if self.draw.randrange(8):
                 members = list({who.node: who for who in members}.values())
+            left = self._moved()
             self.members = members or self.members
-            came = self.views.group(members, self._moved(), self._moved() if self.draw.randrange(2) else [])
+            came = self.views.group(members, left, self._moved() if self.draw.randrange(2) else [])
         elif what < 5:
             nodes = [self._who().node for _ in range(self.draw.randrange(5))] + [self.me.node] * self.draw.randrange(2)
             number = self.draw.choice((0, 1, 25, 40000, 40001, 2 ** 32, 2 ** 64 - 1, self.draw.randrange(1, 100)))
@@ -271,6 +274,8 @@ class Orders:
         else:
             came = self.views.message(*self.draw.choice(self.members + [self._who()]), self._contents())
         self.lines += came
+        self.late += came if self.is_gone else []
+        self.is_gone = self.is_gone or what < 3 and (self.me not in members or self.me in [it.member for it in left])
         if self.views.can_send:
             self.named.append((self.views.configuration, self.views.next_name()))
 
@@ -308,7 +313,7 @@ def call_back_anyhow(first, count, _program):
                 orders.call_back()
             except Exception as error:  # pylint: disable=broad-exception-caught
                 return 'callbacks %d: %r after %r' % (seed, error, orders.lines)
-        wrong = wrong_lines(orders.lines)
+        wrong = wrong_lines(orders.lines) or orders.late and '%r came late' % orders.late
         names = [name for _, name in orders.named]
         if not wrong and not all(re.fullmatch(RING + '#' + NUMBER, name) and name.startswith(configuration[1:] + '#') and
                                  int(name.split('#')[1]) <= MOST_NUMBER for configuration, name in orders.named):
