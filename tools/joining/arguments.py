@@ -41,6 +41,10 @@ for logs whose way back is wanted, from a place in the report (fault 1.4 2:1@154
     tools/logs join --map my.map FOLDER > my.run
     tools/logs where my.map 2:1@1543
 
+for a cluster in which node 2 lost power, so that its log lacks its last lines:
+
+    tools/logs join --torn 2 FOLDER
+
 and for logs that are too long for one run:
 
     tools/logs join --cut parts FOLDER && for part in parts/*.run; do ./totem explain < $part > $part.txt || echo "$part: status $?"; done
@@ -54,7 +58,8 @@ WHERE = """Finds the line of a log from which an entry of a run came, with the t
     ./totem audit < my.run                            (it says, for example, fault 1.4 2:1@1543 2:1@1577)
     tools/logs where my.map 2:1@1543 2:1@1577
 
-For a send that --own-sends moved this is the line in which it was recorded. An entry that --failed or --transitional added has no line."""
+For a send that --own-sends moved this is the line in which it was recorded. An entry that --failed, --torn or --transitional
+added has no line."""
 NAME = """Puts the names of nodes beside the numbers of processes in an explanation on standard input:
 
     ./totem explain < my.run | tools/logs name nodes.txt
@@ -70,8 +75,8 @@ def _add_words_of_ends(join):
                       help='these processes are known to have failed (they crashed, or were killed): their logs get `fail`. '
                       'A list is 2, or 2,3:1 with lives')
     join.add_argument('--torn', action='append', metavar='LIST',
-                      help='the last lines of the logs of these processes are lost, as after a power failure: their logs get a `send` for each message '
-                      'that no log sends and others delivered in the configuration in which the log ends, and `fail`')
+                      help='the last lines of the logs of these processes are lost, as after a power failure: their logs get a `send` for each '
+                      'message that no log sends and others delivered in the configuration in which the log ends, and `fail`')
     join.add_argument('--quiet', action='append', metavar='LIST',
                       help='for these nothing more was to come (they were shut down cleanly): their logs are closed as quiet. '
                       '`all` are those that did not fail')

@@ -103,8 +103,9 @@ class Rewriting:
     def tell(self):
         """Reports what was moved, what was left out, and what stays."""
         account, ends = self.account, {}
+        to_ends = account.ends - account.kept_back
         for index in self.moved:
-            if index in account.ends - account.kept_back:
+            if index in to_ends:
                 ends.setdefault(account.goals[index], []).append(index)
         others = account.ends | account.kept_back
         self._tell('sends moved to just before their own deliveries', [index for index in self.moved if index not in others])

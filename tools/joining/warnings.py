@@ -30,14 +30,6 @@ def _delivered(logs, messages):
     return found
 
 
-def _there_last(logs):
-    """The logs that did not fail, of those of the last life of each process."""
-    last = {}
-    for log in logs:
-        last[log.process] = max(log.life or 1, last.get(log.process, 1))
-    return [log for log in logs if log.ending != 'failed' and (log.life or 1) == last[log.process]]
-
-
 def _hangs(log, count):
     """Whether a log that sends so many messages after its last delivery, which nobody delivers, hangs at its end."""
     return count >= SENDS if log.silence is None else log.silence >= SECONDS
@@ -45,13 +37,14 @@ def _hangs(log, count):
 
 def tell_hang(logs):
     """Warns if at the end of all logs that did not fail nobody delivers anything, though messages were handed over that nobody ever delivers."""
-    ends = {log.name: _sent_last(log) for log in _there_last(logs)}
-    if not any(ends.values()) or not all(_hangs(log, len(ends[log.name])) for log in logs if log.name in ends):
+    logs_there = [log for log in logs if log.ending != 'failed']
+    ends = {log.name: _sent_last(log) for log in logs_there}
+    if not any(ends.values()) or not all(_hangs(log, len(ends[log.name])) for log in logs_there):
         return
     delivered = _delivered(logs, {message for sent in ends.values() for message in sent})
     ends = {name: [message for message in sent if message not in delivered] for name, sent in ends.items()}
     lost = [message for sent in ends.values() for message in sent]
-    if lost and all(_hangs(log, len(ends[log.name])) for log in logs if log.name in ends):
+    if lost and all(_hangs(log, len(ends[log.name])) for log in logs_there):
         tell('warning: at the end of all logs that did not fail nobody delivers anything, though messages were handed over that nobody ever '
              'delivers: %d (%s). Does the layer hang? The verdict may be yes nevertheless: no specification that is judged promises progress' % (
                  len(lost), some(lost)))

@@ -99,7 +99,7 @@ class Life:
             head = ('%s %s ' % (name, word or '-')).encode()
             self.waiting = head + os.urandom(self.asked.size - len(head))
             self.said.add(word)
-            self.watch.begin('nothing is delivered', ' though messages wait')
+            self.watch.begin('nothing is delivered for %g s though messages wait', 'messages are delivered again')
         try:
             if self.connection.send(self.waiting):
                 self.waiting = None
@@ -129,8 +129,6 @@ class Life:
     def _is_over(self):
         """Whether the life is over, as somebody asked."""
         now = time.monotonic()
-        if self.views.trouble:
-            raise Refused(self.views.trouble + ': end one of them')
         if self.quiet_since is not None:
             return now > self.quiet_since + SECONDS_TO_STAY
         has_left = self.views.has_left or self.leaving_since is not None and now > self.leaving_since + SECONDS_TO_LEAVE
@@ -144,7 +142,7 @@ class Life:
             if failed.error in library.GONE:
                 raise
             raise Refused('--group %s: %s' % (self.asked.group, failed)) from failed
-        self.watch.begin('no view of the group comes')
+        self.watch.begin('no view of the group comes for %g s', 'a view of the group has come')
 
     def _record(self):
         """Joins the group, and records until the life is over."""

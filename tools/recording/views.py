@@ -5,7 +5,6 @@ A configuration is a view of the group, whose members are the recorders. The lib
 who left, those who joined, and then the ring; in the same ring one callback for each change. The lines of a change are written when all of
 its callbacks are there."""
 import re
-from itertools import combinations
 from typing import NamedTuple
 from zlib import crc32
 
@@ -66,14 +65,6 @@ def _reasons(left, joined):
     return {it.reason for it in (*left, *joined)}
 
 
-def _twins(members):
-    """What is wrong with a view in which a node has two members. (While a change is told in pieces, a node may have an old one and a new one.)"""
-    for one, other in combinations(members, 2):
-        if one.node == other.node:
-            return 'two recorders of node %d are in the group, the processes %d and %d' % (one.node, one.process, other.process)
-    return None
-
-
 def _up_to_end(lines):
     """The lines up to the one that ends the log, if it is among them."""
     return lines[:lines.index('quiet') + 1] if 'quiet' in lines else lines
@@ -95,8 +86,8 @@ class Views:
         self.named = 0
         # Those that have answered to `stop`, if it was said, and whether all have.
         self.byes, self.is_quiet = None, False
-        # Whether this member is no longer in the group, and what is wrong with the group.
-        self.has_left, self.trouble = False, None
+        # Whether this member is no longer in the group, and when others joined, by a count.
+        self.has_left, self.joined = False, {}
 
     def group(self, members, left, joined):
         """The members of the group changed."""
@@ -112,6 +103,7 @@ class Views:
             lines += self._change(self.pending.moved)
         self.pending = self.pending or Pending(self.view or ())
         self.pending.add(left, joined)
+        self.joined.update((it.member, len(self.joined) + 1) for it in joined)
         self.view = sorted(members)
         if self.ring and not self.pending.is_of_ring and PROCDOWN not in reasons:
             lines += self._change(self.pending.moved)
@@ -151,17 +143,23 @@ class Views:
 
     def _change(self, moved):
         """All callbacks of a change are there. `moved` is the sum over who came or went if the ring stayed."""
-        self.trouble = _twins(self.view)
-        if self.trouble:
-            return []
+        twins = self._leave_twins_out()
         number = ((self.ring[0] - 1) % RINGS + 1) * CHANGES + (0 if moved is None else moved % (CHANGES - 1) + 1)
-        name, lines = '%d.%d' % (number, self.ring[1]), []
+        name, lines = '%d.%d' % (number, self.ring[1]), twins
         together = sorted(self.pending.together if self.pending else self.view)
         if self.configuration and together:
             lines.append('conf t%s/%d %s' % (name, together[0].node, _listed(together)))
         self.configuration, self.named, self.pending = 'r' + name, 0, None
         lines.append('conf %s %s' % (self.configuration, _listed(self.view)))
         return lines + self._end()
+
+    def _leave_twins_out(self):
+        """Leaves a member out of the view of whose node there is another one that joined later: a node has one recorder, so the group has kept a
+        dead one. (While a change is told in pieces, this is often so; but not at its end.) Returns lines that say so."""
+        newest = {it.node: it for it in sorted(self.view, key=lambda it: (it == self.me, self.joined.get(it, 0), it))}
+        gone = [it for it in self.view if newest[it.node] != it]
+        self.view = sorted(newest.values())
+        return ['# two members of node %d: %d:%d is left out' % (it.node, *it) for it in gone]
 
     def _end(self):
         """The line that ends the log if all members have answered."""
@@ -173,7 +171,7 @@ class Views:
     @property
     def is_over(self):
         """Whether nothing more belongs into the log: what comes after the own leaving, others deliver behind a change that this member never sees."""
-        return self.has_left or self.is_quiet or self.trouble is not None
+        return self.has_left or self.is_quiet
 
     @property
     def can_send(self):

@@ -15,21 +15,21 @@ class Watch:
 
     def __init__(self, log):
         self.log = log
-        # Since when something has been missing, what is missing, and whether that was said.
-        self.since, self.what, self.is_told = None, ('', ''), False
+        # Since when something has been missing, what is said of that and of its end, and whether the first was said.
+        self.since, self.missing, self.again, self.is_told = None, '', '', False
         threading.Thread(target=self._look, daemon=True).start()
 
-    def begin(self, what, why=''):
-        """From now on something is missing, if nothing is yet."""
+    def begin(self, missing, again):
+        """From now on something is missing, if nothing is yet. The first text has a place for the seconds."""
         if self.since is None:
-            self.since, self.what = time.monotonic(), (what, why)
+            self.since, self.missing, self.again = time.monotonic(), missing, again
 
     def end(self):
         """It has come."""
         self.since = None
         if self.is_told:
             self.is_told = False
-            say('corosync goes on')
+            say(self.again)
 
     def stop(self):
         """Nothing more is to come."""
@@ -41,6 +41,6 @@ class Watch:
             since, log = self.since, self.log
             if since is not None and log and not self.is_told and time.monotonic() > since + PATIENCE:
                 self.is_told = True
-                told = '%s for %g s%s' % (self.what[0], PATIENCE, self.what[1])
+                told = self.missing % PATIENCE
                 log.write(['# ' + told])
                 say(told + ': does the ring hang?')

@@ -62,7 +62,7 @@ def read_words(words):
                    formatter_class=argparse.RawDescriptionHelpFormatter)
     parser.add_argument('--logs', metavar='FOLDER', required=True, help='where the logs are written; it is made if it is not there')
     parser.add_argument('--group', type=_group, default='totem-record', metavar='NAME', help='the group, the same on all nodes (totem-record)')
-    parser.add_argument('--rate', type=_number(.01, 1000, float), default=5, metavar='N', help='messages a second (5)')
+    parser.add_argument('--rate', type=_number(.01, 1000, float), default=5, metavar='N', help='messages a second (5); three nodes took 2 %%, 6 %% and 12 %% of a core for each daemon at 2, 5 and 20')
     parser.add_argument('--size', type=_number(64, 1000000, int), default=100, metavar='BYTES', help='how long a message is (100)')
     parser.add_argument('--for', type=_number(.1, 10000000, float), dest='seconds', metavar='SECONDS',
                         help='end the recording of all nodes after this time')

@@ -129,6 +129,11 @@ MAPS = {
             '2.log': 'conf r4.1 1 2\ndlv r4.1 4.1#1\ndlv r4.1 4.1#4\ndlv r4.1 4.1#2\n'},
         'totem-map 1\nlog 1 1.log\n1 1\n2 3\n3 2\n4 6\n5-6 4\n7 7\nlog 2 2.log\n1-4 1\nend\n',
         ('1@3 1@4 1@5', '1@3: 1.log, line 2\n1@4: 1.log, line 6\n1@5: 1.log, line 4\n')),
+    'messages that went out after their sender was killed': (
+        '--early-ends', {'1.log': 'conf r4.1 1 2\n1 dlv r4.1 4.1#1\n2 conf t8.1/1 1\n3 conf r8.1 1 2\n\n4 dlv r8.1 4.1#3\n5 dlv r8.1 4.1#2\n6 conf t12.1/1 1\n',
+                         '2.log': 'conf r4.1 1 2\nsend r4.1 a 4.1#2\nsend r4.1 a 4.1#1\ndlv r4.1 4.1#1\nfail r4.1\n'},
+        'totem-map 1\nlog 1 1.log\n1 1\n2 2 1\n3 3 2\n4 4 3\n5 6 4\n6 8 6\nlog 2 2.log\n1 1\n2-4 3\nend\n',
+        ('1@5 1@6 2@2', '1@5: 1.log, line 6, 4\n1@6: 1.log, line 8, 6\n2@2: 2.log, line 3\n')),
     'new numbers': (
         '--renumber', {'70000.log': 'conf r4.70000 70000\n', '9.log': '\nconf r4.70000 70000\n'},
         'totem-map 1\nlog 1 9.log\n1 2\nlog 2 70000.log\n1 1\nend\n', ('2@1 1@1', '2@1: 70000.log, line 1\n1@1: 9.log, line 2\n')),

@@ -4,6 +4,7 @@ import tempfile
 from functools import partial
 
 from harness import process
+from parts.early_ends import EARLY_ENDS
 from parts.joined import EXAMPLES, join, join_files, try_folder, try_refused, write_files
 from parts.first_lines import FIRST_LINES, FIRST_LINES_REFUSED
 from parts.late_changes import LATE_CHANGES
@@ -179,6 +180,9 @@ HIDDEN = {
     'own-order': ('--own-sends --own-order-unknown', 'logs: 1.log: sends 4.1#1 (line 2) and then 4.1#2 (line 3), and delivers the first one in '
                   'line 5 and the second one in line 4\n'),
     'sent-when-delivered-late': ('--own-sends --late-sends', 'logs: 1.log: sends moved back over a change, since the call says so: 1 (4.1#1)\n'),
+    'lost-before-a-change': ('--late-changes', 'logs: 2.log: deliveries from the first one past a gap on, which are now in transitional '
+                             'configurations: 1 (t8.2/2: 1)\n'),
+    'nobody-sent': ('--torn 1', 'logs: 1.log: sends that are added, since others delivered the messages and no log sends them: 1 (4.1#1)\n'),
     'lost-tail': ('--trim', 'logs: 1.log: entries left out after its change to r8.1: 1\n'),
     'sent-again': ('--cut FOLDER --entries 5',
                    'logs: 1.log: sends 4.1#1 in part 2, and a log does so in part 1: a name came again, and no part shows it\n'),
@@ -244,7 +248,7 @@ def try_end(words, files, told, _program):
 
 def mended():
     """Added lives, moved sends and changes, new numbers, cut logs."""
-    for folders in (LIVES, SENDS, TRANSITIONAL, LATE_CHANGES, FIRST_LINES, TORN, NUMBERS, TRIMMED):
+    for folders in (LIVES, SENDS, TRANSITIONAL, EARLY_ENDS, LATE_CHANGES, FIRST_LINES, TORN, NUMBERS, TRIMMED):
         for what, (words, files, wanted, told) in folders.items():
             yield what, partial(try_folder, words, files, wanted, with_recording(words, told))
     for what, (words, files, told) in HANGS.items():
