@@ -5,6 +5,7 @@ import re
 import sys
 import tempfile
 from functools import partial
+from zlib import crc32
 
 from harness import process
 from harness.groups import play
@@ -160,7 +161,11 @@ class Listener:
 
     def message(self, view, name):
         """A delivery: in the view that is known, and in the same one at all."""
-        self._take(self.views.message(1, 1, name.encode() + b' - and so on'), [view], [set(self.together)])
+        contents = name.encode() + b' - and so on'
+        lines = self.views.message(1, 1, contents)
+        if not lines[-1].endswith(' %s crc=%08x' % (name, crc32(contents))):
+            self.wrong = self.wrong or '%s delivers %r as %r' % (self.who, contents, lines[-1])
+        self._take(lines, [view], [set(self.together)])
         self.history.delivered.setdefault(name, set()).add(self.views.configuration)
         if view != self.view:
             self.wrong = self.wrong or '%s delivers in %s, and not in %s' % (self.who, self.view, view)
@@ -280,27 +285,34 @@ class Orders:
             self.named.append((self.views.configuration, self.views.next_name()))
 
 
+def wrong_changes(lines):
+    """What is wrong with the changes among the entries of a log: each goes by a transitional configuration, of members of both neighbours."""
+    changes = [(index, CHANGE.fullmatch(line)) for index, line in enumerate(lines) if line.startswith('conf ')]
+    if not re.fullmatch('(?:r(?:tr)*)?', ''.join(found[1] for _, found in changes)):
+        return 'regular and transitional ones do not alternate: %r' % lines
+    for _, found in changes:
+        nodes = [int(who.split(':')[0]) for who in found[4].split(' ')]
+        if any(one >= other for one, other in zip(nodes, nodes[1:])):
+            return 'members are not ascending: %r' % found[0]
+    for (index, found), (behind, follower) in zip(changes, changes[1:]):
+        some, others = (set(it[4].split(' ')) for it in ((found, follower) if found[1] == 't' else (follower, found)))
+        if not some <= others or found[1] == 't' and (found[2] != follower[2] or behind != index + 1):
+            return '%r is followed by %r' % (found[0], follower[0])
+    return None
+
+
 def wrong_lines(lines):
     """What is wrong with the form of some lines, or None."""
-    before, current, regular = '', None, None
-    for line in (line for line in lines if not line.startswith('#')):
-        change = CHANGE.fullmatch(line)
-        transitional = CHANGE.fullmatch(before)
+    lines, current = [line for line in lines if not line.startswith('#')], None
+    for line in lines:
         if not ENTRY.fullmatch(line) or any(int(number) > MOST_NUMBER for number in re.findall(r'[0-9]{10,}', line.split(' crc=')[0])):
             return 'no entry: %r' % line
-        if before == 'quiet':
-            return 'after quiet: %r' % line
-        if transitional and transitional[1] == 't' and not (change and change[1] == 'r' and change[2] == transitional[2]):
-            return '%r is followed by %r' % (before, line)
-        if change:
-            nodes = [int(who.split(':')[0]) for who in change[4].split(' ')]
-            if any(one >= other for one, other in zip(nodes, nodes[1:])):
-                return 'members are not ascending: %r' % line
-            current, regular = line.split(' ')[1], 'r' + change[2] if change[1] == 'r' else regular
-        elif line.startswith('dlv') and (regular is None or line.split(' ')[1] != current):
+        if line.startswith('dlv ') and line.split(' ')[1] != current:
             return 'in no such configuration: %r' % line
-        before = line
-    return None if not before.startswith('conf t') else 'it ends with %r' % before
+        current = line.split(' ')[1] if line.startswith('conf ') else current
+    if 'quiet' in lines[:-1]:
+        return 'after quiet: %r' % lines
+    return wrong_changes(lines)
 
 
 def call_back_anyhow(first, count, _program):

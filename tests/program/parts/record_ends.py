@@ -144,10 +144,10 @@ def hang(_program):
             return 'it did not come so far: %r' % started.said
         before = started.said['stderr'].count(HANGS.encode())
         it.go()
-        if before != 1 or not started.says('corosync goes on'):
+        if before != 1 or not started.says('messages are delivered again'):
             return 'it said %d times that none come, and %r' % (before, started.said)
         came = started.end(signal.SIGTERM)
-        wrong = checked(it, came, 0, HANGS, 'corosync goes on', '; it left') or wrong_end(it, came, 'fail')
+        wrong = checked(it, came, 0, HANGS, 'messages are delivered again', '; it left') or wrong_end(it, came, 'fail')
         # (on a machine that does other work there may be another one)
         return wrong or (it.text(it.names()[0]).count(REMARK) != came.errors.count(HANGS.encode()) and 'the log does not say it: %s' % came)
 
@@ -162,7 +162,7 @@ def hang_before(_program):
         it.go()
         if not it.goes('mcast 1', count=2):
             return 'it did not come so far: %r' % started.said
-        wrong = checked(it, started.end(signal.SIGTERM), 0, told, 'corosync goes on', '; it left')
+        wrong = checked(it, started.end(signal.SIGTERM), 0, told, 'a view of the group has come', '; it left')
         return wrong or (it.text(it.names()[0]).count(' # %s\n' % told) != 1 and 'the log does not say it')
 
 

@@ -7,7 +7,7 @@ from datetime import datetime
 from functools import partial
 
 from harness import process, stand_in
-from harness.stand_in import ALONE, COMPILER, LIBRARY, NODE, Place, Started
+from harness.stand_in import ALONE, COMPILER, LEAVE, LIBRARY, NODE, Place, Started
 from harness.together import Together
 from parts import record_ends, record_files
 from parts.record_checks import boot, checked, differs
@@ -44,9 +44,6 @@ REFUSALS = {
     'messages that are too big': (
         'answer mcast 26\n' + ALONE, '', (), 1,
         [' writes LOGS/', '--size 100: cpg_mcast_joined: error 26 of libcpg (too big)']),
-    'another recorder of this node in the group': (
-        'node 5\nview joined 5:1 1 self 1 members 5:1 self\nring 5 25 5\n', '', (), 1,
-        ['two recorders of node 5 are in the group, the processes 1 and ']),
 }
 
 # Arguments that are refused: nothing is begun.
@@ -119,6 +116,22 @@ def wait_for_daemon(_program):
         called = [call.split(' tested')[0] for _, _, call in it.calls()][:len(wanted)]
         said = started.said['stderr'].count(b'waits for corosync')
         return wrong or (called != wanted and 'it called %r' % called) or (said != 1 and 'it said %d times that it waits' % said)
+
+
+def keep_dead(_program):
+    """The group keeps a dead member of this node, or of another one: who joined later is the one that counts, and the log says so."""
+    with Place() as it:
+        started = it.start('node 5\nview joined self 1 members 2:20 5:1 self\nring 2 25 2 5\necho\nawait sends 1\n'
+                           'view joined 2:10 1 members 2:20 2:10 5:1 self\n' + LEAVE)
+        if not it.goes('mcast 1', count=3):
+            return 'it did not come so far: %r' % started.said
+        wrong = checked(it, started.end(signal.SIGTERM), 0, 'members 2:21 5:', 'members 2:11 5:', '; it left')
+        wanted = [members + '5:%d' % (it.lives()[0] % 65535 + 1) for members in ('2:21 ', '', '2:11 ')]
+        text = it.text(it.names()[0])
+        changes = [line.split(' ', 2)[2] for line in it.entries(it.names()[0]) if line.startswith('conf ')]
+        return wrong or (changes != wanted and 'it was in %r' % changes) or next(
+            ('it did not say that %s is left out: %s' % (who, text) for who in ('node 5: 5:1', 'node 2: 2:20')
+             if ' # two members of %s is left out\n' % who not in text), None)
 
 
 def send_again(answers, _program):
@@ -237,6 +250,7 @@ def _cases():
     for answers in ('6', '6 6 6 6'):
         yield 'messages that are tried again: ' + answers, partial(send_again, answers)
     yield 'messages that are never taken', send_never
+    yield 'members that are dead', keep_dead
     yield from record_files.cases()
     for streams in ({'stderr': 'closed'}, {'stderr': 'full'}, {'stderr': 'nobody'}, {'stdout': 'closed'}, {'stdin': 'closed'},
                     {'stdin': 'closed', 'stdout': 'closed', 'stderr': 'closed'}):
