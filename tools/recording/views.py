@@ -146,7 +146,7 @@ class Views:
         twins = self._leave_twins_out()
         number = ((self.ring[0] - 1) % RINGS + 1) * CHANGES + (0 if moved is None else moved % (CHANGES - 1) + 1)
         name, lines = '%d.%d' % (number, self.ring[1]), twins
-        together = sorted(self.pending.together if self.pending else self.view)
+        together = sorted(it for it in (self.pending.together if self.pending else self.view) if it in self.view)
         if self.configuration and together:
             lines.append('conf t%s/%d %s' % (name, together[0].node, _listed(together)))
         self.configuration, self.named, self.pending = 'r' + name, 0, None

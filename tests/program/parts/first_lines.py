@@ -29,6 +29,9 @@ FIRST_LINES = {
     'both keys, and others': (
         '', _both(*[FIRST + ' node=1 transitional=late by=x=y sends=taken sync='] * 2), AS_SENT,
         LEFT_OUT % 2 + FOLLOWED % '--own-sends --late-changes' + NO_GAP + MOVED),
+    'ends that are early': (
+        '', _both(*[FIRST + ' ends=early sends=taken'] * 2), AS_SENT, LEFT_OUT % 2 + FOLLOWED % '--own-sends --early-ends' + MOVED),
+    'ends that are told': ('', _both(FIRST + ' ends=told', FIRST), AS_TAKEN, LEFT_OUT % 2),
     'sends that are ordered, delivered, and nothing': (
         '', {**_both(FIRST + ' sends=ordered transitional=told', FIRST + ' sends=delivered'), '3.log': FIRST + '\nconf r4.3 3\n'},
         AS_TAKEN.replace('end\n', 'log 3\nconf r4.3 3\nopen\nend\n'), LEFT_OUT % 3),

@@ -180,6 +180,7 @@ HIDDEN = {
     'own-order': ('--own-sends --own-order-unknown', 'logs: 1.log: sends 4.1#1 (line 2) and then 4.1#2 (line 3), and delivers the first one in '
                   'line 5 and the second one in line 4\n'),
     'sent-when-delivered-late': ('--own-sends --late-sends', 'logs: 1.log: sends moved back over a change, since the call says so: 1 (4.1#1)\n'),
+    'delivered-after-a-kill': ('--early-ends', 'logs: 2.log: sends that are left out, since others delivered the messages where it never came: 1 (4.1#2)\n'),
     'lost-before-a-change': ('--late-changes', 'logs: 2.log: deliveries from the first one past a gap on, which are now in transitional '
                              'configurations: 1 (t8.2/2: 1)\n'),
     'nobody-sent': ('--torn 1', 'logs: 1.log: sends that are added, since others delivered the messages and no log sends them: 1 (4.1#1)\n'),
