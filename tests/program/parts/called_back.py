@@ -21,7 +21,7 @@ NUMBER, WHO = r'[1-9][0-9]*', r'[1-9][0-9]*:[1-9][0-9]*'
 RING = NUMBER + r'\.' + NUMBER
 ENTRY = re.compile(r'conf (?:r{r}|t{r}/{n})(?: {w})+|dlv r{r} {r}#{n} crc=[0-9a-f]{{8}}|quiet|# [ -~]*'.format(r=RING, n=NUMBER, w=WHO))
 CHANGE = re.compile(r'conf ([rt])(%s)(?:/(%s))? (.*)' % (RING, NUMBER))
-# Of a thousand histories so many are joined by the tool, and judged by the auditor.
+# How many histories there are, how many in a case, of which so many are joined by the tool and judged by the auditor; how many random orders.
 HISTORIES, BATCH, JUDGED, ORDERS = 2000, 200, 3, 5000
 # Names of changes in one ring are sums with 99,999 values: among the few hundred thousand pairs of such changes some have one name.
 MOST_EQUAL = 3
