@@ -53,8 +53,9 @@ LATE_CHANGES = {
         _past(1, 1, 't8.1/1: 1') + _past(2, 1, 't8.2/2: 1')),
     'a message that comes again past the gap of another': (
         '--late-changes', {'1.log': 'conf r4.1 1 2\ndlv r4.1 4.1#1\ndlv r4.1 4.1#2\ndlv r4.1 4.1#1\n',
-                           '2.log': 'conf r4.1 1 2\ndlv r4.1 4.1#1\nconf t8.2/2 2\n'},
-        _run('conf r4.1 1 2\ndlv r4.1 4.1#1\ndlv r4.1 4.1#2\ndlv r4.1 4.1#1\n', 'conf r4.1 1 2\ndlv r4.1 4.1#1\nconf t8.2/2 2\n'), NO_GAP),
+                           '2.log': 'conf r4.1 1 2\ndlv r4.1 4.1#1\ndlv r4.1 4.1#4\nconf t8.2/2 2\n'},
+        _run('conf r4.1 1 2\ndlv r4.1 4.1#1\ndlv r4.1 4.1#2\ndlv r4.1 4.1#1\n',
+             'conf r4.1 1 2\ndlv r4.1 4.1#1\ndlv r4.1 4.1#4\nconf t8.2/2 2\n'), NO_GAP),
     'what is delivered in the transitional configuration is not lacking': (
         '--late-changes', {'1.log': 'conf r4.1 1 2\ndlv r4.1 4.1#1\ndlv r4.1 4.1#2\n',
                            '2.log': 'conf r4.1 1 2\ndlv r4.1 4.1#2\nconf t8.2/2 2\ndlv t8.2/2 4.1#1\n'},
