@@ -11,8 +11,9 @@ MOST_LOGS = 28
 # How long something stays as it is, in seconds; and how long until the next disturbance.
 SHORT, LONG = .3, 6
 PAUSES = (.5, 1.5, 4, 8)
-# How long the cluster may take until all are in one view again, and until its recording has ended.
-HEALING, ENDING = 120, 60
+# How long it rests when all is whole, so that it notices what was before; how long it may take then until all are in one view, and until its
+# recording has ended.
+REST, HEALING, ENDING = 20, 120, 60
 
 
 class Chances:
@@ -143,6 +144,7 @@ class Chances:
             self._undo(node, steps)
         self.due.clear()
         self.cluster.heal()
+        time.sleep(REST)
 
     def end(self):
         """Waits until all are in one view, and ends the recording. Returns what hangs, or an empty text."""

@@ -11,8 +11,8 @@ from parts.spaces import Network, address
 
 # How long a daemon may take until it answers, and the cluster until all are in one view; on a machine that does other work.
 SECONDS = 90
-# How long the end in band may take.
-ENDING = 40
+# How long the end in the group may take, and the end of one recorder by itself.
+ENDING, ENDING_ALONE = 40, 6
 # Default timeouts; a machine of several daemons gives none of them real-time scheduling or a watchdog.
 CONFIGURATION = """totem {
   version: 2
@@ -223,12 +223,14 @@ class Cluster:
             self.await_recorder(node, seconds)
 
     def end_at_once(self):
-        """Ends recorders that did not end: a second interrupt leaves their logs open."""
-        for number in (signal.SIGINT, signal.SIGINT):
-            for node in sorted(self.recorders):
-                if self.recorders[node].poll() is None:
-                    self.signal_recorder(node, number)
-            time.sleep(1)
+        """Ends recorders that did not end, each by itself: a second interrupt leaves the log open."""
+        for _ in range(2):
+            running = {node: process for node, process in self.recorders.items() if process.poll() is None}
+            for node in running:
+                self.signal_recorder(node, signal.SIGINT)
+            limit = time.monotonic() + ENDING_ALONE
+            while any(process.poll() is None for process in running.values()) and time.monotonic() < limit:
+                time.sleep(watching.PERIOD)
 
     def end(self):
         """Ends all that runs."""
