@@ -6,7 +6,6 @@ import time
 from datetime import datetime, timezone
 
 from parts import children, watching
-from parts.children import Broken
 from parts.spaces import Network, address
 
 # How long a daemon may take until it answers, and the cluster until all are in one view; on a machine that does other work.

@@ -30,6 +30,8 @@ def say(text):
 
 def lacks(asked, judges):
     """Whether anything is missing; says what, and how it is come by."""
+    # (a shell that `su` makes root lacks these)
+    os.environ['PATH'] += ':/usr/sbin:/sbin'
     lines = needs.missing()
     if judges and not os.access(asked.program, os.X_OK):
         lines.append('%s is not there: `rt ci` builds it, or give another one by --program' % asked.program)

@@ -7,8 +7,8 @@ from parts import checks
 
 # How many messages each node delivers between two disturbances.
 SOME = 10
-# How long those who were parted stay apart.
-APART = 2
+# How long a recorder is stopped while its daemon goes on.
+STOPPED = 2
 KILLED = -signal.SIGKILL
 # A user without rights.
 NOBODY = 65534
@@ -131,7 +131,7 @@ def leave(cluster):
     cluster.await_views([1, 2, 3])
     cluster.await_deliveries(SOME, 1, 2, 3)
     cluster.signal_recorder(1, signal.SIGSTOP)
-    time.sleep(APART)
+    time.sleep(STOPPED)
     cluster.signal_recorder(1, signal.SIGCONT)
     cluster.await_deliveries(2 * SOME, 1, 2, 3)
     return Wanted(returned=1, logs={2: ['fail', 'quiet']}, statuses={2: [0, 0]})

@@ -5,7 +5,6 @@ import time
 
 from parts import children
 
-NAMESPACES = ('net', 'mnt', 'ipc', 'uts')
 # Where a daemon keeps things: each node has its own, in memory.
 FOLDERS = ('/dev/shm', '/run', '/var/lib/corosync', '/var/log/corosync', '/etc/corosync')
 SUBNET = '10.78.0'
