@@ -1,5 +1,6 @@
 """Logs that end before the layer knows it: a process was killed, and the layer, which still ran, sent messages that it had handed over, in
-configurations to which the process never came. These messages are left out of all logs."""
+configurations to which the process never came. These messages are left out of all logs. And if it was killed before it was told of the first
+configuration that lists it, its log, which has no entry, gets this one, and fails there."""
 import os
 from collections import Counter
 
@@ -7,12 +8,18 @@ from joining.accounts import pieces, regular_at, segments
 from joining.folder import Log, blocks
 from joining.line_numbers import LineNumbers
 from joining.scan import Scan
+from joining.scan import leave_out as leave_silent_out
 from joining.trouble import some, tell
 
 
 def _name_in(line):
     """The message that a line sends or delivers, or None."""
     return line[line.rfind(b' ') + 1:] if line.startswith((b'send ', b'dlv ')) else None
+
+
+def _lists(change, log):
+    """Whether a change lists the process of a log."""
+    return any(process == log.process and life in (None, log.life) for process, life in change.members)
 
 
 def _lines(log):
@@ -64,8 +71,7 @@ class Afterwards:
         if not place:
             return False
         change = log.changes[place - 1]
-        is_member = any(process == sender.process and life in (None, sender.life) for process, life in change.members)
-        return is_member and all(own.configuration != change.configuration for own in sender.changes)
+        return _lists(change, sender) and all(own.configuration != change.configuration for own in sender.changes)
 
 
 def _found(log, senders):
@@ -127,3 +133,41 @@ def leave_out(logs, working, scan_words, changes):
     if not senders:
         return logs
     return [_without(log, senders, working, scan_words, changes) for log in logs]
+
+
+def _first_of(log, logs):
+    """The first change to a regular configuration that lists a process, by the logs of others; None if there is none."""
+    ways = [[change for change in other.changes if change.configuration.startswith(b'r') and _lists(change, log)] for other in logs]
+    firsts = {way[0].configuration: way[0] for way in ways if way}
+    later = {change.configuration for way in ways for change in way[1:]}
+    return next((change for name, change in firsts.items() if name not in later), next(iter(firsts.values()), None))
+
+
+def _begun(log, change, working, scan_words, changes):
+    """A log that had no entry, with a change and the failure there."""
+    members = b' '.join(b'%d' % process if life is None else b'%d:%d' % (process, life) for process, life in change.members)
+    lines = [b'conf %s %s\n' % (change.configuration, members), b'fail %s\n' % change.configuration]
+    path, numbers = os.path.join(working, log.name + '.begun'), LineNumbers()
+    with open(path, 'wb') as out:
+        out.writelines(lines)
+        size = out.tell()
+    for entry, line in enumerate(lines, 1):
+        numbers.insert(entry, log.line_of(1))
+        changes.add('%s, end: %s is added' % (log.name, line[:-1].decode()))
+    new = Log(log.name, path, log.process, log.life, size=size, file=log.file, lines=numbers)
+    Scan(is_known=True, **scan_words).read(new)
+    changes.add('%s, end: failed in place of %s' % (log.name, log.ending))
+    tell('%s has no entry, and others list it: it is taken to have come to %s, and to have failed there' % (log.name, change.configuration.decode()))
+    return new
+
+
+def begin(silent, listed, logs, working, scan_words, changes):
+    """Lets logs without an entry begin where others list them first, and leaves out those that nobody lists. Returns all logs as they are now."""
+    begun = []
+    for log in silent:
+        change = _first_of(log, logs) if (log.process, log.life) in listed else None
+        if change:
+            begun.append(_begun(log, change, working, scan_words, changes))
+        else:
+            leave_silent_out([log], changes)
+    return sorted([*logs, *begun], key=lambda log: (log.process, log.life or 1))

@@ -1,6 +1,7 @@
 """The logs of a folder: a file P.log for each process P, or P.L.log for each life L of it; with patterns, other names."""
 import os
 import re
+import stat
 from dataclasses import dataclass, field
 from typing import NamedTuple, Optional
 
@@ -192,6 +193,9 @@ def find(asked):
         process, life = _read_name(name, asked.pattern, asked.renumber)
         logs.append(Log(name, os.path.join(asked.folder, name), process, life))
     _refuse_twins(logs)
+    for log in logs:
+        if not stat.S_ISREG(os.stat(log.path).st_mode):
+            raise Refused('%s is not a file' % log.name)
     if len({log.life is None for log in logs}) == 2 and not asked.lives:
         with_life = next(log for log in logs if log.life is not None)
         without = next(log for log in logs if log.life is None)

@@ -16,7 +16,7 @@ import os
 
 from joining.lines import WIDTH
 from joining.texts import who
-from joining.trouble import tell
+from joining.trouble import WriteFailed, tell
 
 HEAD = b'totem-map 1\n'
 
@@ -57,6 +57,14 @@ def make_room(path):
 
 def write(path, version, runs, sums, number):
     """Writes the map of these runs, by their names, which are empty if there is one run. `sums` has the CRC-32 of each log of each run."""
+    try:
+        _write(path, version, runs, sums, number)
+    except OSError as error:
+        raise WriteFailed('%s: %s: the run is written, and its map is not' % (path, error.strerror)) from error
+    tell('where each entry came from is written to %s' % path)
+
+
+def _write(path, version, runs, sums, number):
     with open(path, 'wb') as out:
         out.write(HEAD)
         for (name, parts), of_run in zip(runs.items(), sums):
@@ -65,4 +73,3 @@ def write(path, version, runs, sums, number):
                 out.write(b'log %s %08x %s\n' % (who(version, part, number).encode(), of_log, os.fsencode(part.log.name)))
                 out.writelines(_rows(part))
         out.write(b'end\n')
-    tell('where each entry came from is written to %s' % path)

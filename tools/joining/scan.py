@@ -157,11 +157,15 @@ class Scan:
                 changes.add('%s, line %d: left out: %s' % (log.name, log.line_of(log.entries + 1), shown(cut_off)))
         tell_left_out(plains)
         checksums.check()
-        for log in logs:
-            if not log.entries:
-                tell('%s has no entry, and is left out' % log.name)
-                changes.add('%s: left out' % log.name)
         with_entries = [log for log in logs if log.entries]
         if not with_entries:
+            leave_out(logs, changes)
             raise Refused('no log has an entry')
         return with_entries
+
+
+def leave_out(logs, changes):
+    """Reports logs without an entry."""
+    for log in logs:
+        tell('%s has no entry, and is left out' % log.name)
+        changes.add('%s: left out' % log.name)

@@ -4,16 +4,15 @@ import shutil
 import sys
 import tempfile
 
-from joining import again, endings, folder, mapping, texts, torn, where
+from joining import again, early_ends, endings, folder, mapping, texts, torn, where
 from joining.arguments import read_words
 from joining.cuts import Cutting, trim
-from joining.early_ends import leave_out
 from joining.entries import MOST_ENTRIES, MOST_LOGS
 from joining.first_lines import FirstLines
 from joining.late_changes import begin_earlier
 from joining.lives import Lives, add_lives
 from joining.numbers import Numbers
-from joining.scan import Scan
+from joining.scan import Scan, leave_out
 from joining.sends import move_sends
 from joining.transitional import add_transitional
 from joining.trouble import Changes, Refused, WriteFailed, tell
@@ -37,15 +36,21 @@ class Joining:
         self.logs = scan.read_all(found, working, bool(asked.map), self.changes)
         self.read = self.logs
         first_lines.follow(self.logs)
+        silent = [log for log in found if not log.entries]
+        if not asked.early_ends:
+            leave_out(silent, self.changes)
         self._end()
         if asked.transitional:
             self.logs = add_transitional(self.logs, working, words, self.changes)
         self.lives = Lives(self.logs, found, asked) if asked.lives else None
         if self.lives:
             self.lives.write(self.changes)
-        self._tell_missing(self.lives.listed() if self.lives else scan.listed)
+        listed = self.lives.listed() if self.lives else scan.listed
         if asked.early_ends:
-            self.logs = leave_out(self.logs, working, words, self.changes)
+            self.logs = early_ends.begin(silent, listed, self.logs, working, words, self.changes)
+        self._tell_missing(listed)
+        if asked.early_ends:
+            self.logs = early_ends.leave_out(self.logs, working, words, self.changes)
         if asked.late_changes:
             self.logs = begin_earlier(self.logs, working, words, self.changes)
         if asked.own_sends:
@@ -113,7 +118,7 @@ class Joining:
         for log in logs:
             if log.entries + log.added.count(b'\n') > MOST_ENTRIES:
                 raise Refused('%s has %d entries, and a run has %d of a log at most: --cut makes several runs' % (
-                    log.name, log.entries, MOST_ENTRIES))
+                    log.name, log.entries + log.added.count(b'\n'), MOST_ENTRIES))
 
     def write(self):
         """Writes the run, or the runs. The list of changes comes first, the map last."""
@@ -165,10 +170,10 @@ class Joining:
         return sums
 
 
-def _write_failed():
-    """Reports that a stream failed, if it can, and returns the status. Nothing more is written."""
+def _write_failed(failed):
+    """Reports that a stream failed, or the map, if it can, and returns the status. Nothing more is written."""
     try:
-        tell('write failed')
+        tell(str(failed) or 'write failed')
     except WriteFailed:
         pass
     for stream, number in ((sys.stdout, 1), (sys.stderr, 2)):
@@ -230,5 +235,5 @@ def main(words):
     signals.on_ending(signals.interrupt)
     try:
         return _do(read_words(words))
-    except WriteFailed:
-        return _write_failed()
+    except WriteFailed as failed:
+        return _write_failed(failed)

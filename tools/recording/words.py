@@ -107,7 +107,7 @@ class Recorder:
     def _interrupt(self, *_):
         self.interrupts += 1
         self._hand_on(signal.SIGUSR1)
-        if self.interrupts > 1:
+        if self.interrupts == 2:
             signal.alarm(SECONDS_TO_STOP)
 
     def _leave(self, *_):

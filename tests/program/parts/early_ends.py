@@ -23,6 +23,10 @@ def _deliveries(log, count, names):
     return 'logs: %s.log: deliveries that are left out, of messages whose senders never came there: %d (%s)\n' % (log, count, names)
 
 
+def _begun(log, configuration):
+    return 'logs: %s.log has no entry, and others list it: it is taken to have come to %s, and to have failed there\n' % (log, configuration)
+
+
 # Folders by what they show: the arguments, the files, the run that they are joined to, and the messages.
 EARLY_ENDS = {
     'a message that went out after its sender was killed': (
@@ -61,6 +65,16 @@ EARLY_ENDS = {
         _run((SURVIVOR + 'send r8.1 a 4.1#2\n', 'open'), (KILLED, 'failed')), ''),
     'a message that nobody delivers': (
         '--early-ends', {'1.log': WITHOUT, '2.log': KILLED}, _run((WITHOUT, 'open'), (KILLED, 'failed')), ''),
+    'a log without an entry that others list': (
+        '--early-ends', {'1.log': 'conf r4.1 1\nconf t8.1/1 1\nconf r8.1 1 2\nconf t12.1/1 1 2\nconf r12.1 1 2\n', '2.log': ''},
+        _run(('conf r4.1 1\nconf t8.1/1 1\nconf r8.1 1 2\nconf t12.1/1 1 2\nconf r12.1 1 2\n', 'open'), ('conf r8.1 1 2\nfail r8.1\n', 'failed')),
+        _begun(2, 'r8.1')),
+    'a log without an entry, and two that list it in another order': (
+        '--early-ends', {'1.log': 'conf r12.1 1 2\n', '2.log': '', '3.log': 'conf r8.3 2 3\nconf t12.1/3 3\nconf r12.1 1 2\n'},
+        _run(('conf r12.1 1 2\n', 'open'), ('conf r8.3 2 3\nfail r8.3\n', 'failed'), ('conf r8.3 2 3\nconf t12.1/3 3\nconf r12.1 1 2\n', 'open')),
+        _begun(2, 'r8.3')),
+    'a log without an entry that nobody lists': (
+        '--early-ends', {'1.log': 'conf r4.1 1\n', '2.log': ''}, _run(('conf r4.1 1\n', 'open')), 'logs: 2.log has no entry, and is left out\n'),
     'another life that came there': (
         '--early-ends', {'1.1.log': LIVED, '2.1.log': KILLED.replace('1 2', '1:1 2:1'), '2.2.log': 'conf r8.1 1:1 2:2\n'},
         'totem-run 2\nlog 1:1\n%sopen\nlog 2:1\n%sfailed\nlog 2:2\nconf r8.1 1:1 2:2\nopen\nend\n' % (LIVED, KILLED.replace('1 2', '1:1 2:1')), ''),

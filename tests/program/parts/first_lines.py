@@ -50,11 +50,11 @@ FIRST_LINES = {
         '--as-written --own-sends', _both(FIRST + ' sends=taken', FIRST + ' transitional=untold'), AS_SENT, LEFT_OUT % 2 + MOVED),
     'a log without an entry': (
         '', {**_both(*[FIRST + ' sends=taken'] * 2), '3.log': FIRST + ' sends=ordered\n'}, AS_SENT,
-        LEFT_OUT % 3 + 'logs: 3.log has no entry, and is left out\n' + FOLLOWED % '--own-sends' + MOVED),
+        LEFT_OUT % 3 + FOLLOWED % '--own-sends' + 'logs: 3.log has no entry, and is left out\n' + MOVED),
     'a first line that was cut off': (
         '', {**_both(*[FIRST + ' sends=taken'] * 2), '3.log': FIRST + ' sends=or'}, AS_SENT,
-        'logs: 3.log: the last line was cut off, and is left out\n' + LEFT_OUT % 2 + 'logs: 3.log has no entry, and is left out\n'
-        + FOLLOWED % '--own-sends' + MOVED),
+        'logs: 3.log: the last line was cut off, and is left out\n' + LEFT_OUT % 2 + FOLLOWED % '--own-sends'
+        + 'logs: 3.log has no entry, and is left out\n' + MOVED),
     'a line that is not the first one': (
         '', {'1.log': '\n%s sends=taken\n%s' % (FIRST, TAKEN), '2.log': '#\n%s sends=none\n%s' % (FIRST, OTHER)}, AS_TAKEN, LEFT_OUT % 4),
     'lines that only look so': (

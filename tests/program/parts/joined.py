@@ -244,9 +244,25 @@ def try_too_long(_program):
     """A log of 1,000,001 entries is refused, and so is one of 1,000,000 that is to get a failure after them."""
     for count, words in ((1000001, ''), (1000000, '--failed 1')):
         came = join_files(words, {'1.log': 'conf r4.1 1\n' + 'dlv r4.1 4.1#1\n' * (count - 1)})
-        if (came.status, came.output) != (1, b'') or b'--cut makes several runs' not in came.errors:
+        if (came.status, came.output) != (1, b'') or b'1.log has 1000001 entries, ' not in came.errors or b'--cut makes several runs' not in came.errors:
             return 'came: %s' % came
     return None
+
+
+def try_no_file(make, _program):
+    """What is called like a log and is no file is refused, and not read."""
+    with tempfile.TemporaryDirectory() as folder:
+        make(os.path.join(folder, '1.log'))
+        came = join((), folder)
+    return None if came == process.Answer(1, b'', b'logs: 1.log is not a file\n') else 'came: %s' % came
+
+
+def try_full_map(_program):
+    """If the map can't be written after the run, the status says so, and the message does not blame the logs."""
+    came = join(('--map', '/dev/full'), os.path.join(EXAMPLES, 'own-logs'))
+    is_right = (came.status, came.output) == (4, OWN_LOGS) and \
+        came.errors.endswith(b'logs: /dev/full: No space left on device: the run is written, and its map is not\n')
+    return None if is_right else 'came: %s' % came
 
 
 def try_words(words, _program):
@@ -323,6 +339,9 @@ def joined():
     for what, (words, files, said) in {**REFUSED, **NAMES}.items():
         yield what, partial(try_refused, words, files, said)
     yield 'logs that are too long', try_too_long
+    for what, make in (('a pipe', os.mkfifo), ('a device', partial(os.symlink, '/dev/zero')), ('a folder', os.mkdir)):
+        yield '%s that is called like a log' % what, partial(try_no_file, make)
+    yield 'a map on a full device', try_full_map
     for words in ('--nothing', '--fail 1', '--clock times', '--member r4.1=1:1', '--absent 2:1', '--own-order-unknown', '--late-sends',
                   '--table table', '--entries 5', '--cut /', '--cut /no/such/folder --entries 1', '--cut=', '--lives --clock=', '--changes=',
                   '--renumber --table one --changes ./one', '--lives --clock one --changes ./one',
