@@ -6,6 +6,7 @@ from typing import NamedTuple, Optional
 
 FORMS = {name: re.compile(form) for name, form in {
     'line': r'(\S+\.log), line (\d+): left out: (.*)',
+    'afterwards': r'(\S+\.log), line (\d+): left out of all logs: (.*)',
     'trimmed': r'(\S+\.log), after line (\d+): left out',
     'log': r'(\S+\.log): left out',
     'moved': r'(\S+\.log), line (\d+): moved to just before line (\d+), as (send \S+ [as] \S+): (.*)',
@@ -14,15 +15,15 @@ FORMS = {name: re.compile(form) for name, form in {
     'earlier': r'(\S+\.log), line (\d+): moved to just before line (\d+): (.*)',
     'inserted earlier': r'(\S+\.log), added before line (\d+): moved to just before line (\d+): (conf t\S+ .*)',
     'later': r'(\S+\.log), line (\d+): (dlv t\S+ \S+) in place of (dlv r\S+ \S+)',
-    'added': r'(\S+\.log), end: (fail \S+|send \S+ a \S+) is added',
+    'added': r'(\S+\.log), end: (fail \S+|conf r\S+ .*|send \S+ a \S+) is added',
     'added no more': r'(\S+\.log), end: left out: (fail \S+|send \S+ a \S+)',
     'ending': r'(\S+\.log), end: (open|failed|quiet) in place of (open|failed|quiet)',
     'member': r'([rt]\S+): member (\d+) is (\d+):(\d+)',
     'process': r'process (\d+) becomes (\d+)',
     'ring': r'ring number (\d+) becomes (\d+)',
 }.items()}
-# In which order the tool changes a log: what comes first in its file, what it adds and leaves out; then changes that go to earlier places; then
-# sends.
+# In which order the tool changes a log: what comes first in its file, what it adds and leaves out; then what went out after the end of its
+# sender; then changes that go to earlier places; then sends.
 EARLIER, SENDS = ('earlier', 'inserted earlier', 'later'), ('moved', 'moved to the end', 'line')
 
 
@@ -51,6 +52,7 @@ class File:
     # What the log has after the changes so far; what it had at first, before changes went to earlier places, and before sends moved.
     now: list = field(default_factory=list)
     first: list = field(default_factory=list)
+    before_ends: Optional[list] = None
     before_earlier: Optional[list] = None
     before_sends: Optional[list] = None
     gone: set = field(default_factory=set)
@@ -88,6 +90,8 @@ class File:
 
     def keep_copies(self, kind):
         """Keeps what the log has before the first change of a later kind."""
+        if kind in ('afterwards', *EARLIER, *SENDS) and self.before_ends is None:
+            self.before_ends = list(self.now)
         if kind in EARLIER + SENDS and self.before_earlier is None:
             self.before_earlier = list(self.now)
         if kind in SENDS and self.before_sends is None:
@@ -181,6 +185,10 @@ class Applied:
             file.keep_copies('line')
         self._remove(name, number, text)
         file.gone.add(int(number))
+
+    def _take_afterwards(self, name, number, text):
+        self._file(name).keep_copies('afterwards')
+        self._remove(name, number, text)
 
     def _take_trimmed(self, name, number):
         file = self._file(name)

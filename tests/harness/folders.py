@@ -53,6 +53,8 @@ class Recording:
             recorders.tell_late(self)
         if self.chance(45):
             self.record_sends()
+        if self.chance(15):
+            recorders.end_early(self)
         if self.chance(20):
             self.cut_tails()
         lost = [self.logs.pop(draw.randrange(len(self.logs)))] if self.chance(12) and len(self.logs) > 1 else []

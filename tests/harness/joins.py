@@ -194,6 +194,8 @@ class Case:
             yield from told.Lives(applied, self.words, self.folder.files.get('times', '')).wrongs()
         if '--transitional' in words:
             yield from told.transitional(applied)
+        if '--early-ends' in words:
+            yield from recorded.Ended(applied).wrongs()
         if '--late-changes' in words:
             yield from recorded.late_changes(applied)
         yield from told.trims(applied)

@@ -1,12 +1,13 @@
-"""What `tools/logs join` promises of first lines, of changes that are told late and of torn ends, worked out by loops of its own over the logs of a
-folder."""
+"""What `tools/logs join` promises of first lines, of changes that are told late, of logs that end early and of torn ends, worked out by loops of its own
+over the logs of a folder."""
 from harness.lines import configuration_of, entries_of, is_send, message_of
 from harness.recordings import is_regular
 
 # The options that first lines ask for, and those that take their place.
 ASKED = {'sends': {'ordered': '', 'delivered': '', 'taken': '--own-sends'},
+         'ends': {'told': '', 'early': '--early-ends'},
          'transitional': {'told': '', 'late': '--late-changes', 'untold': '--transitional'}}
-INSTEAD = {'sends': {'--own-sends'}, 'transitional': {'--transitional', '--late-changes'}}
+INSTEAD = {'sends': {'--own-sends'}, 'ends': {'--early-ends'}, 'transitional': {'--transitional', '--late-changes'}}
 
 
 def asked_by(firsts, with_entries, words):
@@ -111,6 +112,69 @@ def _parted(stay, late):
     rest = stay.lines[first:]
     moved = [line._replace(text='dlv %s %s' % (stay.goes_to(), message_of(line.text))) for line in rest if line.text.startswith(begin)]
     return [*stay.lines[:first], *(line for line in rest if not line.text.startswith(begin)), stay.next.change, *moved]
+
+
+class Ended:
+    """The messages that are left out since they went out after the end of their sender, and the logs that begin where others list them."""
+
+    def __init__(self, applied):
+        self.applied = applied
+        self.logs = {file.name: file for file in applied.logs()}
+        self.stays = {name: stays_of(file, file.before_ends) for name, file in self.logs.items()}
+
+    def _lists(self, stay, file):
+        """Whether the change of a stay lists the process, or the life, of a file."""
+        for word in stay.change.text.split(' ')[2:]:
+            process, _, life = word.partition(':')
+            if int(process) == file.process:
+                if not self.applied.adds_lives:
+                    return (int(life) if life else None) == file.life
+                own = stay.file.life if stay.file.process == file.process else self.applied.lives[stay.name, process]
+                return int(own or 1) == (file.life or 1)
+        return False
+
+    def _places(self, message):
+        """The stays in regular configurations from which a message is delivered; None for one that is in no such stay."""
+        for of_log in self.stays.values():
+            for before, stay in zip([None, *of_log], of_log):
+                if any(line.text.startswith('dlv ') and message_of(line.text) == message for line in stay.lines):
+                    there = stay if is_regular(stay.name or 't') else before
+                    yield there if there and is_regular(there.name or 't') else None
+
+    def _is_gone(self, message, senders):
+        """Whether a message has to be left out."""
+        places = list(self._places(message))
+        if len(senders) != 1 or not places or None in places:
+            return False
+        file = self.logs[senders[0]]
+        own = {stay.name for stay in self.stays[file.name]}
+        return file.ending != 'quiet' and all(
+            stay.file is not file and stay.name not in own and self._lists(stay, file) for stay in places)
+
+    def wrongs(self):
+        """What is wrong with the logs."""
+        sends = {}
+        for name, file in self.logs.items():
+            for text in [*(line.text for line in file.before_ends), *file.ever_added]:
+                if is_send(text):
+                    sends.setdefault(message_of(text), []).append(name)
+        gone = {message for message, senders in sends.items() if self._is_gone(message, senders)}
+        for name, file in self.logs.items():
+            wanted = [line for line in file.before_ends if not line.text.startswith(('send ', 'dlv ')) or message_of(line.text) not in gone]
+            if file.before_earlier != wanted:
+                yield '%s: without what went out after the end of its sender it is %r, and should be %r' % (name, file.before_earlier, wanted)
+        for file in self.applied.files.values():
+            yield from self._silent(file) if not entries_of(file) else ()
+
+    def _silent(self, file):
+        """What is wrong with a log without an entry."""
+        ways = [[stay for stay in of_log if is_regular(stay.name or 't') and self._lists(stay, file)] for of_log in self.stays.values()]
+        firsts = {way[0].name: way[0].change.text for way in ways if way}
+        later = {stay.name for way in ways for stay in way[1:]}
+        may_be = {name for name in firsts if name not in later} or set(firsts)
+        begun = [[text, 'fail %s' % name] for name, text in firsts.items() if name in may_be]
+        if not begun and not file.is_left_out or begun and (file.is_left_out or file.ever_added not in begun):
+            yield '%s has no entry, and gets %r, and should get one of %r' % (file.name, file.ever_added, begun)
 
 
 class Torn:

@@ -1,5 +1,5 @@
-"""What recorders do that folders.py does not: they tell of transitional configurations late, lose their ends with the power, and say in a first line
-how they record."""
+"""What recorders do that folders.py does not: they tell of transitional configurations late, are killed while the layer goes on, lose their ends with the
+power, and say in a first line how they record."""
 from harness.recordings import Entry, is_regular, line_of
 
 FIRST = '# totem-log 1'
@@ -41,6 +41,37 @@ def tell_late(recording):
         recording.words.append('--late-changes')
 
 
+def end_early(recording):
+    """Processes are killed while the layer goes on: what they had handed over goes out where they never come."""
+    for log in [log for log in recording.logs if log.ending != 'quiet']:
+        own = {entry.configuration for entry in log.entries}
+        listing = sorted({entry.configuration for other in recording.logs for entry in other.entries
+                          if entry.word == 'conf' and is_regular(entry.configuration) and log.who in entry.members} - own)
+        if listing and own and recording.chance(80):
+            _go_on(recording, log, recording.draw.choice(listing), max(own))
+    for log in recording.logs:
+        if recording.chance(10):
+            log.entries = []
+    if recording.chance(90):
+        recording.words.append('--early-ends')
+
+
+def _go_on(recording, log, there, last):
+    """Messages of a log are delivered in a configuration to which it never came; or one of them elsewhere, too."""
+    for number in range(recording.draw.choice((1, 1, 2))):
+        message = '%s#%d' % (last.lstrip('rt').partition('/')[0], 900 + 10 * log.process + number)
+        at = next((at for at, entry in enumerate(log.entries) if entry.word == 'fail'), len(log.entries))
+        configurations = [entry.configuration for entry in log.entries[:at] if entry.word == 'conf' and is_regular(entry.configuration)]
+        if not configurations:
+            return
+        log.entries.insert(at, Entry('send', configurations[-1], service='a', message=message))
+        for other in recording.logs:
+            place = next((at for at, entry in enumerate(other.entries) if (entry.word, entry.configuration) == ('conf', there)), None)
+            if place is not None:
+                where = there if recording.chance(95) else recording.draw.choice(sorted({entry.configuration for entry in other.entries}))
+                other.entries.insert(place + 1 + number, Entry('dlv', where, message=message))
+
+
 def name_by_senders(recording):
     """Messages are named by their senders' places, as names in the payload are."""
     places = {entry.message: place for place, log in enumerate(recording.logs, 1) for entry in log.entries if entry.word == 'send'}
@@ -80,17 +111,18 @@ def say_first(recording):
     sends = 'taken' if '--own-sends' in words else draw.choice(('ordered', 'delivered', '', '', 'taken'))
     changes = 'untold' if '--transitional' in words else 'late' if '--late-changes' in words else \
         draw.choice(('told', 'told', '', '', 'late', 'untold'))
+    ends = 'early' if '--early-ends' in words else draw.choice(('told', '', '', '', 'early'))
     needed = {'--own-sends'} if {'--own-order-unknown', '--late-sends'} & {word for word in words if isinstance(word, str)} else set()
-    for option in ('--own-sends', '--transitional', '--late-changes'):
+    for option in ('--own-sends', '--early-ends', '--transitional', '--late-changes'):
         if option in words and option not in needed and recording.chance(70):
             words.remove(option)
     if recording.chance(10):
         words.append('--as-written')
     lines = {}
     for log in recording.logs:
-        said = ['sends=' + sends if sends else '', 'transitional=' + changes if changes else '', draw.choice(OTHERS)]
+        said = ['sends=' + sends if sends else '', 'transitional=' + changes if changes else '', 'ends=' + ends if ends else '', draw.choice(OTHERS)]
         if recording.chance(4):
-            said[draw.randrange(2)] = draw.choice(('', 'sends=ordered', 'transitional=told')) if len(set(said)) > 2 else ''
+            said[draw.randrange(3)] = draw.choice(('', 'sends=ordered', 'transitional=told', 'ends=told')) if len(set(said)) > 2 else ''
         draw.shuffle(said)
         lines[log.who] = draw.choice(WRONG) if recording.chance(2) else '' if recording.chance(2) else ' '.join([FIRST, *filter(None, said)])
     return lines

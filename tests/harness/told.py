@@ -9,7 +9,7 @@ from harness.recordings import is_regular
 # Which kinds of changes an option allows; without an option only a last line that is cut off is left out, and a log without an entry.
 ALLOWED = {'moved': '--own-sends', 'moved to the end': '--own-sends', 'line': '--own-sends', 'trimmed': '--trim', 'inserted': '--transitional',
            'earlier': '--late-changes', 'inserted earlier': '--late-changes', 'later': '--late-changes', 'added no more': '--trim',
-           'member': '--lives', 'process': '--renumber', 'ring': '--renumber'}
+           'afterwards': '--early-ends', 'member': '--lives', 'process': '--renumber', 'ring': '--renumber'}
 
 
 def is_torn_line(applied, found):
@@ -48,6 +48,8 @@ def endings_not_asked_for(applied, words):
         names = {str(file.process), '%d:%d' % (file.process, file.life or 1)}
         is_said = {'failed': names & failed, 'quiet': names & quiet or 'all' in quiet, 'open': '--trim' in words}
         changes = changes_of(entries_of(file))
+        if '--early-ends' in words and not entries_of(file):
+            continue
         if kind == 'added':
             wanted = 'fail ' + changes[-1] if found[2].startswith('fail ') else 'send %s a %s' % (changes[-1], message_of(found[2]))
             if not names & (failed if found[2].startswith('fail ') else torn) or found[2] != wanted:
@@ -75,6 +77,8 @@ def untold(applied, errors):
             if has_line(errors, found[1] + ': sends that are added', message_of(found[2])):
                 continue
             parts = [found[1], 'sends that are added', '..']
+        elif kind == 'added' and not entries_of(applied.files[found[1]]):
+            parts = [found[1] + ' has no entry', 'it is taken to have come to %s,' % found[2].split(' ')[1], 'to have failed there']
         elif kind in ('added', 'added no more'):
             parts = [found[1], found[2]]
         elif kind in ('inserted earlier', 'later') or kind == 'earlier' and found[4].startswith('conf '):
@@ -88,7 +92,7 @@ def untold(applied, errors):
         else:
             parts = [found[1], 'moved' if kind.startswith('moved') else 'left out']
         names = []
-        if kind == 'line' and not is_torn_line(applied, found) or kind.startswith('moved'):
+        if kind == 'afterwards' or kind == 'line' and not is_torn_line(applied, found) or kind.startswith('moved'):
             names = [message_of(found[found.re.groups])]
         if not has_line(errors, *parts, *names) and not shortens(errors, *parts):
             yield 'not told on standard error: %s' % found[0]

@@ -17,9 +17,18 @@ def _name_in(line):
     return line[line.rfind(b' ') + 1:] if line.startswith((b'send ', b'dlv ')) else None
 
 
-def _lists(change, log):
-    """Whether a change lists the process of a log."""
-    return any(process == log.process and life in (None, log.life) for process, life in change.members)
+class Members:
+    """Whom changes list. `life_of(log, configuration, process)` is the life of a member that is written without one."""
+
+    def __init__(self, life_of):
+        self.life_of = life_of
+
+    def lists(self, log, change, process):
+        """Whether a change of a log lists the process, or its life, of another log."""
+        for number, life in change.members:
+            if number == process.process:
+                return (self.life_of(log, change.configuration, number) if life is None else life) == process.life
+        return False
 
 
 def _lines(log):
@@ -31,7 +40,8 @@ def _lines(log):
 class Afterwards:
     """The messages that were sent after their sender's log had ended, each with this log."""
 
-    def __init__(self, logs):
+    def __init__(self, logs, members):
+        self.members = members
         self.senders = self._waiting(logs)
         self.delivered = set()
         for log in logs if self.senders else ():
@@ -65,13 +75,12 @@ class Afterwards:
                     if not self._is_afterwards(self.senders[name], log, regular_at(of_log, segment)):
                         del self.senders[name]
 
-    @staticmethod
-    def _is_afterwards(sender, log, place):
+    def _is_afterwards(self, sender, log, place):
         """Whether a log lists the sender in the configuration at this place, and the sender never came there."""
         if not place:
             return False
         change = log.changes[place - 1]
-        return _lists(change, sender) and all(own.configuration != change.configuration for own in sender.changes)
+        return self.members.lists(log, change, sender) and all(own.configuration != change.configuration for own in sender.changes)
 
 
 def _found(log, senders):
@@ -112,7 +121,7 @@ def _without(log, senders, working, scan_words, changes):
     Scan(is_known=True, **scan_words).read(new)
     new.ending = log.ending
     for entry, line in gone:
-        changes.add('%s, line %d: left out: %s' % (log.name, log.line_of(entry), line.decode()))
+        changes.add('%s, line %d: left out of all logs: %s' % (log.name, log.line_of(entry), line.decode()))
     _tell(log, [_name_in(line) for _, line in gone], senders)
     return new
 
@@ -127,47 +136,41 @@ def _tell(log, gone, senders):
         tell('%s: deliveries that are left out, of messages whose senders never came there: %d (%s)' % (log.name, len(others), some(others)))
 
 
-def leave_out(logs, working, scan_words, changes):
+def leave_out(logs, members, working, scan_words, changes):
     """Leaves out of all logs the messages that were sent after their sender's log had ended. Returns all logs as they are now."""
-    senders = Afterwards(logs).senders
+    senders = Afterwards(logs, members).senders
     if not senders:
         return logs
     return [_without(log, senders, working, scan_words, changes) for log in logs]
 
 
-def _first_of(log, logs):
+def _first_of(log, logs, members):
     """The first change to a regular configuration that lists a process, by the logs of others; None if there is none."""
-    ways = [[change for change in other.changes if change.configuration.startswith(b'r') and _lists(change, log)] for other in logs]
+    ways = [[change for change in other.changes if change.configuration.startswith(b'r') and members.lists(other, change, log)] for other in logs]
     firsts = {way[0].configuration: way[0] for way in ways if way}
     later = {change.configuration for way in ways for change in way[1:]}
     return next((change for name, change in firsts.items() if name not in later), next(iter(firsts.values()), None))
 
 
-def _begun(log, change, working, scan_words, changes):
-    """A log that had no entry, with a change and the failure there."""
-    members = b' '.join(b'%d' % process if life is None else b'%d:%d' % (process, life) for process, life in change.members)
-    lines = [b'conf %s %s\n' % (change.configuration, members), b'fail %s\n' % change.configuration]
-    path, numbers = os.path.join(working, log.name + '.begun'), LineNumbers()
-    with open(path, 'wb') as out:
-        out.writelines(lines)
-        size = out.tell()
-    for entry, line in enumerate(lines, 1):
-        numbers.insert(entry, log.line_of(1))
-        changes.add('%s, end: %s is added' % (log.name, line[:-1].decode()))
-    new = Log(log.name, path, log.process, log.life, size=size, file=log.file, lines=numbers)
-    Scan(is_known=True, **scan_words).read(new)
-    changes.add('%s, end: failed in place of %s' % (log.name, log.ending))
+def _begun(log, change, changes):
+    """Lets a log that has no entry get a change and the failure there."""
+    listed = b' '.join(b'%d' % process if life is None else b'%d:%d' % (process, life) for process, life in change.members)
+    lines = [b'conf %s %s' % (change.configuration, listed), b'fail %s' % change.configuration]
+    log.last, log.added = change.configuration, b''.join(line + b'\n' for line in lines)
+    for line in lines:
+        changes.add('%s, end: %s is added' % (log.name, line.decode()))
+    log.end_as('failed', changes)
     tell('%s has no entry, and others list it: it is taken to have come to %s, and to have failed there' % (log.name, change.configuration.decode()))
-    return new
 
 
-def begin(silent, listed, logs, working, scan_words, changes):
+def begin(silent, logs, members, changes):
     """Lets logs without an entry begin where others list them first, and leaves out those that nobody lists. Returns all logs as they are now."""
     begun = []
     for log in silent:
-        change = _first_of(log, logs) if (log.process, log.life) in listed else None
+        change = _first_of(log, logs, members)
         if change:
-            begun.append(_begun(log, change, working, scan_words, changes))
+            _begun(log, change, changes)
+            begun.append(log)
         else:
             leave_silent_out([log], changes)
     return sorted([*logs, *begun], key=lambda log: (log.process, log.life or 1))

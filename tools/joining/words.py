@@ -47,10 +47,11 @@ class Joining:
             self.lives.write(self.changes)
         listed = self.lives.listed() if self.lives else scan.listed
         if asked.early_ends:
-            self.logs = early_ends.begin(silent, listed, self.logs, working, words, self.changes)
+            members = early_ends.Members(self.life_of)
+            self.logs = early_ends.begin(silent, self.logs, members, self.changes)
         self._tell_missing(listed)
         if asked.early_ends:
-            self.logs = early_ends.leave_out(self.logs, working, words, self.changes)
+            self.logs = early_ends.leave_out(self.logs, members, working, words, self.changes)
         if asked.late_changes:
             self.logs = begin_earlier(self.logs, working, words, self.changes)
         if asked.own_sends:
