@@ -118,6 +118,10 @@ class File:
         """The lines that come out."""
         return self.kept() + self.added
 
+    def with_inserted(self):
+        """The lines of the file, with the changes that are added to them."""
+        return [line.text for line in self.before_earlier]
+
     def left_behind(self):
         """The lines that come after the last one that is kept, or are moved there."""
         return [line.text for line in self.now[self._count():]]

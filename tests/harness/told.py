@@ -61,7 +61,7 @@ def endings_not_asked_for(applied, words):
 def untold(applied, errors):
     """Changes of which standard error has no line: the file and what happened to it, for a send also the message, unless the line says that
     there are more than it lists."""
-    came = {(name, file.process) for file in applied.files.values() for name in changes_of(entries_of(file))}
+    came = {(name, file.process) for file in applied.files.values() for name in changes_of(file.with_inserted())}
     for kind, found in applied.changes:
         if kind in ('process', 'ring'):
             parts = ['becomes %s' % found[2], ' %s ' % found[1]]
@@ -154,7 +154,7 @@ class Lives:
     def _see(self, file):
         who = file.process, file.life or 1
         self._high(*who)
-        lines = [line for line in entries_of(file) if line.startswith('conf ')]
+        lines = [line for line in file.with_inserted() if line.startswith('conf ')]
         names = changes_of(lines)
         for line, name in zip(lines, names):
             self.came.setdefault((name, who[0]), set()).add(who[1])
