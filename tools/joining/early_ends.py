@@ -4,11 +4,10 @@ configuration that lists it, its log, which has no entry, gets this one, and fai
 import os
 from collections import Counter
 
+from joining import scan
 from joining.accounts import pieces, regular_at, segments
 from joining.folder import Log, blocks
 from joining.line_numbers import LineNumbers
-from joining.scan import Scan
-from joining.scan import leave_out as leave_silent_out
 from joining.trouble import some, tell
 
 
@@ -118,7 +117,7 @@ def _without(log, senders, working, scan_words, changes):
     path = os.path.join(working, log.name + '.ended')
     new = Log(log.name, path, log.process, log.life, size=_write(log, gone, path), added=log.added, file=log.file,
               lines=_line_numbers(log, gone), times=log.times)
-    Scan(is_known=True, **scan_words).read(new)
+    scan.Scan(is_known=True, **scan_words).read(new)
     new.ending = log.ending
     for entry, line in gone:
         changes.add('%s, line %d: left out of all logs: %s' % (log.name, log.line_of(entry), line.decode()))
@@ -172,5 +171,5 @@ def begin(silent, logs, members, changes):
             _begun(log, change, changes)
             begun.append(log)
         else:
-            leave_silent_out([log], changes)
+            scan.leave_out([log], changes)
     return sorted([*logs, *begun], key=lambda log: (log.process, log.life or 1))
