@@ -296,7 +296,7 @@ class Applied:
 
     def old_names(self):
         """The names that the files have, by those in the run."""
-        words = {word for file in self.files.values() for line in file.lines for word in line.split(' ')[1:] if '.' in word}
+        words = {word for file in self.files.values() for line in file.with_inserted() for word in line.split(' ')[1:] if '.' in word}
         return {self._name(word): word for word in words}
 
     def _line(self, file, line, has_lives):
