@@ -428,7 +428,7 @@ def of_all_tools():
         yield 'help of %s with a closed output' % what, partial(help_nowhere, tool, words, None)
         yield 'help of %s that nobody reads' % what, partial(help_to_nobody, tool, words)
     for numbers in ((signal.SIGINT,), (signal.SIGINT, signal.SIGTERM, signal.SIGINT)):
-        for words, name in ((['join', 'FOLDER'], '1.log'), (['join', '--lives', '--clock', 'FOLDER/times', os.path.join(EXAMPLES, 'logs', 'lives')], 'times'),
+        for words, name in ((['join', '--lives', '--clock', 'FOLDER/times', os.path.join(EXAMPLES, 'logs', 'lives')], 'times'),
                             (['where', 'FOLDER/map', '1@1'], 'map')):
             what = 'logs %s interrupted while it reads, with the signals %s' % (' '.join(words), ' '.join(str(int(number)) for number in numbers))
             yield what, partial(interrupt_logs, words, name, numbers)
