@@ -166,7 +166,7 @@ class Recording:
     def cut_tails(self):
         """Some logs lose their last lines."""
         for log in self.logs:
-            if self.chance(60):
+            if self.chance(60) or not log.entries:
                 continue
             kept = self.draw.randint(max(0 if self.chance(25) else 1, len(log.entries) - self.draw.choice((1, 2, 4, 9))), len(log.entries))
             gone = log.entries[kept:]

@@ -52,6 +52,7 @@ def end_early(recording):
     for log in recording.logs:
         if recording.chance(10):
             log.entries = []
+            log.close()
     if recording.chance(90):
         recording.words.append('--early-ends')
 
