@@ -45,8 +45,9 @@ def end_early(recording):
     """Processes are killed while the layer goes on: what they had handed over goes out where they never come."""
     for log in [log for log in recording.logs if log.ending != 'quiet']:
         own = {entry.configuration for entry in log.entries}
+        is_any = recording.chance(15)
         listing = sorted({entry.configuration for other in recording.logs for entry in other.entries
-                          if entry.word == 'conf' and is_regular(entry.configuration) and log.who in entry.members} - own)
+                          if entry.word == 'conf' and is_regular(entry.configuration) and (is_any or log.who in entry.members)} - own)
         if listing and own and recording.chance(80):
             _go_on(recording, log, recording.draw.choice(listing), max(own))
     for log in recording.logs:
