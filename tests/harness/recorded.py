@@ -119,7 +119,8 @@ class Ended:
 
     def __init__(self, applied):
         self.applied = applied
-        self.logs = {file.name: file for file in applied.logs()}
+        # (also those that are left out later, by --trim)
+        self.logs = {name: file for name, file in applied.files.items() if entries_of(file)}
         self.stays = {name: stays_of(file, file.before_ends) for name, file in self.logs.items()}
 
     def _lists(self, stay, file):
@@ -173,7 +174,7 @@ class Ended:
         later = {stay.name for way in ways for stay in way[1:]}
         may_be = {name for name in firsts if name not in later} or set(firsts)
         begun = [[text, 'fail %s' % name] for name, text in firsts.items() if name in may_be]
-        if not begun and not file.is_left_out or begun and (file.is_left_out or file.ever_added not in begun):
+        if not begun and not file.is_left_out or begun and file.ever_added not in begun:
             yield '%s has no entry, and gets %r, and should get one of %r' % (file.name, file.ever_added, begun)
 
 
