@@ -21,6 +21,10 @@ import subprocess
 import sys
 import time
 
+sys.path.insert(0, os.path.join(os.path.dirname(os.path.dirname(os.path.abspath(__file__))), "tools"))
+
+from proving.kit import words_for_anew  # noqa: E402  pylint: disable=wrong-import-position
+
 TICKS = os.sysconf("SC_CLK_TCK")
 PROVER = "rattle"
 GATE = ["rt", "ci"]
@@ -143,7 +147,7 @@ def main():
     parser.add_argument("command", nargs="*")
     asked = parser.parse_args()
     signal.signal(signal.SIGTERM, signal.default_int_handler)
-    running = None if asked.watch else subprocess.Popen(asked.command or GATE + ["--anew"] * asked.anew)
+    running = None if asked.watch else subprocess.Popen(asked.command or GATE + (words_for_anew() if asked.anew else []))
     watch, begun = Watch(running.pid if running else None), time.monotonic()
     try:
         while not running or running.poll() is None:

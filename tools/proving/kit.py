@@ -6,6 +6,13 @@ from proving.copies import TOP
 from proving.telling import Unmade
 
 
+def words_for_anew():
+    """The words with which this kit's `rt ci` takes nothing from earlier runs: none, if it never does."""
+    came = subprocess.run(['rt', 'help'], stdin=subprocess.DEVNULL, stdout=subprocess.PIPE, stderr=subprocess.DEVNULL,
+                          encoding='utf-8', errors='replace', check=False)
+    return ['--anew'] * ('--anew' in came.stdout)
+
+
 def kit():
     """What `rt version` prints; raises if that is no kit of this repository's logic. (All kits of this logic prove the same.)"""
     with open(os.path.join(TOP, 'tools', 'proving', 'LOGIC'), encoding='ascii') as it:

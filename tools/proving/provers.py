@@ -174,7 +174,7 @@ def prove(crates, room, progress, log, anew):
     provers = Provers()
     try:
         ahead = None if anew else start_ahead(provers, crates, progress.folder, room)
-        whole = provers.start(progress.folder, *['nice', '-n', '3'] * bool(ahead), 'rt', 'ci', *['--anew'] * anew)
+        whole = provers.start(progress.folder, *['nice', '-n', '3'] * bool(ahead), 'rt', 'ci', *(words_for_anew() if anew else ()))
         told, refused = follow(provers, whole, ahead, progress, log)
         if not refused:
             os.waitid(os.P_PID, whole.pid, os.WEXITED | os.WNOWAIT)

@@ -33,7 +33,7 @@ Ctrl-C, 64 for a usage error."""
 # The status of a life after which another one begins.
 AGAIN = 75
 # How long a life that was asked to end may take before it is killed: a call of the library can wait for the daemon for ever.
-SECONDS_TO_LEAVE, SECONDS_TO_STOP = 15, 3
+MOST_SECONDS_TO_LEAVE, MOST_SECONDS_TO_STOP = 15, 3
 
 
 def _group(word):
@@ -62,7 +62,8 @@ def read_words(words):
                    formatter_class=argparse.RawDescriptionHelpFormatter)
     parser.add_argument('--logs', metavar='FOLDER', required=True, help='where the logs are written; it is made if it is not there')
     parser.add_argument('--group', type=_group, default='totem-record', metavar='NAME', help='the group, the same on all nodes (totem-record)')
-    parser.add_argument('--rate', type=_number(.01, 1000, float), default=5, metavar='N', help='messages a second (5); three nodes took 2 %%, 6 %% and 12 %% of a core for each daemon at 2, 5 and 20')
+    parser.add_argument('--rate', type=_number(.01, 1000, float), default=5, metavar='N',
+                        help='messages a second (5); at 2, 5 and 20 each of three daemons took 2 %%, 6 %% and 12 %% of a core')
     parser.add_argument('--size', type=_number(64, 1000000, int), default=100, metavar='BYTES', help='how long a message is (100)')
     parser.add_argument('--for', type=_number(.1, 10000000, float), dest='seconds', metavar='SECONDS',
                         help='end the recording of all nodes after this time')
@@ -108,12 +109,12 @@ class Recorder:
         self.interrupts += 1
         self._hand_on(signal.SIGUSR1)
         if self.interrupts == 2:
-            signal.alarm(SECONDS_TO_STOP)
+            signal.alarm(MOST_SECONDS_TO_STOP)
 
     def _leave(self, *_):
         self.is_leaving = True
         self._hand_on(signal.SIGTERM)
-        signal.alarm(SECONDS_TO_LEAVE)
+        signal.alarm(MOST_SECONDS_TO_LEAVE)
 
     def _give_up(self, *_):
         self.is_killed = True

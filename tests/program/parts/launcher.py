@@ -87,6 +87,14 @@ def build_anew(_program):
         return wrong or (it.told('calls') != ['version', 'ci --anew', 'version'] and 'rt was called so: %r' % it.told('calls'))
 
 
+def build_anew_without_words(_program):
+    """A kit whose `rt ci` takes no words gets none."""
+    with scene() as it:
+        it.say(wordless='')
+        wrong = differs(it.run('prove', TOTEM_ANEW='1'), 0, '', '3 of 3 proved')
+        return wrong or (it.told('calls') != ['version', 'ci', 'version'] and 'rt was called so: %r' % it.told('calls'))
+
+
 def build_refused(_program):
     """A crate that is not proved ends it at once, with the last lines, and no program answers, old or new."""
     with scene() as it:
@@ -255,6 +263,7 @@ def launcher():
         yield 'the whole program: ' + ' '.join(words), partial(build_auditor, words, False)
     yield 'a build after a change', build_after_change
     yield 'a build that takes nothing', build_anew
+    yield 'a build that takes nothing, by a kit that takes no words', build_anew_without_words
     yield 'a crate that is not proved', build_refused
     yield 'no program', build_none
     yield 'an interrupt', build_interrupted
