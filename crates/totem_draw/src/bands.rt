@@ -1,8 +1,9 @@
 //! The bands of configurations, and the names of processes before them.
-use crate::frame::Frame;
-use crate::shapes::{COLOUR_COUNT, Point, push_band, push_label, push_words};
+use crate::colours::Colours;
+use crate::frame::{Frame, MARGIN};
+use crate::shapes::{Point, push_band, push_label, push_textures, push_words};
 use std::alloc::{AllocError, Global};
-use totem_evs::Ending;
+use totem_evs::{Ending, Run};
 use totem_explain::Lane;
 use totem_names::{ConfId, Proc, Version};
 
@@ -14,86 +15,51 @@ pub struct Band {
     pub to: u32,
 }
 
-/// The bands of a lane, in order, with its process and how its log ends.
+/// The bands of a lane, in order, with its process, how its log ends, and how many deliveries are pending there.
 #[derive(Drop)]
 pub struct Row {
     pub proc: Proc,
     pub ending: Ending,
+    pub pending: usize,
     pub bands: Vec<Band>,
 }
 
-/// A configuration and the number of its colour.
-#[derive(Clone, Copy)]
-struct Coloured {
-    conf: ConfId,
-    colour: usize,
-}
-
-/// Returns the number of the colour of a configuration, if it has one.
-fn colour_of(known: &[Coloured], conf: &ConfId) -> Option<usize> {
-    let found = known.iter().find(|one| one.conf.is(conf))?;
-    Some(found.colour)
-}
-
-/// Returns whether a band of one of the lanes has this colour and is next to a band of the configuration.
-fn is_beside(rows: &[Row], known: &[Coloured], conf: &ConfId, colour: usize) -> bool {
-    rows.iter().any(|row| {
-        let mut pairs = row.bands.iter().zip(row.bands.iter().skip(1));
-        pairs.any(|(one, next)| {
-            (one.conf.is(conf) && colour_of(known, &next.conf) == Some(colour))
-                || (next.conf.is(conf) && colour_of(known, &one.conf) == Some(colour))
+impl Band {
+    /// Returns the part of the band that is drawn in a frame, if any.
+    fn within(&self, frame: &Frame) -> Option<Band> {
+        if self.to < frame.first || frame.end() <= self.from {
+            return None;
+        }
+        Some(Band {
+            conf: self.conf,
+            from: self.from.max(frame.first),
+            to: self.to.min(frame.end().saturating_sub(1)),
         })
-    })
-}
-
-/// Returns a colour for a configuration that no band next to it has, as long as there is one. Regular configurations begin with the even
-/// ones and transitional ones with the odd ones, since the two alternate.
-fn new_colour(rows: &[Row], known: &[Coloured], conf: &ConfId) -> usize {
-    let first = match conf {
-        ConfId::Regular(_) => known.len().saturating_mul(2),
-        ConfId::Transitional { .. } => known.len().saturating_mul(2).saturating_add(1),
-    };
-    for step in [0usize, 2, 4, 1, 3, 5] {
-        let colour = first.saturating_add(step) % COLOUR_COUNT;
-        if !is_beside(rows, known, conf, colour) {
-            return colour;
-        }
     }
-    first % COLOUR_COUNT
-}
 
-/// Gives each configuration of the bands a colour.
-fn colours_of(alloc: Global, rows: &[Row]) -> Result<Vec<Coloured>, AllocError> {
-    let mut known: Vec<Coloured> = Vec::new(alloc);
-    for row in rows {
-        for band in &row.bands {
-            if colour_of(known.as_slice(), &band.conf).is_none() {
-                let colour = new_colour(rows, known.as_slice(), &band.conf);
-                known.push(Coloured {
-                    conf: band.conf,
-                    colour,
-                })?;
-            }
-        }
+    /// Returns whether the band begins in a frame.
+    pub fn begins_in(&self, frame: &Frame) -> bool {
+        frame.first <= self.from && self.from < frame.end()
     }
-    Ok(known)
 }
 
-/// Adds a band.
+/// Adds a band with this fill.
 fn push_one(
     text: &mut String,
     frame: &Frame,
     y: u32,
     band: &Band,
-    known: &[Coloured],
+    fill: usize,
 ) -> Result<(), AllocError> {
     let x = frame.x(band.from);
-    let steps = band.to.saturating_sub(band.from).saturating_add(1);
-    let top = y.saturating_sub(14);
-    let width = steps.saturating_mul(frame.step).saturating_sub(4);
+    let at = Point {
+        x,
+        y: y.saturating_sub(14),
+    };
+    let end = frame.x(band.to.saturating_add(1));
+    let width = end.saturating_sub(x).saturating_sub(4);
     let is_transitional = matches!(band.conf, ConfId::Transitional { .. });
-    let colour = colour_of(known, &band.conf).unwrap_or(0);
-    push_band(text, Point { x, y: top }, width, colour, is_transitional)
+    push_band(text, at, width, fill, is_transitional)
 }
 
 /// Adds the name of a band's configuration above it.
@@ -156,7 +122,22 @@ fn ending_name(ending: Ending) -> &'static str {
     }
 }
 
-/// Adds the process of a row with how its log ends.
+/// Returns the name of a process in front of its lane.
+fn name_of(alloc: Global, version: Version, proc: Proc) -> Result<String, AllocError> {
+    let proc = proc.written(version);
+    format!(in alloc; "process {proc}")
+}
+
+/// Returns how many letters the longest name in front of a lane has.
+pub fn most_letters(alloc: Global, run: &Run) -> Result<usize, AllocError> {
+    let mut most = 0usize;
+    for log in run.logs.as_slice() {
+        most = most.max(name_of(alloc, run.version, log.proc)?.len());
+    }
+    Ok(most)
+}
+
+/// Adds the process of a row with how its log ends, and how many deliveries are pending if any are.
 fn push_process(
     alloc: Global,
     text: &mut String,
@@ -164,25 +145,36 @@ fn push_process(
     y: u32,
     row: &Row,
 ) -> Result<(), AllocError> {
-    let proc = row.proc.written(version);
-    let name = format!(in alloc; "process {proc}")?;
-    push_words(text, Point { x: 16, y }, name.as_str())?;
-    let below = y.saturating_add(14);
-    push_words(text, Point { x: 16, y: below }, ending_name(row.ending))
+    let name = name_of(alloc, version, row.proc)?;
+    push_words(text, Point { x: MARGIN, y }, name.as_str())?;
+    let below = Point {
+        x: MARGIN,
+        y: y.saturating_add(14),
+    };
+    push_words(text, below, ending_name(row.ending))?;
+    if row.pending == 0 {
+        return Ok(());
+    }
+    let pending = row.pending;
+    let last = Point {
+        x: MARGIN,
+        y: y.saturating_add(28),
+    };
+    push_words(text, last, format!(in alloc; "{pending} pending")?.as_str())
 }
 
-/// The bands of all lanes, and the colours of their configurations.
+/// The bands of all lanes, and the fills of their configurations.
 #[derive(Drop)]
 pub struct Bands {
     pub rows: Vec<Row>,
-    known: Vec<Coloured>,
+    colours: Colours,
 }
 
 impl Bands {
-    /// Gives the configurations of these rows their colours.
+    /// Gives the configurations of these rows their fills.
     pub fn of(alloc: Global, rows: Vec<Row>) -> Result<Bands, AllocError> {
-        let known = colours_of(alloc, rows.as_slice())?;
-        Ok(Bands { rows, known })
+        let colours = Colours::of(alloc, rows.as_slice())?;
+        Ok(Bands { rows, colours })
     }
 
     /// Returns the bands of these lanes.
@@ -192,14 +184,22 @@ impl Bands {
             rows.push(Row {
                 proc: lane.proc,
                 ending: lane.ending,
+                pending: 0,
                 bands: bands_of(alloc, lane, frame.slots)?,
             })?;
         }
         Bands::of(alloc, rows)
     }
 
-    /// Adds the bands, and the names of processes before them. A configuration has one colour in all lanes, and bands that are next to each
-    /// other have different ones.
+    /// Adds the textures of the bands, if any has one.
+    pub fn push_textures(&self, text: &mut String) -> Result<(), AllocError> {
+        if self.colours.have_textures() {
+            push_textures(text)?;
+        }
+        Ok(())
+    }
+
+    /// Adds the bands, as far as they lie in a frame, and the names of processes before them.
     pub fn push(
         &self,
         alloc: Global,
@@ -207,12 +207,11 @@ impl Bands {
         version: Version,
         frame: &Frame,
     ) -> Result<(), AllocError> {
-        let known = self.known.as_slice();
         for (number, row) in self.rows.iter().enumerate() {
             let y = frame.y(number);
             push_process(alloc, text, version, y, row)?;
-            for band in row.bands.iter() {
-                push_one(text, frame, y, band, known)?;
+            for band in row.bands.iter().filter_map(|band| band.within(frame)) {
+                push_one(text, frame, y, &band, self.colours.fill_of(&band.conf))?;
             }
         }
         Ok(())
@@ -227,8 +226,8 @@ impl Bands {
     ) -> Result<(), AllocError> {
         for (number, row) in self.rows.iter().enumerate() {
             let y = frame.y(number);
-            for band in row.bands.iter() {
-                push_name(alloc, text, frame, y, band)?;
+            for band in row.bands.iter().filter_map(|band| band.within(frame)) {
+                push_name(alloc, text, frame, y, &band)?;
             }
         }
         Ok(())

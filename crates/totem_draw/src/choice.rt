@@ -28,13 +28,13 @@ struct Choice<'a> {
     left: usize,
 }
 
-/// Returns how many entries a run has.
-fn length(run: &Run) -> usize {
+/// Returns whether a run is drawn whole.
+pub fn is_small(run: &Run) -> bool {
     let mut length = 0usize;
     for log in run.logs.as_slice() {
         length = length.saturating_add(log.entries.as_slice().len());
     }
-    length
+    length <= WHOLE
 }
 
 fn add_message(messages: &mut Vec<MsgId>, message: MsgId) -> Result<(), AllocError> {
@@ -105,7 +105,7 @@ impl<'a> Choice<'a> {
 pub fn lanes_of(alloc: Global, subject: &Subject<'_>) -> Result<Vec<Lane>, AllocError> {
     let run = subject.run;
     let mut choice = Choice {
-        is_whole: length(run) <= WHOLE,
+        is_whole: is_small(run),
         places: subject.places,
         absences: subject.absences,
         messages: messages_of(alloc, subject)?,

@@ -10,7 +10,7 @@ use totem_explain::{Gap, Lane, Spot, What, event_at, place_name};
 use totem_names::{MsgId, Place};
 
 /// Adds a name below its event.
-fn push_below(text: &mut String, at: Point, name: &str) -> Result<(), AllocError> {
+pub fn push_below(text: &mut String, at: Point, name: &str) -> Result<(), AllocError> {
     let below = Point {
         x: at.x,
         y: at.y.saturating_add(26),
@@ -39,7 +39,7 @@ fn gap_name(alloc: Global, gap: Gap) -> Result<String, AllocError> {
 }
 
 /// Returns how many letters the name at a spot has.
-fn letters_at(alloc: Global, spot: &Spot) -> Result<usize, AllocError> {
+pub fn letters_at(alloc: Global, spot: &Spot) -> Result<usize, AllocError> {
     match spot.what {
         What::Send(message) | What::Delivery(message) => {
             Ok(format!(in alloc; "{message}")?.len())

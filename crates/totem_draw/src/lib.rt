@@ -9,12 +9,15 @@
 
 mod bands;
 mod choice;
+mod colours;
 mod events;
 mod frame;
+mod legend;
 mod lines;
 mod marks;
 mod membership;
 mod picture;
+mod routes;
 mod shapes;
 mod subject;
 mod words;

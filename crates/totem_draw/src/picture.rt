@@ -1,27 +1,24 @@
 //! A whole picture (docs/PROGRAM.md, "Pictures").
-use crate::bands::Bands;
-use crate::choice::lanes_of;
+use crate::bands::{Bands, most_letters as letters_in_front};
+use crate::choice::{is_small, lanes_of};
 use crate::events::{most_letters, push_events};
-use crate::frame::{Frame, LINE, step_for};
-use crate::lines::{push_lines, push_pending};
+use crate::frame::{Frame, LINE, MARGIN, left_for, step_for};
+use crate::legend::legend_of;
+use crate::lines::push_lines;
 use crate::marks::lines_of;
+use crate::membership::draw_membership;
 use crate::shapes::{Point, push_words};
 use crate::subject::Subject;
 use crate::words::wrapped;
 use std::alloc::{AllocError, Global};
 use totem_evs::{Fault, Pending, Run};
 use totem_explain::{Lane, Reason, lay_out, rule_of};
-use totem_names::Place;
-
-/// The text below a picture that says how to read it.
-const LEGEND: &str =
-    "From left to right as each process saw it. A dot is a send, a ring a delivery, a bar a change of the configuration, whose band follows (dashed: transitional), a cross a failure, a dashed ring an event that is missing, a dashed line to a ring behind the lane a pending delivery.";
 
 /// Adds lines of text, one below the other. The height is that of the first one's baseline.
 fn push_text(text: &mut String, from: u32, lines: &[String]) -> Result<(), AllocError> {
     let mut y = from;
     for line in lines {
-        push_words(text, Point { x: 16, y }, line.as_str())?;
+        push_words(text, Point { x: MARGIN, y }, line.as_str())?;
         y = y.saturating_add(LINE);
     }
     Ok(())
@@ -38,8 +35,7 @@ fn push_lanes(
     let run = subject.run;
     let bands = Bands::of_lanes(alloc, frame, lanes)?;
     bands.push(alloc, text, run.version, frame)?;
-    push_lines(text, frame, lanes)?;
-    push_pending(text, frame, lanes, subject.pending)?;
+    push_lines(alloc, text, frame, lanes, subject.pending)?;
     bands.push_names(alloc, text, frame)?;
     push_events(alloc, text, frame, lanes, subject)
 }
@@ -87,11 +83,14 @@ fn draw(alloc: Global, subject: &Subject<'_>) -> Result<String, AllocError> {
     let above = wrapped(alloc, subject.title)?;
     let mut below = lines_of(alloc, subject.run, subject.marked)?;
     push_wrapped(alloc, &mut below, subject.why)?;
-    push_wrapped(alloc, &mut below, LEGEND)?;
+    let legend = legend_of(alloc, lanes.as_slice(), !subject.pending.is_empty())?;
+    push_wrapped(alloc, &mut below, legend.as_str())?;
     let lines = u32::try_from(above.len()).unwrap_or(u32::MAX);
     let frame = Frame {
+        left: left_for(letters_in_front(alloc, subject.run)?),
         top: LINE.saturating_mul(lines.saturating_add(1)),
         lanes: lanes.len(),
+        first: 0,
         slots,
         step: step_for(most_letters(alloc, lanes.as_slice())?),
     };
@@ -156,28 +155,21 @@ pub fn draw_no(
     Ok(Some(text))
 }
 
-/// Returns the place of the last entry of each log.
-fn ends_of(alloc: Global, run: &Run) -> Result<Vec<Place>, AllocError> {
-    let mut ends = Vec::new(alloc);
-    for log in run.logs.as_slice() {
-        ends.push(Place {
-            proc: log.proc,
-            at: u32::try_from(log.entries.as_slice().len()).unwrap_or(u32::MAX),
-        })?;
-    }
-    Ok(ends)
-}
+/// The title of the picture of a yes.
+const YES: &str = "Yes: the run meets specifications 1 to 7.";
 
 /// Draws a run that meets the specifications as a picture in SVG, with the pending deliveries. A small run is drawn whole. Of any
-/// other, the ends of the logs are drawn.
+/// other, the membership is drawn.
 pub fn draw_yes(alloc: Global, run: &Run, pending: &[Pending]) -> Result<String, AllocError> {
-    let places = ends_of(alloc, run)?;
+    if !is_small(run) {
+        return draw_membership(alloc, run, YES, pending);
+    }
     draw(
         alloc,
         &Subject {
             run,
-            title: "Yes: the run meets specifications 1 to 7.",
-            places: places.as_slice(),
+            title: YES,
+            places: &[],
             marked: &[],
             absences: &[],
             why: "",

@@ -9,19 +9,29 @@ pub struct Point {
 }
 
 /// The colours of configurations, which colour-blind people can tell apart.
-const COLOURS: [&str; COLOUR_COUNT] = [
+const COLOURS: [&str; PLAIN_COUNT] = [
     "#56b4e9", "#e69f00", "#009e73", "#f0e442", "#cc79a7", "#0072b2",
 ];
 
-/// How many colours there are.
-pub const COLOUR_COUNT: usize = 6;
+/// The textures that lie over a colour where the colours alone are too few: lines in a square of 8 pixels.
+const TEXTURES: [&str; 5] = ["M0 8L8 0", "M0 0L8 8", "M0 4h8", "M4 0v8", "M0 4h8M4 0v8"];
 
-/// Returns the n-th colour.
-fn colour(n: usize) -> &'static str {
-    match COLOURS.get(n % COLOUR_COUNT) {
-        Some(colour) => colour,
-        None => "#56b4e9",
+/// How many fills there are: each colour plain, and then each with each texture.
+pub const FILL_COUNT: usize = 36;
+
+/// How many fills are plain colours.
+pub const PLAIN_COUNT: usize = 6;
+
+/// Adds the textures, so that bands can name them.
+pub fn push_textures(text: &mut String) -> Result<(), AllocError> {
+    text.push_str("<defs>\n")?;
+    for (number, lines) in TEXTURES.iter().enumerate() {
+        write!(
+            text,
+            "<pattern id='texture{number}' width='8' height='8' patternUnits='userSpaceOnUse'><path d='{lines}' stroke='#000000' stroke-opacity='0.4'/></pattern>\n"
+        )?;
     }
+    text.push_str("</defs>\n")
 }
 
 /// Adds a line of text that starts at a point.
@@ -39,7 +49,7 @@ pub fn push_label(text: &mut String, at: Point, words: &str) -> Result<(), Alloc
     )
 }
 
-/// Adds the band of a configuration in the n-th colour, which is dashed if that is transitional.
+/// Adds the band of a configuration with the n-th fill, which is dashed if that is transitional.
 pub fn push_band(
     text: &mut String,
     at: Point,
@@ -48,7 +58,7 @@ pub fn push_band(
     is_transitional: bool,
 ) -> Result<(), AllocError> {
     let Point { x, y } = at;
-    let fill = colour(n);
+    let colour = COLOURS.get(n % PLAIN_COUNT).copied().unwrap_or("#56b4e9");
     let edge = if is_transitional {
         " stroke='#000000' stroke-dasharray='4 3'"
     } else {
@@ -56,37 +66,39 @@ pub fn push_band(
     };
     write!(
         text,
-        "<rect x='{x}' y='{y}' width='{width}' height='28' fill='{fill}' fill-opacity='0.4'{edge}/>\n"
-    )
+        "<rect x='{x}' y='{y}' width='{width}' height='28' fill='{colour}' fill-opacity='0.4'{edge}/>\n"
+    )?;
+    match (n / PLAIN_COUNT).checked_sub(1) {
+        Some(texture) => write!(
+            text,
+            "<rect x='{x}' y='{y}' width='{width}' height='28' fill='url(#texture{texture})'/>\n"
+        ),
+        None => Ok(()),
+    }
 }
 
-/// Adds the line of a message from its send to a delivery.
-pub fn push_line(text: &mut String, from: Point, to: Point) -> Result<(), AllocError> {
-    let Point { x, y } = from;
-    let Point { x: end, y: bottom } = to;
-    write!(
-        text,
-        "<line x1='{x}' y1='{y}' x2='{end}' y2='{bottom}' stroke='#555555'/>\n"
-    )
+/// Adds the line of a message through these points, from its send to a delivery; it is dashed where there is none.
+pub fn push_way(text: &mut String, points: &[Point], is_dashed: bool) -> Result<(), AllocError> {
+    text.push_str("<polyline points='")?;
+    let mut between = "";
+    for Point { x, y } in points {
+        write!(text, "{between}{x},{y}")?;
+        between = " ";
+    }
+    let dashes = if is_dashed {
+        " stroke-dasharray='5 4'"
+    } else {
+        ""
+    };
+    write!(text, "' fill='none' stroke='#555555'{dashes}/>\n")
 }
 
-/// Adds the dashed line of a message from its send to where its delivery is missing.
-pub fn push_dashes(text: &mut String, from: Point, to: Point) -> Result<(), AllocError> {
-    let Point { x, y } = from;
-    let Point { x: end, y: bottom } = to;
+/// Adds a dashed ring behind a lane, for deliveries that may still happen.
+pub fn push_ring_behind(text: &mut String, at: Point) -> Result<(), AllocError> {
+    let Point { x, y } = at;
     write!(
         text,
-        "<line x1='{x}' y1='{y}' x2='{end}' y2='{bottom}' stroke='#555555' stroke-dasharray='5 4'/>\n"
-    )
-}
-
-/// Adds the dashed line of a message from its send to a delivery that may still happen, and that delivery.
-pub fn push_dashed(text: &mut String, from: Point, to: Point) -> Result<(), AllocError> {
-    push_dashes(text, from, to)?;
-    let Point { x: end, y: bottom } = to;
-    write!(
-        text,
-        "<circle cx='{end}' cy='{bottom}' r='6' fill='#ffffff' stroke='#555555' stroke-dasharray='3 2'/>\n"
+        "<circle cx='{x}' cy='{y}' r='6' fill='#ffffff' stroke='#555555' stroke-dasharray='3 2'/>\n"
     )
 }
 

@@ -1,7 +1,6 @@
-"""The membership of runs and what became of their messages: `totem explain --views` (with `--svg`, too) and `--message`, compared with plain loops over random
+"""The membership of runs and what became of their messages: `totem explain --views` and `--message`, compared with plain loops over random
 runs and the runs of the rows."""
 import random
-import re
 from functools import partial
 
 from harness import process
@@ -76,18 +75,23 @@ def block_of(logs, configuration, name):
     return lines
 
 
-def is_ordered(logs, order):
-    """Whether each log comes to the configurations in this order, as long as some order fits all logs."""
+def have_order(logs):
+    """Whether some order of the configurations fits all logs."""
     left = [[where for where, _, _ in visits_of(log)] for log in logs]
     while any(left):
         ready = {way[0] for way in left if way}
         ready -= {where for way in left for where in way[1:]}
         if not ready:
-            return True
+            return False
         left = [way[1:] if way and way[0] in ready else way for way in left]
+    return True
+
+
+def is_ordered(logs, order):
+    """Whether each log comes to the configurations in this order, as long as some order fits all logs."""
     places = {where: place for place, where in enumerate(order)}
     ways = [[places[where] for where, _, _ in visits_of(log)] for log in logs]
-    return all(way == sorted(way) for way in ways)
+    return not have_order(logs) or all(way == sorted(way) for way in ways)
 
 
 def namer(text):
@@ -106,22 +110,6 @@ def views_flaw(program, text):
     is_right = came.status == audited.status and not came.errors and len(order) == len(wanted) and set(order) == wanted and \
         is_ordered(logs, order) and all(block == block_of(logs, block[0].split(',')[0], name) for block in blocks)
     return None if is_right else 'came: %s\n  wanted: %r\n  for: %r' % (came, [block_of(logs, where, name) for where in order], text)
-
-
-def picture_flaw(program, text):
-    """What is wrong with the picture of the membership: a band for each stay, with what was sent and delivered; bands of one configuration in
-    one column and one colour, and neighbours in two colours."""
-    stays = [(where, stay) for log in logs_of(text) for where, _, stay in visits_of(log)]
-    came, _ = process.run([program, 'explain', '--views', '--svg'], text)
-    drawn = came.output.decode()
-    bands = re.findall("<rect x='([0-9]+)' y='([0-9]+)' width='[0-9]+' height='28' fill='(#[0-9a-f]+)'", drawn)
-    told = re.findall('>([0-9]+) s, ([0-9]+) d<', drawn)
-    wanted = [tuple(str(sum(entry.word == word for entry in stay)) for word in ('send', 'dlv')) for _, stay in stays]
-    is_right = len(bands) == len(stays) and sorted(told) == sorted(wanted) and \
-        len({(where, x, fill) for (where, _), (x, _, fill) in zip(stays, bands)}) == len({where for where, _ in stays}) and \
-        all(one[1] != other[1] or one[2] != other[2] or stay[0] == behind[0]
-            for one, other, stay, behind in zip(bands, bands[1:], stays, stays[1:]))
-    return None if is_right else 'came: %s\n  wanted: %r\n  for: %r' % (came, wanted, text)
 
 
 def message_flaw(program, text, message):
@@ -149,7 +137,7 @@ def flaw(program, text, draw):
     """What is wrong with the membership of a run, or with what became of two of its messages and of one that it lacks."""
     messages = sorted({entry.message for log in logs_of(text) for entry in log.entries if entry.message})
     asked = [*draw.sample(messages, min(2, len(messages))), '4294967295.65535#4294967295']
-    wrong = [views_flaw(program, text), picture_flaw(program, text), *(message_flaw(program, text, message) for message in asked)]
+    wrong = [views_flaw(program, text), *(message_flaw(program, text, message) for message in asked)]
     return next(filter(None, wrong), None)
 
 
