@@ -35,6 +35,14 @@ fn line_of(alloc: Global, passed: u32, ticks: u32, logged: Logged) -> Result<Str
     )
 }
 
+/// Returns in which tick a message was delivered last.
+fn last_delivery(alloc: Global, tick: Option<u32>) -> Result<String, AllocError> {
+    match tick {
+        Some(tick) => format!(in alloc; "last delivery in tick {tick}"),
+        None => String::from_str(alloc, "no delivery"),
+    }
+}
+
 /// Returns the line that says what came of a run.
 fn summary_of(alloc: Global, made: Tally, traffic: Traffic) -> Result<String, AllocError> {
     let Tally {
@@ -46,11 +54,15 @@ fn summary_of(alloc: Global, made: Tally, traffic: Traffic) -> Result<String, Al
         sent: packets,
         lost,
         repeated,
+        held,
+        waiting,
+        late,
+        delivered_in,
         ..
     } = traffic;
-    let rest = traffic.on_their_way();
+    let last = last_delivery(alloc, delivered_in)?;
     format!(in alloc;
-        "totem: messages: {sent} sent, {delivered_by_all} delivered by every node; rings formed: {rings}; packets: {packets} sent, {lost} lost and {repeated} duplicated by the plan, {rest} on their way at the end\n"
+        "totem: messages: {sent} sent, {delivered_by_all} delivered by every node, {last}; rings formed: {rings}; packets: {packets} sent, {lost} lost and {repeated} duplicated by the plan; on their way at the end: {held} held back, {waiting} waiting, {late} sent in the last tick\n"
     )
 }
 

@@ -21,8 +21,8 @@ use totem_verdicts::Outcome;
 
 /// Runs this many nodes in threads, on ring 4.1, over a network that follows the plan, until the ticks are used up
 /// (docs/PROTOCOL.md, "A run in threads"). The receiving thread of each node calls `start.begun` before it receives. Waits for
-/// all threads, and returns the run that the nodes recorded, in version 1, with their books in ascending order. It is not
-/// determined which run comes out.
+/// all threads, and returns the run that the nodes recorded, in version 1, with their books in ascending order. No contract says which run
+/// comes out; docs/PROTOCOL.md, "The network", does.
 pub fn run_threads<S: Start, R: Threads + Wait + Sync>(
     rt: &R,
     alloc: Global,

@@ -62,6 +62,7 @@ impl Network {
                 asked: false,
                 stage: Stage::Tick,
                 logged: Logged::nothing(),
+                delivered_in: None,
                 first,
             },
             pacer: Pacer::new(to_switch, answers),

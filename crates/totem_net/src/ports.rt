@@ -137,6 +137,11 @@ impl Ports {
         self.unhandled == 0
     }
 
+    /// Returns how many packets wait.
+    pub fn waiting(&self) -> u64 {
+        self.waiting
+    }
+
     /// Returns how many packets were forwarded.
     pub fn forwarded(&self) -> u64 {
         self.forwarded

@@ -44,15 +44,14 @@ pub struct Traffic {
     pub repeated: u64,
     /// How many copies were forwarded to their receivers.
     pub forwarded: u64,
-}
-
-impl Traffic {
-    /// Returns how many copies were still on their way: held back, or waiting to be forwarded.
-    pub fn on_their_way(&self) -> u64 {
-        let copies = self.sent.saturating_sub(self.lost);
-        let copies = copies.saturating_add(self.repeated);
-        copies.saturating_sub(self.forwarded)
-    }
+    /// How many copies were held back at the end.
+    pub held: u64,
+    /// How many copies waited at the end to be forwarded.
+    pub waiting: u64,
+    /// How many packets were sent in the last tick, too late to have a fate.
+    pub late: u64,
+    /// The last tick in which a node delivered a message, if one did.
+    pub delivered_in: Option<u32>,
 }
 
 /// What came of a run.

@@ -35,12 +35,14 @@ pub struct Switch {
     pub(crate) stage: Stage,
     /// What the nodes have logged so far.
     pub(crate) logged: Logged,
+    /// The last tick in which a node delivered a message.
+    pub(crate) delivered_in: Option<u32>,
     /// The packet that is forwarded to the first node before anything else.
     pub(crate) first: Bytes,
 }
 
 impl Switch {
-    /// Forwards packets and gives turns, until the ticks are used up, a node ends at a fault, or there is no sender any more. Then it
+    /// Forwards packets and gives turns, until the ticks are used up and their packets handled, a node ends at a fault, or there is no sender any more. Then it
     /// sends each thread a stop message. If memory is refused, it stops the threads at once.
     ///
     /// Keeps pace with the nodes (docs/PROTOCOL.md, "The network"): the pacing thread's tick passes once they have handled all channel
@@ -54,7 +56,7 @@ impl Switch {
         progress: &mut P,
     ) -> Result<(), AllocError> {
         let ended = self.serve(rt, alloc, progress);
-        progress.carried(self.traffic());
+        progress.carried(self.traffic(alloc));
         self.ports.stop(rt);
         ended
     }
@@ -67,7 +69,7 @@ impl Switch {
     ) -> Result<(), AllocError> {
         self.begin()?;
         for _ in rt.forever() {
-            if self.turns.are_over() && matches!(self.stage, Stage::Tick) {
+            if self.has_ended() {
                 break;
             }
             let Ok(word) = self.inbound.recv(rt) else {
@@ -85,6 +87,11 @@ impl Switch {
         Ok(())
     }
 
+    /// Returns whether the ticks are used up, and the nodes have handled what they were given in the last one.
+    fn has_ended(&self) -> bool {
+        self.turns.are_over() && self.stage == Stage::Tick && self.ports.have_handled_all()
+    }
+
     /// Reports the progress of the run at the end of a tick.
     fn report<P: Progress>(&self, progress: &mut P) {
         if self.stage == Stage::Tick {
@@ -100,6 +107,9 @@ impl Switch {
             Inbound::Done(logged) => {
                 self.ports.note_done();
                 self.logged = self.logged.and(logged);
+                if logged.deliveries > 0 {
+                    self.delivered_in = Some(self.turns.passed());
+                }
             }
             Inbound::Gone => return Ok(false),
         }
@@ -180,14 +190,30 @@ impl Switch {
         give(rt, &self.paces, pace)
     }
 
+    /// Counts what the nodes have sent since packets were carried last.
+    fn take_late(&mut self, alloc: Global) -> u64 {
+        let mut late = 0u64;
+        for place in 0..self.ports.count() {
+            for sent in self.ports.take_sent(alloc, place) {
+                late = late.saturating_add(self.ways.receivers_of(&sent.address));
+            }
+        }
+        late
+    }
+
     /// Returns what was done with packets. The first token has no fate.
-    fn traffic(&self) -> Traffic {
+    fn traffic(&mut self, alloc: Global) -> Traffic {
+        let late = self.take_late(alloc);
         let drawn = self.ways.drawn();
         Traffic {
-            sent: drawn.fates.saturating_add(1),
+            sent: drawn.fates.saturating_add(1).saturating_add(late),
             lost: drawn.lost,
             repeated: drawn.repeated,
             forwarded: self.ports.forwarded(),
+            held: self.ways.held(),
+            waiting: self.ports.waiting(),
+            late,
+            delivered_in: self.delivered_in,
         }
     }
 }

@@ -91,6 +91,23 @@ impl Ways {
         self.fates.drawn()
     }
 
+    /// Returns how many copies are held back on all ways.
+    pub fn held(&self) -> u64 {
+        self.wires
+            .iter()
+            .fold(0u64, |held, wire| held.saturating_add(wire.held()))
+    }
+
+    /// Returns to how many nodes a packet with this address goes.
+    pub fn receivers_of(&self, address: &Address) -> u64 {
+        let mut count = 0u64;
+        for place in 0..self.wires.len() {
+            let node = ProcId::of((place + 1) as u16);
+            count = count.saturating_add(u64::from(address.is_for(node)));
+        }
+        count
+    }
+
     #[tactic(auto, using(crate::proofs::Walking::handed_more, crate::proofs::Walking::changed_more, crate::proofs::Walking::past_more))]
     fn effects(
         &self,

@@ -79,6 +79,11 @@ impl Wire {
         }
     }
 
+    /// Returns how many copies are held back.
+    pub fn held(&self) -> u64 {
+        self.held.len() as u64
+    }
+
     /// Lets a packet arrive with its fate. First the packet's own copies that are not held are forwarded, then the held copies
     /// that are due, in the order in which they arrived.
     pub fn pass(&self, alloc: Global, packet: &Bytes, fate: Fate) -> Result<Passage, AllocError>

@@ -2,12 +2,14 @@
 ghost use Rattle.totem_threads.specs.Starts.{IsInRange};
 
 use std::alloc::Global;
-use std::sync::Wait;
+use std::sync::{Mutex, Wait};
 use std::test::Fail;
-use std::thread::Threads;
+use std::thread::{self, Threads};
+use std::time::{Clock, Duration};
 use totem_books::{Call, ClosedBook, Reply};
 use totem_core::Input;
-use totem_net::{Logged, Plan, Progress, Quiet, Tally, Traffic};
+use totem_names::ProcId;
+use totem_net::{Logged, Plan, Progress, Quiet, Start, Tally, Traffic};
 use totem_ring::To;
 use totem_threads::{RunPlan, run_nodes};
 
@@ -75,7 +77,8 @@ fn both_counts<R: Threads + Wait + Sync>(
     Ok((counted(others, &books), traffic))
 }
 
-/// Whatever nodes do, no packet is lost but by its fate: each copy that was made comes to its receiver, or is on its way at the end.
+/// Whatever nodes do, no packet is lost but by its fate: each copy that was made comes to its receiver, or is held back or waits at the end;
+/// and each packet that a node sends gets its fate, or was sent in the last tick.
 #[test]
 fn packets_are_lost_by_their_fates_alone(rt: HostRuntime) -> Result<(), Fail> {
     for (nodes, seed, lose, repeat, hold) in [
@@ -87,12 +90,80 @@ fn packets_are_lost_by_their_fates_alone(rt: HostRuntime) -> Result<(), Fail> {
         let plan = RunPlan::new(nodes, 1000, seed, network).ok_or("a plan of a run")?;
         let (packets, traffic) = both_counts(&rt, rt.alloc(), plan)?;
         assert_eq!(rt; packets.came, traffic.forwarded, "{nodes}");
-        assert!(rt; packets.sent.saturating_add(1) >= traffic.sent, "{nodes}");
+        assert_eq!(rt; packets.sent.saturating_add(1), traffic.sent, "{nodes}");
+        let made = traffic
+            .sent
+            .saturating_sub(traffic.lost)
+            .saturating_add(traffic.repeated);
+        let left = traffic
+            .held
+            .saturating_add(traffic.waiting)
+            .saturating_add(traffic.late);
+        assert_eq!(rt; made, packets.came.saturating_add(left), "{nodes}");
         let share = traffic
             .lost
             .saturating_mul(100)
             .div_ceil(traffic.sent.max(1));
         assert!(rt; share.abs_diff(u64::from(lose)) <= 3, "{nodes}: {share}");
     }
+    Ok(())
+}
+
+/// Holds node 2 for a moment when it begins, and keeps how many ticks had passed by the end of it.
+#[derive(Drop)]
+struct Holding<'a, R> {
+    rt: &'a R,
+    passed: &'a Mutex<u32>,
+    meanwhile: Mutex<u32>,
+}
+
+impl<R: Wait + Clock + Sync> Start for Holding<'_, R> {
+    fn begun(&self, node: ProcId) {
+        if node.number() == 2 {
+            thread::sleep(self.rt, Duration::from_millis(200));
+            let passed = *self.passed.lock(self.rt);
+            *self.meanwhile.lock(self.rt) = passed;
+        }
+    }
+}
+
+/// Keeps how many ticks have passed.
+#[derive(Drop)]
+struct Passing<'a, R> {
+    rt: &'a R,
+    passed: &'a Mutex<u32>,
+}
+
+impl<R: Wait> Progress for Passing<'_, R> {
+    fn ticked(&mut self, passed: u32, _ticks: u32, _logged: Logged) {
+        *self.passed.lock(self.rt) = passed;
+    }
+
+    fn carried(&mut self, _traffic: Traffic) {}
+
+    fn ended(&mut self, _made: Option<Tally>) {}
+}
+
+/// It is the receiving thread that reports that its node has begun: as long as it does so, the node takes no packet, so no more than the
+/// few ticks pass in which the token comes to it.
+#[test]
+fn a_node_begins_in_its_receiving_thread(rt: HostRuntime) -> Result<(), Fail> {
+    let network = Plan::new(0, 0, 0).ok_or("a plan")?;
+    let plan = RunPlan::new(3, 80, 1, network).ok_or("a plan of a run")?;
+    let passed = Mutex::new(0);
+    let holding = Holding {
+        rt: &rt,
+        passed: &passed,
+        meanwhile: Mutex::new(0),
+    };
+    let mut passing = Passing {
+        rt: &rt,
+        passed: &passed,
+    };
+    if run_nodes(&rt, rt.alloc(), plan, &holding, &mut passing).is_err() {
+        return Err(Fail::from("no run"));
+    }
+    assert!(rt; *holding.meanwhile.lock(&rt) <= 3);
+    assert_eq!(rt; *passed.lock(&rt), 80);
     Ok(())
 }

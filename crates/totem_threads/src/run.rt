@@ -116,7 +116,8 @@ fn run_network<S: Start, R: Threads + Wait + Sync, P: Progress>(
 
 /// Runs this many nodes in threads, on ring 4.1, over a network that follows the plan, until the ticks are used up
 /// (docs/PROTOCOL.md, "A run in threads"). Waits for all threads, and returns the run that the nodes recorded, in version 1,
-/// with their books in ascending order. It is not determined which run comes out. At each tick the switch reports how far the run is.
+/// with their books in ascending order. No contract says which run comes out; docs/PROTOCOL.md, "The network", does. At each tick the switch
+/// reports how far the run is.
 pub fn run_nodes<S: Start, R: Threads + Wait + Sync, P: Progress>(
     rt: &R,
     alloc: Global,

@@ -8,7 +8,7 @@ from harness.sweep import MEMORY, Sweeper, one_of
 MANY_JOBS = 'many-rings-three-faults'
 WORKERS = ('--workers', '7')
 # What a run says of itself; without memory for the line it is left out.
-SUMMARY = re.compile(rb'totem: messages: .* on their way at the end\n')
+SUMMARY = re.compile(rb'totem: messages: .* sent in the last tick\n')
 NODES = ('run', '--nodes', '3', '--ticks', '24', '--repeat', '5')
 
 

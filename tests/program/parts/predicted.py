@@ -51,7 +51,7 @@ class Plan(NamedTuple):
 
 
 class Network:
-    """Nodes and the packets between them. `sent`, `lost`, `repeated` and `forwarded` count packets, once for each receiver."""
+    """Nodes and the packets between them. `sent` and `lost` count packets and `repeated` copies, once for each receiver."""
 
     def __init__(self, plan):
         self.plan, self.words = plan, words_of(plan.seed)
@@ -61,8 +61,9 @@ class Network:
         self.waiting = {node: deque() for node in self.scene.actors}
         self.sent_by = {node: [] for node in self.scene.actors}
         self.waiting[1].append(self.scene.queue.pop().packet)
-        self.sent, self.lost, self.repeated, self.forwarded = 1, 0, 0, 0
+        self.sent, self.lost, self.repeated = 1, 0, 0
         self.credit, self.next = self._most, 1
+        self.now = self.delivered_in = 0
 
     @property
     def _most(self):
@@ -72,7 +73,6 @@ class Network:
         """The next fate: for each copy, how many further packets it lets pass."""
         word = next(self.words)
         drawn, holds = word % 100, self.plan.hold + 1
-        self.sent += 1
         if drawn < self.plan.lose:
             self.lost += 1
             return []
@@ -89,11 +89,15 @@ class Network:
         self.held[receiver] = [(left - 1, held) for left, held in self.held[receiver] if left > 1]
         self.held[receiver] += [(left, packet) for left in copies if left > 0]
 
+    def _receivers(self, sender, to):
+        """Who gets a packet."""
+        return [node for node in self.scene.actors if node != sender] if to is None else [to]
+
     def _carry(self):
         """Everything that the nodes have sent goes on its way."""
         for sender, sendings in self.sent_by.items():
             for to, packet in sendings:
-                for receiver in [node for node in self.scene.actors if node != sender] if to is None else [to]:
+                for receiver in self._receivers(sender, to):
                     self._pass(receiver, packet)
             sendings.clear()
 
@@ -105,6 +109,9 @@ class Network:
             return
         actor.logs[-1].extend(done.entries)
         self.sent_by[node].extend(done.sendings)
+        self.sent += sum(len(self._receivers(node, to)) for to, _ in done.sendings)
+        if any(entry[0] == 'dlv' for entry in done.entries):
+            self.delivered_in = self.now
 
     def _forward(self):
         """Nodes get what waits for them, one after the other, as far as the credit goes."""
@@ -119,12 +126,12 @@ class Network:
             if not packets:
                 self.next = self.next % self.plan.nodes + 1
         self.credit = min(credit + self.plan.nodes, self._most)
-        self.forwarded += len(given)
         for node, packet in given:
             self._step(node, lambda node, packet=packet: node.on_packet(packet))
 
     def tick(self, number):
         """A tick passes."""
+        self.now = number
         self._carry()
         if number % 8 == 0:
             turn = number // 8 - 1
@@ -146,7 +153,9 @@ class Network:
         sent = sum(entry[0] == 'send' for log in logs for entry in log)
         delivered = [{(entry[2].ring, entry[2].number) for entry in log if entry[0] == 'dlv'} for log in logs]
         rings = {entry[1] for log in logs for entry in log if entry[0] == 'conf' and entry[1].startswith('r')}
-        return ('totem: messages: %d sent, %d delivered by every node; rings formed: %d; packets: %d sent, %d lost and %d '
-                'duplicated by the plan, %d on their way at the end\n' % (
-                    sent, len(set.intersection(*delivered)), len(rings) - 1, self.sent, self.lost, self.repeated,
-                    self.sent - self.lost + self.repeated - self.forwarded)).encode()
+        late = sum(len(self._receivers(node, to)) for node, sendings in self.sent_by.items() for to, _ in sendings)
+        return ('totem: messages: %d sent, %d delivered by every node, %s; rings formed: %d; packets: %d sent, %d lost and %d '
+                'duplicated by the plan; on their way at the end: %d held back, %d waiting, %d sent in the last tick\n' % (
+                    sent, len(set.intersection(*delivered)), 'last delivery in tick %d' % self.delivered_in if self.delivered_in else 'no delivery',
+                    len(rings) - 1, self.sent, self.lost, self.repeated, sum(map(len, self.held.values())),
+                    sum(map(len, self.waiting.values())), late)).encode()

@@ -4,6 +4,8 @@ from functools import partial
 from itertools import zip_longest
 
 from harness import process
+from harness.counted import counted
+from parts.counts import logs_of
 from parts.predicted import Network, Plan
 
 SECONDS = 60
@@ -17,6 +19,15 @@ RUNS = (
     '--ticks 80 --lose 60 --repeat 40', '--ticks 80 --lose 100', '--ticks 80 --repeat 100',
     '--nodes 32 --ticks 1 --seed 0 --lose 0 --repeat 0 --hold 0', '--nodes 2 --ticks 2000 --repeat 100 --quiet',
 )
+# Runs whose rings break and form again: how many rings are formed, how many of their configurations merge two others, and how many deliveries
+# are in transitional configurations.
+BREAKING = {
+    '--nodes 3 --lose 20': (6, 1, 69),
+    '--nodes 2 --lose 30': (23, 5, 36),
+    '--lose 10': (1, 0, 3),
+    '--nodes 8 --lose 15 --ticks 2000': (1, 0, 144),
+    '--nodes 3 --lose 15 --ticks 40000': (14, 3, 172),
+}
 ROUGH = (
     '--nodes 3 --lose 5', '--nodes 3 --lose 2 --repeat 5 --hold 1', '--nodes 8 --lose 2 --repeat 5 --hold 1',
     '--nodes 16 --lose 1 --repeat 5 --hold 1',
@@ -78,6 +89,15 @@ def try_judged(words, program):
     return None if checked.status == 0 else 'the check: %s' % checked
 
 
+def try_breaking(words, wanted, program):
+    """The same for a run whose rings break and form again, with these counts."""
+    wrong = try_judged(words, program)
+    made, _ = process.run([program, 'run', *words.split()], seconds=SECONDS)
+    counts = dict(counted(logs_of(made.output), None))
+    came = counts['regular'] - 1, counts['merge'], counts['transitional']
+    return wrong or (None if came == wanted else 'rings formed, merges, transitional deliveries: %r; wanted: %r' % (came, wanted))
+
+
 def in_all_weathers(command, tried):
     """Short runs with each seed, over each kind of network."""
     for seed in SEEDS:
@@ -90,6 +110,8 @@ def judged():
     """What threads recorded is what the model works out, and can be judged."""
     for words in RUNS:
         yield 'totem run ' + words, partial(try_judged, words)
+    for words, wanted in BREAKING.items():
+        yield 'totem run ' + words, partial(try_breaking, words, wanted)
     yield from in_all_weathers('totem run ', try_judged)
 
 
