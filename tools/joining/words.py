@@ -16,7 +16,8 @@ from joining.scan import Scan, leave_out
 from joining.sends import move_sends
 from joining.transitional import add_transitional
 from joining.trouble import Changes, Refused, WriteFailed, tell
-from joining.warnings import tell_by_recording, tell_hang
+from joining.warnings import tell_hang
+from joining.worth import tell_worth
 from running import signals, streams
 
 
@@ -56,7 +57,6 @@ class Joining:
             self.logs = begin_earlier(self.logs, working, words, self.changes)
         if asked.own_sends:
             self.logs = move_sends(self.logs, working, words, asked, self.changes)
-            tell_by_recording()
         if self.numbers:
             self.numbers.settle(self.logs, self.changes)
 
@@ -216,6 +216,7 @@ def _do(asked):
             return 0
         with tempfile.TemporaryDirectory() as working:
             Joining(asked, working).write()
+            tell_worth(asked)
     except Refused as refused:
         tell(str(refused))
         return 1

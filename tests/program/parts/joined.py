@@ -1,5 +1,6 @@
 """Logs of one's own, joined to a run by `tools/logs join`."""
 import os
+import re
 import subprocess
 import tempfile
 from functools import partial
@@ -45,6 +46,23 @@ waiting 3 r4.1 1
 waiting 3 r4.1 2
 totem-cert 1
 """
+
+# What is told last if an option, or a first line, asks for something that can hide something: of what a yes says nothing.
+HIDES = {
+    '--failed': 'what a process still had to deliver, if it did not fail (3, 7.1)',
+    '--torn': 'whether anybody sent the messages whose sends are added (1.3), and safe messages among them (7.1, 7.2)',
+    '--quiet': 'agreed messages of others that a quiet log lacks at its end',
+    '--lives': 'lives that the layer confused (2.3, 2.4)',
+    '--own-sends': '3, but for messages that others delivered and their sender did not, and 1.3 for those that a process itself delivers, '
+                   'since sends stand at their own deliveries',
+    '--own-order-unknown': 'messages of one process that were reordered (5)',
+    '--late-sends': 'messages that got their place in a transitional configuration (2.2)',
+    '--transitional': 'processes that the layer wrongly counted as gone on together (2.4, 4)',
+    '--early-ends': 'messages of a process that was gone (1.3, 4, 5, 6)',
+    '--late-changes': 'messages that were lost at the end of a configuration, and whose senders did not go along (5, 6.3)',
+    '--trim': 'what comes after the cut',
+    '--cut': 'names that come again in another part (1.1, 1.4, 2.3)',
+}
 
 # Folders by what they show: the arguments, the files, the run that they are joined to, and the messages.
 FOLDERS = {
@@ -226,9 +244,17 @@ def try_own_logs(program):
     return None if came.output.startswith(OWN_REPORT) and not came.errors else 'came: %s' % came
 
 
+def with_worth(words, told):
+    """What is told of these logs, and of what a yes then says nothing."""
+    first_lines = re.findall(r'(?m)^logs: as the first lines of the logs say: (.*)$', told)
+    asked = ' '.join([words, *first_lines]).split()
+    hidden = ['%s (%s)' % (what, option) for option, what in HIDES.items() if option in asked]
+    return told + ('logs: as joined, a yes says nothing of: %s\n' % '; '.join(hidden) if hidden else '')
+
+
 def try_folder(words, files, wanted, told, _program):
     """These files are joined to this run, with these messages."""
-    came = join_files(words, files)
+    came, told = join_files(words, files), with_worth(words, told)
     is_right = came == process.Answer(0, wanted.encode(), told.encode())
     return None if is_right else 'came:   %s\n  wanted: %r, and told %r' % (came, wanted, told)
 

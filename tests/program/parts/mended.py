@@ -5,17 +5,13 @@ from functools import partial
 
 from harness import process
 from parts.early_ends import EARLY_ENDS
-from parts.joined import EXAMPLES, join, join_files, try_folder, try_refused, write_files
+from parts.joined import EXAMPLES, join, join_files, try_folder, try_refused, with_worth, write_files
 from parts.first_lines import FIRST_LINES, FIRST_LINES_REFUSED
 from parts.late_changes import LATE_CHANGES
 from parts.lives import LIVES, UNKNOWN
 from parts.sends import SENDS, SWAPPED
 from parts.torn import HANGS, TORN, TORN_REFUSED
 from parts.transitional import TRANSITIONAL
-
-# What is said after sends were moved.
-BY_RECORDING = 'logs: since sends stand at their own deliveries, these hold by the way of recording alone, whatever the layer did: 1.3 for the ' \
-    'messages that a process itself delivers, and 3, but for messages that others delivered and their sender did not\n'
 
 LARGE = 4294967300
 # Folders whose processes and rings are renumbered.
@@ -235,14 +231,9 @@ def try_long(_program):
     return None if (came.status, came.output.decode()) == (0, wanted) else 'came: %s' % came
 
 
-def with_recording(words, told):
-    """What is told of sends, and what is said after that if the call or a first line asks for it."""
-    return told + (BY_RECORDING if '--own-sends' in words + told else '')
-
-
 def try_end(words, files, told, _program):
     """This is told of the logs, beside the times that are left out."""
-    came = join_files(words, files)
+    came, told = join_files(words, files), with_worth(words, told)
     kept = [line for line in came.errors.decode().splitlines(keepends=True) if not line.startswith('logs: left out of the logs: ')]
     return None if came.status == 0 and ''.join(kept) == told else 'came: %s\n  wanted: %r' % (came, told)
 
@@ -251,9 +242,9 @@ def mended():
     """Added lives, moved sends and changes, new numbers, cut logs."""
     for folders in (LIVES, SENDS, TRANSITIONAL, EARLY_ENDS, LATE_CHANGES, FIRST_LINES, TORN, NUMBERS, TRIMMED):
         for what, (words, files, wanted, told) in folders.items():
-            yield what, partial(try_folder, words, files, wanted, with_recording(words, told))
+            yield what, partial(try_folder, words, files, wanted, told)
     for what, (words, files, told) in HANGS.items():
-        yield 'the end: %s' % what, partial(try_end, words, files, with_recording(words, told))
+        yield 'the end: %s' % what, partial(try_end, words, files, told)
     for folders in (UNKNOWN, SWAPPED, NOT_CUT, FIRST_LINES_REFUSED, TORN_REFUSED):
         for what, (words, files, said) in folders.items():
             yield what, partial(try_refused, words, files, said)
