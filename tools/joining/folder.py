@@ -24,6 +24,12 @@ class Change(NamedTuple):
     configuration: bytes
     members: tuple
 
+    @property
+    def line(self):
+        """The line, without its line end."""
+        return b' '.join([b'conf', self.configuration, *(b'%d' % process if life is None else b'%d:%d' % (process, life)
+                                                         for process, life in self.members)])
+
 
 @dataclass
 class Log:
@@ -43,7 +49,7 @@ class Log:
     changes: list = field(default_factory=list)
     # What an argument adds after its entries.
     added: bytes = b''
-    # The log's own file, as opposed to one for temporary use, and when it was last written, in nanoseconds.
+    # The log's own file, as opposed to one for temporary use, and when it was last written, in nanoseconds. A log that is made up has none.
     file: str = ''
     written: int = 0
     # Which line of that file each entry is, and a file with the times of these lines, if there are any (joining.lines).
@@ -55,6 +61,11 @@ class Log:
     def line_of(self, entry):
         """The line of an entry in the log's own file."""
         return self.lines.of(entry)
+
+    @property
+    def is_made_up(self):
+        """Whether the call says what is in it."""
+        return not self.file
 
     def end_as(self, ending, changes):
         """Closes the log in another way."""

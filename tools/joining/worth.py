@@ -3,6 +3,7 @@ from joining.trouble import tell
 
 # The options that can hide something, each with that of which a yes then says nothing.
 HIDES = {
+    'made_up': 'what these processes did otherwise than the logs say that are made up',
     'failed': 'what a process still had to deliver, if it did not fail (3, 7.1)',
     'torn': 'whether anybody sent the messages whose sends are added (1.3), and safe messages among them (7.1, 7.2)',
     'quiet': 'agreed messages of others that a quiet log lacks at its end',

@@ -12,6 +12,9 @@ REPOSITORY = os.path.join(os.path.dirname(row_files.FOLDER), '..')
 EXAMPLES = os.path.join(REPOSITORY, 'examples')
 TOOL = os.path.join(REPOSITORY, 'tools', 'logs')
 
+# What is told after the members without a log.
+MISSING = 'logs: totem refuses a run that has members without a log (MissingLog). If you know what {0} did, --made-up {0}=failed-before or ' \
+    '--made-up {0}=as-Q makes up a log (docs/OWN-LOGS.md#a-lost-log)\n'
 # The run of the folder `own-logs`, whose third log ends in the middle of a line.
 OWN_LOGS = b"""totem-run 1
 log 1
@@ -49,6 +52,7 @@ totem-cert 1
 
 # What is told last if an option, or a first line, asks for something that can hide something: of what a yes says nothing.
 HIDES = {
+    '--made-up': 'what these processes did otherwise than the logs say that are made up',
     '--failed': 'what a process still had to deliver, if it did not fail (3, 7.1)',
     '--torn': 'whether anybody sent the messages whose sends are added (1.3), and safe messages among them (7.1, 7.2)',
     '--quiet': 'agreed messages of others that a quiet log lacks at its end',
@@ -147,16 +151,15 @@ FOLDERS.update({
         'totem-run 1\nlog 1\nconf r4.1 1 2\nconf r8.1 1 2 3\nopen\nlog 4\nconf r4.1 1 2 7\nopen\nend\n',
         'logs: left out of the logs: blank lines and comments 1\nlogs: 3.log has no entry, and is left out\n'
         'logs: there is no log of 2, a member of r4.1 (1.log, line 2)\nlogs: there is no log of 3, a member of r8.1 (1.log, line 3)\n'
-        'logs: there is no log of 7, a member of r4.1 (4.log, line 1)\nlogs: totem refuses a run that has members without a log (MissingLog)\n'),
+        'logs: there is no log of 7, a member of r4.1 (4.log, line 1)\n' + MISSING.format(2)),
     'all members without a log, however many': (
         '', {'1.log': MANY}, 'totem-run 1\nlog 1\n%sopen\nend\n' % MANY,
         ''.join('logs: there is no log of %d, a member of r%d.1 (1.log, line %d)\n' % (number, number // 2 * 4, number // 2)
-                for number in range(2, 52)) + 'logs: totem refuses a run that has members without a log (MissingLog)\n'),
+                for number in range(2, 52)) + MISSING.format(2)),
     'members without a log, with lives': (
         '', {'2.1.log': 'conf r4.1 1:1 2:1\nconf r8.1 1:2 2:1\n'},
         'totem-run 2\nlog 2:1\nconf r4.1 1:1 2:1\nconf r8.1 1:2 2:1\nopen\nend\n',
-        'logs: there is no log of 1:1, a member of r4.1 (2.1.log, line 1)\nlogs: there is no log of 1:2, a member of r8.1 (2.1.log, line 2)\n'
-        'logs: totem refuses a run that has members without a log (MissingLog)\n'),
+        'logs: there is no log of 1:1, a member of r4.1 (2.1.log, line 1)\nlogs: there is no log of 1:2, a member of r8.1 (2.1.log, line 2)\n' + MISSING.format('1:1')),
 })
 
 ONE = {'1.log': 'conf r4.1 1\n'}
@@ -309,7 +312,7 @@ def try_help(_program):
     """The help explains each of the options."""
     came = join(['--help'], EXAMPLES)
     words = (b'--failed', b'--quiet', b'--lives', b'--member', b'--clock', b'--absent', b'--own-sends', b'--own-order-unknown', b'--late-sends',
-             b'--renumber', b'--table', b'--cut', b'--entries', b'--trim', b'--changes', b'--map', b'--pattern', b'tools/logs join FOLDER > my.run')
+             b'--made-up', b'--renumber', b'--table', b'--cut', b'--entries', b'--trim', b'--changes', b'--map', b'--pattern', b'tools/logs join FOLDER > my.run')
     return None if came.status == 0 and all(word in came.output for word in words) else 'came: %s' % came
 
 

@@ -9,6 +9,7 @@ from parts.joined import EXAMPLES, join, join_files, try_folder, try_refused, wi
 from parts.first_lines import FIRST_LINES, FIRST_LINES_REFUSED
 from parts.late_changes import LATE_CHANGES
 from parts.lives import LIVES, UNKNOWN
+from parts.made_up import MADE_UP, MADE_UP_REFUSED
 from parts.sends import SENDS, SWAPPED
 from parts.torn import HANGS, TORN, TORN_REFUSED
 from parts.transitional import TRANSITIONAL
@@ -180,6 +181,7 @@ HIDDEN = {
     'lost-before-a-change': ('--late-changes', 'logs: 2.log: deliveries from the first one past a gap on, which are now in transitional '
                              'configurations: 1 (t8.2/2: 1)\n'),
     'nobody-sent': ('--torn 1', 'logs: 1.log: sends that are added, since others delivered the messages and no log sends them: 1 (4.1#1)\n'),
+    'lost-log': ('--made-up 3=failed-before', 'logs: 3.log is made up: it is taken to have failed before it delivered anything, in r4.1\n'),
     'lost-tail': ('--trim', 'logs: 1.log: entries left out after its change to r8.1: 1\n'),
     'sent-again': ('--cut FOLDER --entries 5',
                    'logs: 1.log: sends 4.1#1 in part 2, and a log does so in part 1: a name came again, and no part shows it\n'),
@@ -240,12 +242,12 @@ def try_end(words, files, told, _program):
 
 def mended():
     """Added lives, moved sends and changes, new numbers, cut logs."""
-    for folders in (LIVES, SENDS, TRANSITIONAL, EARLY_ENDS, LATE_CHANGES, FIRST_LINES, TORN, NUMBERS, TRIMMED):
+    for folders in (LIVES, SENDS, TRANSITIONAL, EARLY_ENDS, LATE_CHANGES, FIRST_LINES, TORN, MADE_UP, NUMBERS, TRIMMED):
         for what, (words, files, wanted, told) in folders.items():
             yield what, partial(try_folder, words, files, wanted, told)
     for what, (words, files, told) in HANGS.items():
         yield 'the end: %s' % what, partial(try_end, words, files, told)
-    for folders in (UNKNOWN, SWAPPED, NOT_CUT, FIRST_LINES_REFUSED, TORN_REFUSED):
+    for folders in (UNKNOWN, SWAPPED, NOT_CUT, FIRST_LINES_REFUSED, TORN_REFUSED, MADE_UP_REFUSED):
         for what, (words, files, said) in folders.items():
             yield what, partial(try_refused, words, files, said)
     yield 'cut at each common change', partial(try_cut, '--entries 5', THREE_RINGS, [FIRST, SECOND, THIRD], '')
