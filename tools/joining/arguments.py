@@ -186,10 +186,16 @@ def _check_files(join, asked):
         join.error('%s is there already: --cut makes a new folder' % asked.cut)
 
 
+def _begins_as_run(path):
+    with open(path, 'rb') as it:
+        return it.read(10) == b'totem-run '
+
+
 def _check_join(join, asked):
     """Refuses arguments of `join` that do not go together."""
     if not os.path.isdir(asked.folder):
-        join.error('%s is not a folder' % asked.folder)
+        is_run = os.path.isfile(asked.folder) and _begins_as_run(asked.folder)
+        join.error('%s is %s' % (asked.folder, 'a run, made of logs already: ./totem audit < ' + asked.folder if is_run else 'not a folder'))
     for pattern in asked.pattern or ():
         if not folder.is_pattern(pattern):
             join.error('--pattern %s: a pattern is the name of a file, with {P} for the process and perhaps {L} for the life, such as node{P}.log '

@@ -182,9 +182,11 @@ class Joining:
 
 
 def _write_failed(failed):
-    """Reports that a stream failed, or the map, if it can, and returns the status. Nothing more is written."""
+    """Reports that a stream failed, or the map, if it can, and returns the status. Nothing more is written. (Where the reader of the output has
+    gone, that is all it wanted.)"""
     try:
-        tell(str(failed) or 'write failed')
+        if not isinstance(failed.__cause__, BrokenPipeError):
+            tell(str(failed) or 'write failed')
     except WriteFailed:
         pass
     for stream, number in ((sys.stdout, 1), (sys.stderr, 2)):

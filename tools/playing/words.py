@@ -30,6 +30,10 @@ class WriteFailed(Exception):
     """Standard output takes no more."""
 
 
+class Unshown(Exception):
+    """Nothing is shown, since nothing is there."""
+
+
 def _span(word):
     found = re.fullmatch(r'([1-9]\d{0,8})(?:-([1-9]\d{0,8}))?', word, re.ASCII)
     if not found or int(found[2] or found[1]) < int(found[1]):
@@ -95,15 +99,18 @@ class Watch:
 
 def _watch(content, span, known):
     """Shows one line of a script after the other."""
-    watch = None
+    watch, steps = None, []
     for line in lines(content):
         if watch is None:
             watch = Watch(span, known, int(line.text[-1]))
         elif line.text != 'end':
+            steps.append(line.number)
             try:
                 watch.do(line)
             except Broken as broken:
                 raise Wrong(line.number, REASONS[str(broken)]) from broken
+    if span and not any(span[0] <= number <= span[1] for number in steps):
+        raise Unshown('no command is in --lines %d-%d: the commands are in lines %d to %d' % (*span, steps[0], steps[-1]))
 
 
 def _do(asked):
@@ -131,11 +138,12 @@ def main(words):
         streams.say('play: interrupted')
     except Wrong as wrong:
         streams.say('play: %s, %s' % (asked.file or 'the input', wrong))
+    except Unshown as unshown:
+        streams.say('play: %s' % unshown)
     except OSError as error:
         streams.say('play: %s: %s' % (error.filename or 'the input', error.strerror))
     except WriteFailed:
-        streams.say('play: write failed')
-        return 4
+        return streams.unwritten('play')
     else:
         return 0
     return 1

@@ -1,4 +1,7 @@
 """Logs of one's own, joined to a run by `tools/logs join`."""
+import bz2
+import gzip
+import lzma
 import os
 import re
 import subprocess
@@ -177,6 +180,12 @@ REFUSED = {
     'a name that is not a process': ('', {**ONE, 'node.log': ''}, 'logs: node.log: the name is not a process: '),
     'a process past its range': ('', {'65536.log': ''}, 'logs: 65536.log: process 65536 is past 65535; --renumber '),
     'a line that is not an entry': ('', {**ONE, '2.log': 'conf r4.1 1\nnothing\n'}, 'logs: 2.log, line 2: this is not an entry: '),
+    'a line of another kind': ('', {'1.log': 'nothing\n'}, 'logs: 1.log, line 1: this is not an entry: nothing (a line begins with conf, send, dlv, '
+                               'fail or quiet)\n'),
+    'a run in place of a log': ('', {**ONE, '2.log': 'totem-run 1\nlog 1\n'}, 'logs: 2.log is a run, made of logs already: ./totem audit < '),
+    'a log that is packed': ('', {'1.log.gz': 'x', '1.txt': ''}, 'logs: 1.log.gz is compressed (gzip): unpack it first\n'),
+    'a log that is packed beside another one': ('', {**ONE, '2.3.log.xz': 'x'}, 'logs: 2.3.log.xz is compressed (xz): unpack it first\n'),
+    'a packed log with a pattern': ('--pattern n{P}', {'n1': 'conf r4.1 1 2\n', 'n2.zst': 'x'}, 'logs: n2.zst is compressed (zstd): unpack it first\n'),
     'a line with a blank at its end': (
         '', {'1.log': 'conf r4.1 1\ndlv r4.1 4.1#1 \n'},
         "logs: 1.log, line 2: this is not an entry: 'dlv r4.1 4.1#1 ', with a blank at its end (such as dlv "),
@@ -286,6 +295,49 @@ def try_no_file(make, _program):
     return None if came == process.Answer(1, b'', b'logs: 1.log is not a file\n') else 'came: %s' % came
 
 
+# What contents are that are no text, and what is said of them.
+CONTENTS = {
+    'is compressed (gzip): unpack it first': gzip.compress(b'conf r4.1 1\n'),
+    'is compressed (xz): unpack it first': lzma.compress(b'conf r4.1 1\n'),
+    'is compressed (zstd): unpack it first': b'\x28\xb5\x2f\xfd\x04\x58\x61\n',
+    'is compressed (bzip2): unpack it first': bz2.compress(b'conf r4.1 1\n'),
+    'begins with a byte order mark: save it without one': b'\xef\xbb\xbfconf r4.1 1\n',
+    'is in UTF-16: save it in ASCII': 'conf r4.1 1\n'.encode('utf-16'),
+}
+
+
+def try_content(content, said, _program):
+    """A log that is no text is named, and so is a run that `tools/shrink` can't read for that."""
+    with tempfile.TemporaryDirectory() as folder:
+        path = os.path.join(folder, '1.log')
+        with open(path, 'wb') as it:
+            it.write(content)
+        came = [join((), folder), process.run([os.path.join(os.path.dirname(TOOL), 'shrink'), '--program', '/bin/true', path])[0]]
+    wanted = [process.Answer(1, b'', b'%s: %s %s\n' % (tool, name.encode(), said.encode())) for tool, name in ((b'logs', '1.log'), (b'shrink', path))]
+    return None if came == wanted else 'came: %s\n  wanted: %s' % (came, wanted)
+
+
+def try_beside(_program):
+    """A packed copy of a log that is there is only told."""
+    came = join_files('', {**ONE, '1.log.gz': 'x'})
+    told = b"logs: not read, since their names do not end with .log: '1.log.gz'\n"
+    return None if (came.status, came.errors) == (0, told) else 'came: %s' % came
+
+
+def try_inner(_program):
+    """A folder of folders names them, and a run in its place is named."""
+    with tempfile.TemporaryDirectory() as folder:
+        for name in ('sub', 'srp'):
+            os.mkdir(os.path.join(folder, name))
+        told = 'logs: %s has no file P.log or P.L.log. In it are folders, one of which may have them: srp, sub\n' % folder
+        came = join((), folder)
+    if came != process.Answer(1, b'', told.encode()):
+        return 'came: %s' % came
+    path = os.path.join(EXAMPLES, 'first-yes.run')
+    came = join((), path)
+    return None if came.status == 64 and came.errors.endswith(('is a run, made of logs already: ./totem audit < %s\n' % path).encode()) else 'came: %s' % came
+
+
 def try_full_map(_program):
     """If the map can't be written after the run, the status says so, and the message does not blame the logs."""
     came = join(('--map', '/dev/full'), os.path.join(EXAMPLES, 'own-logs'))
@@ -370,6 +422,10 @@ def joined():
     yield 'logs that are too long', try_too_long
     for what, make in (('a pipe', os.mkfifo), ('a device', partial(os.symlink, '/dev/zero')), ('a folder', os.mkdir)):
         yield '%s that is called like a log' % what, partial(try_no_file, make)
+    for said, content in CONTENTS.items():
+        yield 'a log that %s' % said, partial(try_content, content, said)
+    yield 'a packed copy of a log', try_beside
+    yield 'a folder of folders, and a run', try_inner
     yield 'a map on a full device', try_full_map
     for words in ('--nothing', '--fail 1', '--clock times', '--member r4.1=1:1', '--absent 2:1', '--own-order-unknown', '--late-sends',
                   '--table table', '--entries 5', '--cut /', '--cut /no/such/folder --entries 1', '--cut=', '--lives --clock=', '--changes=',

@@ -123,6 +123,8 @@ NOTHING = {
     'lines that are a word': ('--lines all', 64, SPAN),
     'an option that there is not': ('--all', 64, 'play: unrecognized arguments: --all\n'),
     'two files': ('a b', 64, 'play: unrecognized arguments: b\n'),
+    'a line that there is not': ('--lines 500 ' + os.path.join(EXAMPLES, 'broken', '4.script'), 1,
+                                 'play: no command is in --lines 500-500: the commands are in lines 2 to 57\n'),
     'a missing file': ('FOLDER/none', 1, 'play: FOLDER/none: No such file or directory\n'),
     'a folder': ('FOLDER', 1, 'play: FOLDER: Is a directory\n'),
 }
