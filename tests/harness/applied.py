@@ -338,27 +338,3 @@ class Applied:
             lines += [self._line(file, line, version > 1) for line in file.result()]
             lines.append(file.ending)
         return '\n'.join([*lines, 'end', '']).encode()
-
-
-def glue(parts):
-    """The run whose parts these are: each log that goes on begins, in the next part, with the change with which it ended."""
-    first = parts[0].split(b'\n')[0]
-    logs = {}
-    for part in parts:
-        head, *lines = part.split(b'\n')
-        if head != first:
-            raise Unfit('two parts have different versions')
-        log = None
-        for line in lines[:-2]:
-            if line.startswith(b'log '):
-                log = logs.setdefault(line, [])
-                ended = log[-2:]
-                del log[-1:]
-            elif ended:
-                if ended != [line, b'open']:
-                    raise Unfit('%r ends with %r, and goes on with %r' % (log[0], ended, line))
-                ended = []
-            else:
-                log.append(line)
-    by_process = sorted(logs, key=lambda line: [int(number) for number in line[4:].split(b':')])
-    return b'\n'.join([first, *(line for name in by_process for line in (name, *logs[name])), b'end', b''])
