@@ -43,32 +43,38 @@ class RunWatch(Unwatched):
 
     def __init__(self, span, known, write):
         self.span, self.names, self.write = span, known, write
-        self.lines, self.last_delivery = [], 0
-        self.is_delivered = False
+        # The tick that passes, what happens in it, and the last one in which a message was delivered.
+        self.tick, self.lines, self.last_delivery = 1, [], 0
         # The states of the nodes as they were shown last.
         self.known = {}
+
+    @property
+    def is_shown(self):
+        """Whether this tick is shown."""
+        return not self.span or self.span[0] <= self.tick <= self.span[1]
 
     def saw_fate(self, sender, receiver, packet, copies):
         """A packet that is lost, comes twice, or is held."""
         fate = _fate_text(copies)
-        if fate:
+        if fate and self.is_shown:
             self.lines.append('%d -> %d: %s: %s' % (sender, receiver, packet_text(packet), fate))
 
     def saw_step(self, node, given, done):
         """What a node makes of a packet or another input."""
-        entries = [] if isinstance(done, str) else [entry_line(entry, 1) for entry in done.entries]
-        self.is_delivered |= any(entry.startswith('dlv ') for entry in entries)
-        answer = 'refused, ' + done if isinstance(done, str) else '; '.join([done.what, *entries])
+        entries = [] if isinstance(done, str) else done.entries
+        if any(entry[0] == 'dlv' for entry in entries):
+            self.last_delivery = self.tick
+        if not self.is_shown:
+            return
+        answer = 'refused, ' + done if isinstance(done, str) else '; '.join([done.what, *(entry_line(entry, 1) for entry in entries)])
         self.lines.append('%d <- %s: %s' % (node.me, given if isinstance(given, str) else packet_text(given), answer))
 
     def saw_tick(self, network, number):
         """Writes a tick in which anything happened."""
-        lines, self.lines = self.lines, []
-        if self.is_delivered:
-            self.last_delivery, self.is_delivered = number, False
-        if lines and (not self.span or self.span[0] <= number <= self.span[1]):
+        if self.lines:
             new = states(network.scene.actors, 1, self.names, self.known)
-            self.write('\n'.join(['tick %d:' % number, *('  ' + line for line in [*lines, *new]), '', '']))
+            self.write('\n'.join(['tick %d:' % number, *('  ' + line for line in [*self.lines, *new]), '', '']))
+        self.tick, self.lines = number + 1, []
 
 
 def watch(plan, span, known, write):

@@ -62,6 +62,8 @@ def read_words(words):
         parser.error('--ticks goes with --run; --lines selects lines of a script')
     if asked.run and (asked.file or asked.lines or asked.plain):
         parser.error('--run shows a run: it goes with --ticks and --names alone')
+    if asked.ticks and asked.ticks[0] > asked.run.ticks:
+        parser.error('--ticks %d: the run has %d ticks' % (asked.ticks[0], asked.run.ticks))
     return asked
 
 

@@ -167,6 +167,7 @@ SPAN = 'play: argument --lines: lines are a number of 1 or more, or two, such as
 NOTHING = {
     'a number of nodes that there is not': ('--run=--nodes=33', 64, 'play --run: argument --nodes: 33 is no number from 1 to 32\n'),
     'a run and a file': ('--run=--nodes=3 a', 64, 'play: --run shows a run: it goes with --ticks and --names alone\n'),
+    'ticks after the last one': ('--run=--ticks=80 --ticks 81', 64, 'play: --ticks 81: the run has 80 ticks\n'),
     'ticks of a script': ('--ticks 5 a', 64, 'play: --ticks goes with --run; --lines selects lines of a script\n'),
     'line 0': ('--lines 0', 64, SPAN),
     'lines that go back': ('--lines 7-6', 64, SPAN),
