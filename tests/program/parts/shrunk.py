@@ -1,6 +1,7 @@
 """Broken runs made small by `tools/shrink`, and looked for by `tools/hunt`."""
 import hashlib
 import os
+import re
 import signal
 import subprocess
 import tempfile
@@ -171,6 +172,8 @@ conf r8.2 2
 open
 end
 """
+# The same with names so long that a reason takes two lines of an explanation.
+LONG_PARTED = re.sub(rb'(\d)\.(\d)', rb'400000000\1.4000\2', re.sub(rb'(\d)(?=:1)|(?<=/)(\d)', rb'4000\1\2', PARTED))
 YES = b'totem-run 1\nlog 1\nconf r4.1 1\nopen\nend\n'
 # What is refused: the arguments, the input, and the message.
 REFUSED = {
@@ -293,6 +296,8 @@ def shrunk():
     yield 'a delivery astray for the same reason', partial(try_shrunk, ['--same-places'], ASTRAY, SAME_ASTRAY, b'  Process 1 was in r4.1 then.\n')
     yield 'a delivery that is missing for the same reason', partial(
         try_shrunk, ['--same-places'], PARTED, SMALL_PARTED, b'  Process 2 did not deliver 4.1#1: it went on to r8.2 (2@3).\n')
+    yield 'a delivery that is missing for the same reason, with long names', partial(
+        try_shrunk, ['--same-places'], LONG_PARTED, SMALL_PARTED, b'  Process 2 did not deliver 4.1#1: it went on to r8.2 (2@3).\n')
     yield 'a message that was sent elsewhere', partial(try_story, [], ELSEWHERE, SMALL_ELSEWHERE, NEW_NAMES)
     yield 'a message that was sent elsewhere, with its names', partial(try_story, ['--keep-names'], ELSEWHERE, KEPT_ELSEWHERE, b'')
     nowhere = ELSEWHERE.replace(b'send r8.3 a 8.3#33\n', b'')
