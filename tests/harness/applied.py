@@ -9,6 +9,7 @@ FORMS = {name: re.compile(form) for name, form in {
     'afterwards': r'(\S+\.log), line (\d+): left out of all logs: (.*)',
     'trimmed': r'(\S+\.log), after line (\d+): left out',
     'log': r'(\S+\.log): left out',
+    'made up': r'(\S+\.log), made up: ((?:conf|send|dlv) .*)',
     'moved': r'(\S+\.log), line (\d+): moved to just before line (\d+), as (send \S+ [as] \S+): (.*)',
     'moved to the end': r'(\S+\.log), line (\d+): moved to the end, as (send \S+ [as] \S+): (.*)',
     'inserted': r'(\S+\.log), line (\d+): (conf t\S+ .*) is added before it',
@@ -66,6 +67,9 @@ class File:
     inserted: dict = field(default_factory=dict)
     inserted_now: dict = field(default_factory=dict)
     is_left_out: bool = False
+    # Whether there is no such file, and whether the log was ever quiet.
+    is_made_up: bool = False
+    was_quiet: bool = False
 
     def line(self, number):
         """A line by its number."""
@@ -141,7 +145,8 @@ def read_file(name, text):
     elif any(line.startswith('fail ') for line in (lines[-2:-1] if is_torn else lines[-1:])):
         ending = 'failed'
     now = [Line(number, line) for number, line in enumerate(lines, 1)]
-    return File(name, int(found[1]), int(found[2]) if found[2] else None, lines, is_torn, ending, now, now[:-1] if is_torn else list(now))
+    return File(name, int(found[1]), int(found[2]) if found[2] else None, lines, is_torn, ending, now, now[:-1] if is_torn else list(now),
+                was_quiet=ending == 'quiet')
 
 
 class Applied:
@@ -149,6 +154,7 @@ class Applied:
 
     def __init__(self, files, changes, adds_lives):
         self.files = {name: read_file(name, text) for name, text in files.items() if name.endswith('.log')}
+        self.there = set(self.files)
         self.adds_lives = adds_lives
         self.lives, self.processes, self.rings = {}, {}, {}
         self.changes = []
@@ -201,6 +207,15 @@ class Applied:
 
     def _take_log(self, name):
         self._file(name).is_left_out = True
+
+    def _take_made_up(self, name, text):
+        file = self.files.setdefault(name, read_file(name, ''))
+        if not file.is_made_up and (name in self.there or file.added):
+            raise Unfit('%s is made up, and there is such a file' % name)
+        file.is_made_up = True
+        file.lines.append(text)
+        file.now.append(Line(len(file.lines), text))
+        file.first.append(Line(len(file.lines), text))
 
     def _take_moved(self, name, number, before, new, text):
         self._move(name, number, int(before), new, text)
@@ -258,6 +273,7 @@ class Applied:
         if file.ending != old:
             raise Unfit('%s is %s, not %s' % (name, file.ending, old))
         file.ending = new
+        file.was_quiet |= new == 'quiet'
 
     def _take_member(self, configuration, member, process, life):
         if member != process or self.lives.setdefault((configuration, member), life) != life:
@@ -322,27 +338,3 @@ class Applied:
             lines += [self._line(file, line, version > 1) for line in file.result()]
             lines.append(file.ending)
         return '\n'.join([*lines, 'end', '']).encode()
-
-
-def glue(parts):
-    """The run whose parts these are: each log that goes on begins, in the next part, with the change with which it ended."""
-    first = parts[0].split(b'\n')[0]
-    logs = {}
-    for part in parts:
-        head, *lines = part.split(b'\n')
-        if head != first:
-            raise Unfit('two parts have different versions')
-        log = None
-        for line in lines[:-2]:
-            if line.startswith(b'log '):
-                log = logs.setdefault(line, [])
-                ended = log[-2:]
-                del log[-1:]
-            elif ended:
-                if ended != [line, b'open']:
-                    raise Unfit('%r ends with %r, and goes on with %r' % (log[0], ended, line))
-                ended = []
-            else:
-                log.append(line)
-    by_process = sorted(logs, key=lambda line: [int(number) for number in line[4:].split(b':')])
-    return b'\n'.join([first, *(line for name in by_process for line in (name, *logs[name])), b'end', b''])

@@ -58,6 +58,8 @@ class Recording:
         if self.chance(20):
             self.cut_tails()
         lost = [self.logs.pop(draw.randrange(len(self.logs)))] if self.chance(12) and len(self.logs) > 1 else []
+        if lost and self.chance(60):
+            recorders.make_up(self, lost[0], Names.lives if self.has_lives or self.is_without_lives else Names.processes)
         if self.is_without_lives:
             self.say_lives(lost)
         large = draw.choice(((True, True), (True, False), (False, True))) if self.chance(12) else (False, False)

@@ -11,7 +11,7 @@ from contextlib import redirect_stderr, redirect_stdout
 from typing import NamedTuple
 
 from harness import process, recorded, told
-from harness.applied import Applied, Unfit, glue, read_file
+from harness.applied import Applied, Unfit, read_file
 from harness.folders import Recording
 from harness.lines import entries_of
 from harness.own_sends import OwnSends
@@ -223,6 +223,30 @@ class Case:
     def _of_verdict(verdict):
         if verdict[0] == 'refused' and not all(any(word in why for word in MAY_BE_REFUSED) for why in verdict[1:]):
             yield 'the auditor refuses the run'
+
+
+def glue(parts):
+    """The run whose parts these are: each log that goes on begins, in the next part, with the change with which it ended."""
+    first = parts[0].split(b'\n')[0]
+    logs = {}
+    for part in parts:
+        head, *lines = part.split(b'\n')
+        if head != first:
+            raise Unfit('two parts have different versions')
+        log = None
+        for line in lines[:-2]:
+            if line.startswith(b'log '):
+                log = logs.setdefault(line, [])
+                ended = log[-2:]
+                del log[-1:]
+            elif ended:
+                if ended != [line, b'open']:
+                    raise Unfit('%r ends with %r, and goes on with %r' % (log[0], ended, line))
+                ended = []
+            else:
+                log.append(line)
+    by_process = sorted(logs, key=lambda line: [int(number) for number in line[4:].split(b':')])
+    return b'\n'.join([first, *(line for name in by_process for line in (name, *logs[name])), b'end', b''])
 
 
 class Judged(NamedTuple):

@@ -1,6 +1,7 @@
 """What `tools/logs join` promises of first lines, of changes that are told late, of logs that end early and of torn ends, worked out by loops of its own
 over the logs of a folder."""
 from harness.lines import configuration_of, entries_of, is_send, message_of
+from harness.made_up import MadeUp
 from harness.recordings import is_regular
 
 # The options that first lines ask for, and those that take their place.
@@ -179,13 +180,16 @@ class Ended:
 
 
 class Torn:
-    """The sends that torn logs get. `names` are the files of these logs."""
+    """The sends that torn logs get, and those that are made up. `names` are the files of the torn ones, and of those that failed before they
+    delivered anything."""
 
-    def __init__(self, applied, names):
+    def __init__(self, applied, names, made_up):
         self.files = applied.files
         self.names = names
-        self.sends = {name: [message_of(line) for line in entries_of(file) if is_send(line)] for name, file in self.files.items()}
-        self.stays = [stay for file in self.files.values() for stay in stays_of(file, [line for line in file.first if line.text])]
+        self.made_up = made_up
+        self.sends = {name: [message_of(line) for line in entries_of(file) if is_send(line)] for name, file in self.files.items()
+                      if not file.is_made_up}
+        self.stays = [stay for file in self.files.values() if not file.is_made_up for stay in stays_of(file, [line for line in file.first if line.text])]
 
     def _lost(self, name):
         """What nobody sends and some log delivers where this one ends, in the order in which it is added."""
@@ -216,20 +220,27 @@ class Torn:
 
     def wanted(self):
         """By file, the messages whose sends are added; None if the logs are to be refused."""
-        can = {name: [message for message in self._lost(name) if self._may_have_sent(name, message)] for name in self.names}
+        lost = {name: self._lost(name) for name in self.names}
+        sent = {message for messages in self.sends.values() for message in messages}
+        lost.update({name: [message for message in self.made_up.may_have_sent(name) if message not in sent] for name in self.made_up.copies})
+        can = {name: [message for message in messages if self._may_have_sent(name, message)] for name, messages in lost.items()}
         everything = sum(can.values(), [])
         return can if len(everything) == len(set(everything)) else None
 
 
 def torn(applied, words):
-    """What is wrong with the sends that torn logs get."""
+    """What is wrong with the sends that torn logs get, and with logs that are made up."""
     named = {who for word, value in zip(words, words[1:]) if word == '--torn' for who in value.split(',')}
     files = [name for name, file in applied.files.items() if {str(file.process), '%d:%d' % (file.process, file.life or 1)} & named]
-    wanted = Torn(applied, files).wanted()
+    made_up = MadeUp(applied, words)
+    wanted = Torn(applied, [*files, *made_up.failed], made_up).wanted()
     if wanted is None:
-        yield 'two torn logs may have sent a message, and that is not refused'
+        yield 'two logs may have sent a message, and that is not refused'
         return
+    yield from made_up.wrongs(wanted)
     for name, file in applied.files.items():
+        if name in made_up.copies:
+            continue
         sends = [message_of(line) for line in file.ever_added if is_send(line)]
         if sends != wanted.get(name, []):
             yield '%s gets the sends %r, and should get %r' % (name, sends, wanted.get(name, []))

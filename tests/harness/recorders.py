@@ -107,6 +107,16 @@ def tear(recording, name):
     recording.words += ['--torn', lambda names: name(names, chosen)]
 
 
+def make_up(recording, lost, name):
+    """The call says what the process did whose log is lost, or rarely says it of another one, or of two. `name` writes a list of them."""
+    draw = recording.draw
+    for log in [lost, *([draw.choice(recording.logs)] if recording.chance(5) else [])]:
+        other = draw.choice(recording.logs).who
+        how = 'failed-before' if recording.chance(40) else None
+        recording.words += ['--made-up', lambda names, log=log, how=how, other=other: '%s=%s' % (
+            name(names, [log.who]), how or 'as-' + name(names, [other]))]
+
+
 def say_first(recording):
     """The logs say in their first lines how they were recorded, mostly all the same; and the caller says it, too, or not. Returns the lines."""
     draw, words = recording.draw, recording.words

@@ -8,7 +8,7 @@ from harness.recordings import is_regular
 
 # Which kinds of changes an option allows; without an option only a last line that is cut off is left out, and a log without an entry.
 ALLOWED = {'moved': '--own-sends', 'moved to the end': '--own-sends', 'line': '--own-sends', 'trimmed': '--trim', 'inserted': '--transitional',
-           'earlier': '--late-changes', 'inserted earlier': '--late-changes', 'later': '--late-changes', 'added no more': '--trim',
+           'made up': '--made-up', 'earlier': '--late-changes', 'inserted earlier': '--late-changes', 'later': '--late-changes', 'added no more': '--trim',
            'afterwards': '--early-ends', 'member': '--lives', 'process': '--renumber', 'ring': '--renumber'}
 
 
@@ -39,7 +39,8 @@ def _named(words, option):
 
 def endings_not_asked_for(applied, words):
     """Logs that end in another way than their files and the call say."""
-    torn, quiet = _named(words, '--torn'), _named(words, '--quiet')
+    quiet = _named(words, '--quiet')
+    torn = _named(words, '--torn') | {who.partition('=')[0] for who in _named(words, '--made-up') if who.endswith('=failed-before')}
     failed = _named(words, '--failed') | torn
     for kind, found in applied.changes:
         if kind not in ('added', 'ending'):
@@ -73,6 +74,10 @@ def untold(applied, errors):
             if has_line(errors, found[1] + ': transitional configurations that are assumed', configuration_of(found[3])):
                 continue
             parts = [found[1], 'transitional configurations that are assumed', '..']
+        elif kind == 'made up':
+            parts = [found[1] + ' is made up'] + ([message_of(found[2])] if is_send(found[2]) else [])
+            if not has_line(errors, *parts):
+                parts[1:] = ['..']
         elif kind in ('added', 'added no more') and is_send(found[2]):
             if has_line(errors, found[1] + ': sends that are added', message_of(found[2])):
                 continue

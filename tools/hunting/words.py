@@ -84,9 +84,7 @@ def _hunt(asked):
 
 def _written(is_written):
     """The status of what was written."""
-    if not is_written:
-        streams.say('hunt: write failed')
-    return 0 if is_written else 4
+    return 0 if is_written else streams.unwritten('hunt')
 
 
 def main(words):

@@ -58,7 +58,7 @@ WHERE = """Finds the line of a log from which an entry of a run came, with the t
     ./totem audit < my.run                            (it says, for example, fault 1.4 2:1@1543 2:1@1577)
     tools/logs where my.map 2:1@1543 2:1@1577
 
-For a send that --own-sends moved this is the line in which it was recorded. An entry that --failed, --torn or --transitional
+For a send that --own-sends moved this is the line in which it was recorded. An entry that --failed, --torn, --made-up or --transitional
 added has no line."""
 NAME = """Puts the names of nodes beside the numbers of processes in an explanation on standard input:
 
@@ -77,6 +77,9 @@ def _add_words_of_ends(join):
     join.add_argument('--torn', action='append', metavar='LIST',
                       help='the last lines of the logs of these processes are lost, as after a power failure: their logs get a `send` for each '
                       'message that no log sends and others delivered in the configuration in which the log ends, and `fail`')
+    join.add_argument('--made-up', action='append', metavar='P=HOW',
+                      help='there is no log of process P (P:L with lives), and one is made up: with 3=failed-before it failed before it delivered '
+                      'anything, with 3=as-2 it did what 2 did. Its messages are those that no log sends')
     join.add_argument('--quiet', action='append', metavar='LIST',
                       help='for these nothing more was to come (they were shut down cleanly): their logs are closed as quiet. '
                       '`all` are those that did not fail')
@@ -183,10 +186,16 @@ def _check_files(join, asked):
         join.error('%s is there already: --cut makes a new folder' % asked.cut)
 
 
+def _begins_as_run(path):
+    with open(path, 'rb') as it:
+        return it.read(10) == b'totem-run '
+
+
 def _check_join(join, asked):
     """Refuses arguments of `join` that do not go together."""
     if not os.path.isdir(asked.folder):
-        join.error('%s is not a folder' % asked.folder)
+        is_run = os.path.isfile(asked.folder) and _begins_as_run(asked.folder)
+        join.error('%s is %s' % (asked.folder, 'a run, made of logs already: ./totem audit < ' + asked.folder if is_run else 'not a folder'))
     for pattern in asked.pattern or ():
         if not folder.is_pattern(pattern):
             join.error('--pattern %s: a pattern is the name of a file, with {P} for the process and perhaps {L} for the life, such as node{P}.log '

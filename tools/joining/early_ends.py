@@ -143,9 +143,9 @@ def leave_out(logs, members, working, scan_words, changes):
     return [_without(log, senders, working, scan_words, changes) for log in logs]
 
 
-def _first_of(log, logs, members):
-    """The first change to a regular configuration that lists a process, by the logs of others; None if there is none."""
-    ways = [[change for change in other.changes if change.configuration.startswith(b'r') and members.lists(other, change, log)] for other in logs]
+def first_listed(logs, lists):
+    """The first change to a regular configuration of which `lists` says, by log and change, that it lists a process; None if there is none."""
+    ways = [[change for change in log.changes if change.configuration.startswith(b'r') and lists(log, change)] for log in logs]
     firsts = {way[0].configuration: way[0] for way in ways if way}
     later = {change.configuration for way in ways for change in way[1:]}
     return next((change for name, change in firsts.items() if name not in later), next(iter(firsts.values()), None))
@@ -153,8 +153,7 @@ def _first_of(log, logs, members):
 
 def _begun(log, change, changes):
     """Lets a log that has no entry get a change and the failure there."""
-    listed = b' '.join(b'%d' % process if life is None else b'%d:%d' % (process, life) for process, life in change.members)
-    lines = [b'conf %s %s' % (change.configuration, listed), b'fail %s' % change.configuration]
+    lines = [change.line, b'fail %s' % change.configuration]
     log.last, log.added = change.configuration, b''.join(line + b'\n' for line in lines)
     for line in lines:
         changes.add('%s, end: %s is added' % (log.name, line.decode()))
@@ -166,7 +165,7 @@ def begin(silent, logs, members, changes):
     """Lets logs without an entry begin where others list them first, and leaves out those that nobody lists. Returns all logs as they are now."""
     begun = []
     for log in silent:
-        change = _first_of(log, logs, members)
+        change = first_listed(logs, lambda other, listing, log=log: members.lists(other, listing, log))
         if change:
             _begun(log, change, changes)
             begun.append(log)

@@ -98,7 +98,7 @@ def flaw(line, is_numbered_anew):
     example = _EXAMPLES.get(line.split(b' ')[0].rstrip(b'\n'))
     if example:
         return 'this is not an entry: %s (such as %s)' % (shown(line), example)
-    return 'this is not an entry: %s (a line begins with conf, send, dlv or fail)' % shown(line)
+    return 'this is not an entry: %s (a line begins with conf, send, dlv, fail or quiet)' % shown(line)
 
 
 def flaw_of_members(members):

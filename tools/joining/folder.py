@@ -7,7 +7,8 @@ from typing import NamedTuple, Optional
 
 from joining.entries import MOST_LIFE, MOST_PROCESS
 from joining.line_numbers import LineNumbers
-from joining.trouble import Refused, tell
+from joining.trouble import Refused, some, tell
+from running import texts
 
 # How files of logs are called if no pattern says so.
 PATTERNS = ('{P}.log', '{P}.{L}.log')
@@ -23,6 +24,12 @@ class Change(NamedTuple):
     before: int
     configuration: bytes
     members: tuple
+
+    @property
+    def line(self):
+        """The line, without its line end."""
+        return b' '.join([b'conf', self.configuration, *(b'%d' % process if life is None else b'%d:%d' % (process, life)
+                                                         for process, life in self.members)])
 
 
 @dataclass
@@ -43,7 +50,7 @@ class Log:
     changes: list = field(default_factory=list)
     # What an argument adds after its entries.
     added: bytes = b''
-    # The log's own file, as opposed to one for temporary use, and when it was last written, in nanoseconds.
+    # The log's own file, as opposed to one for temporary use, and when it was last written, in nanoseconds. A log that is made up has none.
     file: str = ''
     written: int = 0
     # Which line of that file each entry is, and a file with the times of these lines, if there are any (joining.lines).
@@ -55,6 +62,11 @@ class Log:
     def line_of(self, entry):
         """The line of an entry in the log's own file."""
         return self.lines.of(entry)
+
+    @property
+    def is_made_up(self):
+        """Whether the call says what is in it."""
+        return not self.file
 
     def end_as(self, ending, changes):
         """Closes the log in another way."""
@@ -99,9 +111,18 @@ def _last_line_end(it, size):
     return 0
 
 
+def _check_front(log, front):
+    """Refuses what is no log, by its first bytes."""
+    if texts.flaw_of(front):
+        raise Refused('%s %s' % (log.name, texts.flaw_of(front)))
+    if front.startswith(b'totem-ru'):
+        raise Refused('%s is a run, made of logs already: ./totem audit < %s' % (log.name, log.path))
+
+
 def measure(log):
     """Finds where the entries of a log end, and whether it says that it is quiet. Returns what was cut off behind its last line."""
     with open(log.path, 'rb') as it:
+        _check_front(log, it.read(texts.FRONT))
         status = os.fstat(it.fileno())
         log.file = log.path
         log.written, size = status.st_mtime_ns, status.st_size
@@ -152,9 +173,14 @@ def _names(folder, patterns):
         files = sorted(name for name in os.listdir(folder) if '.log' in name)
         names = [name for name in files if name.endswith('.log')]
         what, wanted = 'do not end with .log', 'P.log or P.L.log'
-    if not names:
-        raise Refused('%s has no file %s' % (folder, wanted))
     others = [name for name in files if name not in names]
+    for name in others:
+        unpacked, suffix = os.path.splitext(name)
+        if suffix in texts.SUFFIXES and unpacked not in names and fits(unpacked, patterns):
+            raise Refused(name + ' ' + texts.UNPACK % texts.SUFFIXES[suffix])
+    if not names:
+        inner = sorted(name for name in os.listdir(folder) if os.path.isdir(os.path.join(folder, name)))
+        raise Refused('%s has no file %s%s' % (folder, wanted, '. In it are folders, one of which may have them: %s' % some(inner) if inner else ''))
     if others:
         tell('not read, since their names %s: %s' % (what, ', '.join(map(repr, others))))
     return names

@@ -230,6 +230,8 @@ class Lives:
         lines += ['There is no log of %s: if it was a member of no configuration, say --absent %s' % (
             _listed(process, lost), _ranges(process, lost))
             for process, lost in self._lost() if any(process == other for _, other in self.unknown)]
+        lines += ['If you know what %d did, --made-up %d:1=failed-before or --made-up %d:1=as-Q:1 makes up a log (docs/OWN-LOGS.md#a-lost-log)' % (
+            process, process, process) for process in list(first)[:1]]
         raise Refused('\n  '.join(lines))
 
     def listed(self):

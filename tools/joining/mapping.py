@@ -10,7 +10,8 @@
 A log of the run has a line with its process, as the run names it, the CRC-32 of its entries in the run, and its file. The lines after it have
 its entries in their order: the entries from the first number to the second one are lines in a row of that file, from the third number on. A
 single entry may have the time of its line after it. `added` is an entry that no line has (--failed, --torn), `added 7` one that was added before
-line 7 (--transitional). If the logs are cut into several runs, each begins with a line `run part-1.run`."""
+line 7 (--transitional). All entries of a log that --made-up makes up are `1-12 made up`. If the logs are cut into several runs, each begins with a
+line `run part-1.run`."""
 import mmap
 import os
 
@@ -36,6 +37,10 @@ def _rows_with_times(part):
 
 def _rows(part):
     """The rows of the entries of a part of a log, in the numbers of the part."""
+    added = part.log.added.count(b'\n') if part.is_last else 0
+    if part.log.is_made_up:
+        yield b'1-%d made up\n' % (part.last - part.first + 1 + added)
+        return
     if part.log.times:
         rows = _rows_with_times(part)
     else:
@@ -45,7 +50,7 @@ def _rows(part):
         numbers = b'%d' % (first - before) if first == last else b'%d-%d' % (first - before, last - before)
         how = b'added ' if first in part.log.lines.added else b''
         yield b'%s %s%d%s\n' % (numbers, how, line, time)
-    for number in range(part.log.added.count(b'\n') if part.is_last else 0):
+    for number in range(added):
         yield b'%d added\n' % (part.last - before + 1 + number)
 
 

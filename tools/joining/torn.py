@@ -1,4 +1,5 @@
-"""Logs whose tails a power failure took: the sends that other logs prove are added at their ends, and `fail`."""
+"""Logs whose tails a power failure took: the sends that other logs prove are added at their ends, and `fail`. Logs that are made up get theirs by
+the same rule."""
 import re
 
 from joining.endings import logs_of
@@ -57,13 +58,16 @@ def _sender(message, claiming, senders):
     elif named is not None:
         claiming = [log for log in claiming if not senders.has_sent(log, message)]
     if len(claiming) > 1:
-        raise Refused('%s: nobody sends it, both %s and %s may have, and its name does not say who: say --torn of one, and --failed of the other' % (
-            message.decode(), claiming[0].name, claiming[1].name))
+        way = '' if any(log.is_made_up for log in claiming) else ': say --torn of one, and --failed of the other'
+        raise Refused('%s: nobody sends it, both %s and %s may have, and its name does not say who%s' % (
+            message.decode(), claiming[0].name, claiming[1].name, way))
     return claiming[0] if claiming else None
 
 
 def _check(log):
     """Refuses a log that can't have lost its tail."""
+    if log.is_made_up:
+        raise Refused('%s is made up, and the call says that its end was torn off' % log.name)
     if log.ending == 'failed':
         raise Refused('%s ends with fail, and the call says that its end was torn off' % log.name)
     if log.ending == 'quiet':
@@ -88,18 +92,28 @@ def _mend(log, added, others, changes):
     log.end_as('failed', changes)
 
 
-def mend(logs, words, changes):
-    """Adds to the logs that the call names what other logs prove that they sent last, and that they failed."""
-    torn = logs_of(words, logs)
+def _torn(words, logs):
+    """The logs of which the call says that they lost their tails."""
+    torn = logs_of(words, logs) if words else []
     for log in torn:
         _check(log)
+    return torn
+
+
+def mend(logs, words, made_up, changes):
+    """Adds to the logs that the call names, and to those that are made up, what other logs prove that they sent. Those that are no copies get it
+    at their ends, and fail."""
+    torn = [*_torn(words, logs), *(made_up.failed if made_up else ())]
     there, senders = regular_stays(logs), Senders(logs)
-    claims = [(log, [name for name in _lost_in(there.get(log.last, ())) if name not in senders.sent]) for log in torn]
+    claims = [*((log, _lost_in(there.get(log.last, ()))) for log in torn), *(made_up.may_have_sent() if made_up else ())]
+    claims = [(log, [name for name in messages if name not in senders.sent]) for log, messages in claims]
     claiming = {}
     for log, messages in claims:
         for message in messages:
             claiming.setdefault(message, []).append(log)
     sender = {message: _sender(message, those, senders) for message, those in claiming.items()}
-    for log, messages in claims:
-        added = [message for message in messages if sender[message] is log]
-        _mend(log, added, [message for message in messages if sender[message] is None], changes)
+    sent = {log.name: [message for message in messages if sender[message] is log] for log, messages in claims}
+    for log, messages in claims[:len(torn)]:
+        _mend(log, sent[log.name], [message for message in messages if sender[message] is None], changes)
+    if made_up:
+        made_up.finish(sent)

@@ -55,9 +55,3 @@ def tell_holes(name, lost):
     if lost:
         tell('warning: %s: of the sends that are left out, those of messages after which it sends one that was delivered: %d (%s). The layer took '
              'the messages and lost them, and the verdict may be yes nevertheless' % (name, len(lost), some(lost)))
-
-
-def tell_by_recording():
-    """Says what --own-sends leaves no log to break."""
-    tell('since sends stand at their own deliveries, these hold by the way of recording alone, whatever the layer did: 1.3 for the messages that a '
-         'process itself delivers, and 3, but for messages that others delivered and their sender did not')

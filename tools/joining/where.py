@@ -9,19 +9,22 @@ from joining.trouble import Refused, shown
 PLACE = re.compile(r'([1-9][0-9]{0,19}(?::[1-9][0-9]{0,4})?)@([1-9][0-9]{0,9})')
 RUN = re.compile(rb'run part-([1-9][0-9]{0,9})\.run')
 LOG = re.compile(rb'log ([1-9][0-9]{0,19}(?::[1-9][0-9]{0,4})?) ([0-9a-f]{8}) (.+)')
-ROW = re.compile(rb'([1-9][0-9]{0,9})(?:-([1-9][0-9]{0,9}))? (?:([1-9][0-9]{0,19})(?: ([0-9][0-9T.:Z+-]*))?|added(?: ([1-9][0-9]{0,19}))?)')
+ROW = re.compile(rb'([1-9][0-9]{0,9})(?:-([1-9][0-9]{0,9}))? (?:([1-9][0-9]{0,19})(?: ([0-9][0-9T.:Z+-]*))?|added(?: ([1-9][0-9]{0,19}))?|(made up))')
 
 
 class Origin(NamedTuple):
     """The file of an entry, its line there, or None if join added the entry, and the time of the line, which may be empty. `before`: the line
-    before which the entry was added, or None if that is after the last one."""
+    before which the entry was added, or None if that is after the last one. `is_made_up`: there is no such file."""
 
     file: str
     line: Optional[int]
     time: str
     before: Optional[int] = None
+    is_made_up: bool = False
 
     def __str__(self):
+        if self.is_made_up:
+            return 'made up by join: there is no %s' % self.file
         if self.line is None:
             where = 'after the last line' if self.before is None else 'before line %d' % self.before
             return 'added by join %s of %s' % (where, self.file)
@@ -54,7 +57,9 @@ class Map:
         self.log = None
         self._read()
         self._check_part()
-        for place in places:
+        # The places as the run writes them: with the life of a process that has one.
+        self.places = [self._with_life(place) for place in places]
+        for place in self.places:
             if place not in self.origins:
                 self._refuse_place(place)
 
@@ -97,6 +102,19 @@ class Map:
             self.refuse(number, 'this line does not belong here: %s' % shown(line))
         return False
 
+    def wanted_of(self, who):
+        """The entries of a log that are wanted, also by its process without its life."""
+        return self.wanted.get(who, set()) | self.wanted.get(who.partition(':')[0], set())
+
+    def _with_life(self, place):
+        who, _, entry = place.partition('@')
+        lives = [log for log in self.chosen if log.startswith(who + ':')]
+        if who in self.chosen or not lives:
+            return place
+        if len(lives) > 1:
+            raise Refused('%s has several lives of %s, so say which one: %s@%s' % (self.path, who, ('@%s or ' % entry).join(lives), entry))
+        return '%s@%s' % (lives[0], entry)
+
     def _is_chosen(self):
         return not self.parts or self.parts == self.part
 
@@ -110,20 +128,21 @@ class Map:
 
     def _take_row(self, number, row):
         log, first, last = self.log, int(row[1]), int(row[2] or row[1])
-        is_behind = not row[3] and not row[5]
+        is_behind = not row[3] and not row[5] and not row[6]
         if first != log.entries + 1 or last < first or log.has_added and not is_behind:
             self.refuse(number, 'the entries of log %s are not in their order' % log.who)
-        if row[2] and (row[4] or not row[3]):
+        if row[2] and (row[4] or not row[3] and not row[6]):
             self.refuse(number, 'this line does not belong here: %s' % shown(row[0]))
         log.entries, log.has_added = last, is_behind
         if self._is_chosen():
-            wanted = self.wanted.get(log.who, ())
+            wanted = self.wanted_of(log.who)
             for entry in wanted if len(wanted) < last - first else range(first, last + 1):
                 if first <= entry <= last and entry in wanted:
                     if row[4] and instant(row[4]) is None:
                         self.refuse(number, 'this is no time: %s' % shown(row[4]))
                     line = int(row[3]) + entry - first if row[3] else None
-                    self.origins['%s@%d' % (log.who, entry)] = Origin(log.file, line, (row[4] or b'').decode(), int(row[5]) if row[5] else None)
+                    before = int(row[5]) if row[5] else None
+                    self.origins['%s@%d' % (log.who, entry)] = Origin(log.file, line, (row[4] or b'').decode(), before, bool(row[6]))
 
     def _check_part(self):
         if self.parts and not self.part:
@@ -162,7 +181,7 @@ class Run:
                     who, count, own = line[4:].strip().decode('ascii', 'replace'), 0, 0
                     log = self._log(who, number)
                     there.add(who)
-                    wanted = self.known.wanted.get(who, ())
+                    wanted = self.known.wanted_of(who)
                 elif b' ' in line and log:
                     count, own = count + 1, crc32(line, own)
                     if count in wanted:
@@ -189,4 +208,5 @@ def find(asked):
     """The lines that say where the places are that the arguments name."""
     known = Map(asked.map, asked.part, asked.places)
     run = Run(asked.run, known) if asked.run else None
-    return ['%s%s: %s%s' % (place, asked.names.beside(place.partition('@')[0].partition(':')[0]), known.origins[place], ': ' + run.entries[place] if run else '') for place in asked.places]
+    return ['%s%s: %s%s' % (place, asked.names.beside(re.split('[:@]', place)[0]), known.origins[place], ': ' + run.entries[place] if run else '')
+            for place in known.places]

@@ -4,7 +4,7 @@ import shutil
 import sys
 import tempfile
 
-from joining import again, early_ends, endings, folder, mapping, texts, torn, where
+from joining import again, early_ends, endings, folder, made_up, mapping, texts, torn, where
 from joining.arguments import read_words
 from joining.cuts import Cutting, trim
 from joining.entries import MOST_ENTRIES, MOST_LOGS
@@ -16,7 +16,8 @@ from joining.scan import Scan, leave_out
 from joining.sends import move_sends
 from joining.transitional import add_transitional
 from joining.trouble import Changes, Refused, WriteFailed, tell
-from joining.warnings import tell_by_recording, tell_hang
+from joining.warnings import tell_hang
+from joining.worth import tell_worth
 from running import signals, streams
 
 
@@ -29,7 +30,7 @@ class Joining:
         self.numbers = Numbers() if asked.renumber else None
         found = folder.find(asked)
         first_lines = FirstLines(found, asked)
-        keeps = asked.transitional or asked.late_changes or asked.early_ends or asked.torn or asked.lives or asked.own_sends or asked.renumber \
+        keeps = asked.transitional or asked.late_changes or asked.early_ends or asked.torn or asked.made_up or asked.lives or asked.own_sends or asked.renumber \
             or asked.trim or asked.cut or first_lines.ask_for_anything()
         words = {'is_numbered_anew': asked.renumber, 'adds_lives': asked.lives, 'keeps_changes': bool(keeps)}
         scan = Scan(sees=self.numbers.see if self.numbers else None, **words)
@@ -39,10 +40,11 @@ class Joining:
         silent = [log for log in found if not log.entries]
         if not asked.early_ends:
             leave_out(silent, self.changes)
+        self.made_up = made_up.MadeUp(self.logs, found, asked.made_up, Scan(is_known=True, **words), working, self.changes) if asked.made_up else None
         self._end()
         if asked.transitional:
             self.logs = add_transitional(self.logs, working, words, self.changes)
-        self.lives = Lives(self.logs, found, asked) if asked.lives else None
+        self.lives = Lives(self.logs, [*found, *self._made_up()], asked) if asked.lives else None
         if self.lives:
             self.lives.write(self.changes)
         listed = self.lives.listed() if self.lives else scan.listed
@@ -56,19 +58,25 @@ class Joining:
             self.logs = begin_earlier(self.logs, working, words, self.changes)
         if asked.own_sends:
             self.logs = move_sends(self.logs, working, words, asked, self.changes)
-            tell_by_recording()
         if self.numbers:
             self.numbers.settle(self.logs, self.changes)
 
     def _end(self):
-        """Lets logs end as the call says."""
-        if self.asked.torn:
-            torn.mend(self.logs, self.asked.torn, self.changes)
+        """Lets logs end as the call says, and adds those that it makes up."""
+        if self.asked.torn or self.made_up:
+            torn.mend([*self.logs, *(self.made_up.failed if self.made_up else ())], self.asked.torn, self.made_up, self.changes)
+        self.logs = sorted([*self.logs, *self._made_up()], key=lambda log: (log.process, log.life or 1))
         if self.asked.failed:
             endings.fail(self.logs, self.asked.failed, self.changes)
         if self.asked.quiet:
             endings.be_quiet(self.logs, self.asked.quiet, self.changes)
-        tell_hang(self.logs)
+        if self.made_up:
+            self.made_up.check(self.logs)
+        tell_hang([log for log in self.logs if not log.is_made_up])
+
+    def _made_up(self):
+        """The logs that are made up."""
+        return self.made_up.all if self.made_up else []
 
     def _tell_missing(self, listed):
         """Reports all members that have no log, each with the first line that lists it."""
@@ -79,7 +87,9 @@ class Joining:
             tell('there is no log of %s, a member of %s (%s, line %d)' % (
                 process if life is None else '%d:%d' % (process, life), configuration.decode(), log.name, log.line_of(entry)))
         if missing:
-            tell('totem refuses a run that has members without a log (MissingLog)')
+            who = '%d' % missing[0][0] if missing[0][1] is None else '%d:%d' % missing[0]
+            tell('totem refuses a run that has members without a log (MissingLog). If you know what %s did, --made-up %s=failed-before or '
+                 '--made-up %s=as-Q makes up a log (docs/OWN-LOGS.md#a-lost-log)' % (who, who, who))
 
     def life_of(self, log, configuration, process):
         """The life of a member that is written without one."""
@@ -172,9 +182,11 @@ class Joining:
 
 
 def _write_failed(failed):
-    """Reports that a stream failed, or the map, if it can, and returns the status. Nothing more is written."""
+    """Reports that a stream failed, or the map, if it can, and returns the status. Nothing more is written. (Where the reader of the output has
+    gone, that is all it wanted.)"""
     try:
-        tell(str(failed) or 'write failed')
+        if not isinstance(failed.__cause__, BrokenPipeError):
+            tell(str(failed) or 'write failed')
     except WriteFailed:
         pass
     for stream, number in ((sys.stdout, 1), (sys.stderr, 2)):
@@ -216,6 +228,7 @@ def _do(asked):
             return 0
         with tempfile.TemporaryDirectory() as working:
             Joining(asked, working).write()
+            tell_worth(asked)
     except Refused as refused:
         tell(str(refused))
         return 1

@@ -8,6 +8,7 @@ import threading
 import time
 
 from proving.copies import copy_crates, crates_of
+from proving.kit import words_for_anew
 from proving.progress import seconds_of
 from proving.room import free_memory, wanted_mb
 from proving.telling import Unmade

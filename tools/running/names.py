@@ -4,8 +4,9 @@ import re
 
 LINE = re.compile(r'([1-9][0-9]{0,19})[ \t]+(\S.*)')
 NUMBER = r'[1-9][0-9]*(?::[0-9]+)?(?![0-9.:#@])'
-# One process, or a list of several ("processes 4, failures 2" are counts). In a long explanation a list may go on in the next line.
-PROCESSES = re.compile(r'\b[Pp]rocess(?: {n}|es\s+{n}(?:,\s+{n})*\s+and\s+{n})'.format(n=NUMBER))
+# One process, or a list of several ("processes 4, failures 2" are counts); also one that another one waits for. In a long explanation a list may
+# go on in the next line.
+PROCESSES = re.compile(r'\b(?:[Pp]rocess(?: {n}|es\s+{n}(?:,\s+{n})*\s+and\s+{n})|waits\s+for\s+{n})'.format(n=NUMBER))
 # A list in the membership: "r4.1, members 1 2", "  began here: 1 2".
 LIST = re.compile(r'^(?:r\S+, members|  .*:)(?: {n})+$'.format(n=NUMBER), re.MULTILINE)
 # The heading of a column of entries.

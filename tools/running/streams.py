@@ -34,14 +34,27 @@ def say(text, end='\n'):
         give_up(sys.stderr, 2)
 
 
+# Whether the reader of standard output has gone, as `head` does when it has what it wants.
+_is_reader_gone = False
+
+
 def write(content):
     """Writes bytes to standard output. Returns whether all of them were written."""
+    global _is_reader_gone  # pylint: disable=global-statement
     if sys.stdout is None:
         return False
     try:
         sys.stdout.buffer.write(content)
         sys.stdout.buffer.flush()
-    except (OSError, ValueError):
+    except (OSError, ValueError) as error:
+        _is_reader_gone = isinstance(error, BrokenPipeError)
         give_up(sys.stdout, 1)
         return False
     return True
+
+
+def unwritten(tool):
+    """Says that standard output took no more, unless its reader has gone. Returns the status of that."""
+    if not _is_reader_gone:
+        say('%s: write failed' % tool)
+    return 4

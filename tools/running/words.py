@@ -11,8 +11,7 @@ class Words(argparse.ArgumentParser):
     def print_help(self, file=None):
         """Writes the help to standard output."""
         if not streams.write(self.format_help().encode()):
-            streams.say('%s: write failed' % self.prog.split(' ')[0])
-            sys.exit(4)
+            sys.exit(streams.unwritten(self.prog.split(' ')[0]))
 
     def error(self, message):
         streams.say('%s%s: %s' % (self.format_usage(), self.prog, message))

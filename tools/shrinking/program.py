@@ -127,9 +127,9 @@ class Program:
             raise Refused('`%s sim` ended with status %d: %s' % (self.path, answer.status, self._told(answer)))
         return answer.output if answer.status == 0 else None
 
-    def explain(self, text):
-        """The verdict in words."""
-        return self.ask(['explain'], text).output.decode('utf-8', 'replace')
+    def explain(self, text, columns=79):
+        """The verdict in words, in lines of so many columns."""
+        return self.ask(['explain', '--columns', str(columns)], text).output.decode('utf-8', 'replace')
 
     def flaw(self, text, is_script):
         """Why the program refuses a text, in a line."""

@@ -11,6 +11,9 @@ from shrinking.run_text import entry_at, read, write
 KINDS = (leaving_out.processes, leaving_out.configurations, leaving_out.messages, leaving_out.claims, leaving_out.entries,
          leaving_out.members)
 NAME = re.compile(r'[rt]?[0-9][0-9.:#/@]*')
+# What an explanation says of a fault below this heading, up to the next one; in lines so long that no reason is broken where a name is longer.
+REASONS = re.compile(r'\nWhy it is broken:\n((?:  .*\n)*)')
+COLUMNS = 400
 NAMINGS = (naming.of_least_version, naming.with_small_processes, naming.with_small_rings, naming.with_small_messages)
 
 
@@ -36,8 +39,8 @@ def reasons_of(explanation):
     """For each broken specification, the sentences that explain why its first fault breaks it, without names; each once, in no order."""
     told = {}
     for section in explanation.split('\nfault ')[1:]:
-        why = section.partition('\nWhy it is broken:\n')[2].partition('\nThe logs there:\n')[0]
-        told.setdefault(section.split(' ')[0], frozenset(NAME.sub('..', why).splitlines()))
+        why = REASONS.search(section)
+        told.setdefault(section.split(' ')[0], frozenset(NAME.sub('..', why[1]).splitlines()) if why else None)
     return told
 
 
@@ -64,7 +67,7 @@ class Aim:
         return is_sent(run, places[0]) if places else None
 
     def _kinds(self, run, verdict):
-        told, reasons = kinds_of(run, verdict), reasons_of(self.explain(write(run)))
+        told, reasons = kinds_of(run, verdict), reasons_of(self.explain(write(run), COLUMNS))
         return {specification: (told[specification], reasons.get(specification)) for specification in self.broken}
 
     def is_met_by(self, run, verdict):

@@ -3,7 +3,7 @@ import argparse
 import os
 import sys
 
-from running import names, signals, streams
+from running import names, signals, streams, texts
 from running.words import Words
 from shrinking.program import Program, Refused
 from shrinking.runs import RunShrinker
@@ -133,6 +133,8 @@ def _do(asked):
     """Makes the text small, writes the outcome, and only then reports it. Returns the status."""
     program = Program(asked.program, makes_runs=asked.script)
     text = _read_input(asked.file)
+    if texts.flaw_of(text):
+        raise Refused('%s %s' % (asked.file or 'the input', texts.flaw_of(text)))
     if not asked.script and text.startswith(b'totem-script '):
         raise Refused('this is a script: --script makes it small')
     if asked.script and text.startswith(b'totem-run '):
@@ -152,8 +154,7 @@ def _do(asked):
     if why:
         streams.say('shrink: %s; so this is only the smallest that was found until then' % why)
     if not is_written:
-        streams.say('shrink: write failed')
-        return 4
+        return streams.unwritten('shrink')
     return 1 if why else 0
 
 

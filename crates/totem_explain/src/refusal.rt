@@ -70,6 +70,9 @@ const MISTAKEN: [(&[u8], &str); 9] = [
 const CARRIAGE_RETURN: &str =
     "The line ends with a carriage return and a line feed. Here lines end with a line feed alone: `tr -d '\\r' < FILE` leaves the others out.\n";
 
+/// What is said where there is no text at all.
+const NOTHING: &str = "Nothing came: did the command before this one fail?\n";
+
 /// Returns what a table has for a line with this beginning, or `None` if it has nothing.
 fn looked_up(table: &[(&'static [u8], &'static str)], line: &[u8]) -> Option<&'static str> {
     let (_, words) = table.iter().find(|(front, _)| line.starts_with(front))?;
@@ -89,6 +92,9 @@ fn hint(
 ) -> Result<&'static str, AllocError> {
     if place.read.ends_with(b"\r") && place.rest.is_empty() {
         return Ok(CARRIAGE_RETURN);
+    }
+    if matches!(fault, RunFault::Truncated) && place.line == 1 && place.column == 1 {
+        return Ok(NOTHING);
     }
     if !matches!(fault, RunFault::Header) {
         return Ok("");

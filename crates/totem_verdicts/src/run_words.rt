@@ -56,7 +56,7 @@ const OPTIONS: [NumberOption; 6] = [
         least: 0,
         most: 100,
         default: "0",
-        help: "Percentage of packets dropped. Once a ring breaks, the nodes may need long to form another: the last line on standard error says how many rings were formed and how many messages all nodes delivered",
+        help: "Percentage of packets dropped. Once a ring breaks, the nodes may need long to form another, or never do (docs/PROTOCOL.md, A run in threads): the last line on standard error says how many rings were formed and how many messages all nodes delivered",
     },
     NumberOption {
         name: "repeat",

@@ -64,7 +64,8 @@ Exit status:
 
 const AUDIT_EXAMPLE: &str = "\
 A log ends with the line `failed` if its last entry is a failure. Other logs end with `open` or, in version 3 of the run text, with
-`quiet` if nothing more was to come. docs/OWN-LOGS.md and docs/SPECIFICATIONS.md describe the text.
+`quiet` if nothing more was to come. docs/OWN-LOGS.md and docs/SPECIFICATIONS.md describe the text. If the run is refused,
+`totem explain < RUN` shows the place, and what is expected there.
 Example: totem audit < examples/first-yes.run";
 
 const EXPLAIN_EXAMPLE: &str = "Example: totem explain < examples/first-no.run";

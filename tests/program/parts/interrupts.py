@@ -386,13 +386,13 @@ def help_nowhere(tool, words, path, _program):
     return None if came == wanted else 'came: %s' % came
 
 
-def help_to_nobody(tool, words, _program):
-    """The same if nobody reads it any more."""
+def to_nobody(tool, words, given, program):
+    """The reader of the output has gone, as `head` does: the status is 4, and of that nothing is said."""
     reader, writer = os.pipe()
     os.close(reader)
-    came = call(tool, [*words, '--help'], output=writer)
+    came = call(tool, [word.replace('PROGRAM', program) for word in words], given, output=writer)
     os.close(writer)
-    return None if (came.status, came.errors) == (4, b'%s: write failed\n' % tool.encode()) else 'came: %r' % came.errors
+    return None if came.status == 4 and b'write failed' not in came.errors and b'Broken' not in came.errors else 'came: %d, %r' % (came.status, came.errors)
 
 
 def interrupt_logs(words, name, numbers, _program):
@@ -426,7 +426,14 @@ def of_all_tools():
         what = ' '.join([tool, *words])
         yield 'help of %s on a full device' % what, partial(help_nowhere, tool, words, '/dev/full')
         yield 'help of %s with a closed output' % what, partial(help_nowhere, tool, words, None)
-        yield 'help of %s that nobody reads' % what, partial(help_to_nobody, tool, words)
+        yield 'help of %s that nobody reads' % what, partial(to_nobody, tool, [*words, '--help'], b'')
+    for what, (tool, *words), given in (
+            ('a run', ['logs', 'join', os.path.join(EXAMPLES, 'own-logs')], b''),
+            ('names in an explanation', ['logs', 'name', '/dev/null'], b'process 1\n'),
+            ('a small run', ['shrink', '--program', 'PROGRAM'], THREE),
+            ('a script that is shown', ['play', os.path.join(EXAMPLES, 'broken', '4.script')], b''),
+            ('a script that is made', ['hunt', '--show', '3'], b'')):
+        yield '%s that nobody reads' % what, partial(to_nobody, tool, words, given)
     for numbers in ((signal.SIGINT,), (signal.SIGINT, signal.SIGTERM, signal.SIGINT)):
         for words, name in ((['join', '--lives', '--clock', 'FOLDER/times', os.path.join(EXAMPLES, 'logs', 'lives')], 'times'),
                             (['where', 'FOLDER/map', '1@1'], 'map')):

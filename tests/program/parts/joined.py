@@ -1,5 +1,9 @@
 """Logs of one's own, joined to a run by `tools/logs join`."""
+import bz2
+import gzip
+import lzma
 import os
+import re
 import subprocess
 import tempfile
 from functools import partial
@@ -11,6 +15,9 @@ REPOSITORY = os.path.join(os.path.dirname(row_files.FOLDER), '..')
 EXAMPLES = os.path.join(REPOSITORY, 'examples')
 TOOL = os.path.join(REPOSITORY, 'tools', 'logs')
 
+# What is told after the members without a log.
+MISSING = 'logs: totem refuses a run that has members without a log (MissingLog). If you know what {0} did, --made-up {0}=failed-before or ' \
+    '--made-up {0}=as-Q makes up a log (docs/OWN-LOGS.md#a-lost-log)\n'
 # The run of the folder `own-logs`, whose third log ends in the middle of a line.
 OWN_LOGS = b"""totem-run 1
 log 1
@@ -45,6 +52,24 @@ waiting 3 r4.1 1
 waiting 3 r4.1 2
 totem-cert 1
 """
+
+# What is told last if an option, or a first line, asks for something that can hide something: of what a yes says nothing.
+HIDES = {
+    '--made-up': 'what these processes did otherwise than the logs say that are made up',
+    '--failed': 'what a process still had to deliver, if it did not fail (3, 7.1)',
+    '--torn': 'whether anybody sent the messages whose sends are added (1.3), and safe messages among them (7.1, 7.2)',
+    '--quiet': 'agreed messages of others that a quiet log lacks at its end',
+    '--lives': 'lives that the layer confused (2.3, 2.4)',
+    '--own-sends': '3, but for messages that others delivered and their sender did not, and 1.3 for those that a process itself delivers, '
+                   'since sends stand at their own deliveries',
+    '--own-order-unknown': 'messages of one process that were reordered (5)',
+    '--late-sends': 'messages that got their place in a transitional configuration (2.2)',
+    '--transitional': 'processes that the layer wrongly counted as gone on together (2.4, 4)',
+    '--early-ends': 'messages of a process that was gone (1.3, 4, 5, 6)',
+    '--late-changes': 'messages that were lost at the end of a configuration, and whose senders did not go along (5, 6.3)',
+    '--trim': 'what comes after the cut',
+    '--cut': 'names that come again in another part (1.1, 1.4, 2.3)',
+}
 
 # Folders by what they show: the arguments, the files, the run that they are joined to, and the messages.
 FOLDERS = {
@@ -129,16 +154,15 @@ FOLDERS.update({
         'totem-run 1\nlog 1\nconf r4.1 1 2\nconf r8.1 1 2 3\nopen\nlog 4\nconf r4.1 1 2 7\nopen\nend\n',
         'logs: left out of the logs: blank lines and comments 1\nlogs: 3.log has no entry, and is left out\n'
         'logs: there is no log of 2, a member of r4.1 (1.log, line 2)\nlogs: there is no log of 3, a member of r8.1 (1.log, line 3)\n'
-        'logs: there is no log of 7, a member of r4.1 (4.log, line 1)\nlogs: totem refuses a run that has members without a log (MissingLog)\n'),
+        'logs: there is no log of 7, a member of r4.1 (4.log, line 1)\n' + MISSING.format(2)),
     'all members without a log, however many': (
         '', {'1.log': MANY}, 'totem-run 1\nlog 1\n%sopen\nend\n' % MANY,
         ''.join('logs: there is no log of %d, a member of r%d.1 (1.log, line %d)\n' % (number, number // 2 * 4, number // 2)
-                for number in range(2, 52)) + 'logs: totem refuses a run that has members without a log (MissingLog)\n'),
+                for number in range(2, 52)) + MISSING.format(2)),
     'members without a log, with lives': (
         '', {'2.1.log': 'conf r4.1 1:1 2:1\nconf r8.1 1:2 2:1\n'},
         'totem-run 2\nlog 2:1\nconf r4.1 1:1 2:1\nconf r8.1 1:2 2:1\nopen\nend\n',
-        'logs: there is no log of 1:1, a member of r4.1 (2.1.log, line 1)\nlogs: there is no log of 1:2, a member of r8.1 (2.1.log, line 2)\n'
-        'logs: totem refuses a run that has members without a log (MissingLog)\n'),
+        'logs: there is no log of 1:1, a member of r4.1 (2.1.log, line 1)\nlogs: there is no log of 1:2, a member of r8.1 (2.1.log, line 2)\n' + MISSING.format('1:1')),
 })
 
 ONE = {'1.log': 'conf r4.1 1\n'}
@@ -156,6 +180,12 @@ REFUSED = {
     'a name that is not a process': ('', {**ONE, 'node.log': ''}, 'logs: node.log: the name is not a process: '),
     'a process past its range': ('', {'65536.log': ''}, 'logs: 65536.log: process 65536 is past 65535; --renumber '),
     'a line that is not an entry': ('', {**ONE, '2.log': 'conf r4.1 1\nnothing\n'}, 'logs: 2.log, line 2: this is not an entry: '),
+    'a line of another kind': ('', {'1.log': 'nothing\n'}, 'logs: 1.log, line 1: this is not an entry: nothing (a line begins with conf, send, dlv, '
+                               'fail or quiet)\n'),
+    'a run in place of a log': ('', {**ONE, '2.log': 'totem-run 1\nlog 1\n'}, 'logs: 2.log is a run, made of logs already: ./totem audit < '),
+    'a log that is packed': ('', {'1.log.gz': 'x', '1.txt': ''}, 'logs: 1.log.gz is compressed (gzip): unpack it first\n'),
+    'a log that is packed beside another one': ('', {**ONE, '2.3.log.xz': 'x'}, 'logs: 2.3.log.xz is compressed (xz): unpack it first\n'),
+    'a packed log with a pattern': ('--pattern n{P}', {'n1': 'conf r4.1 1 2\n', 'n2.zst': 'x'}, 'logs: n2.zst is compressed (zstd): unpack it first\n'),
     'a line with a blank at its end': (
         '', {'1.log': 'conf r4.1 1\ndlv r4.1 4.1#1 \n'},
         "logs: 1.log, line 2: this is not an entry: 'dlv r4.1 4.1#1 ', with a blank at its end (such as dlv "),
@@ -226,9 +256,17 @@ def try_own_logs(program):
     return None if came.output.startswith(OWN_REPORT) and not came.errors else 'came: %s' % came
 
 
+def with_worth(words, told):
+    """What is told of these logs, and of what a yes then says nothing."""
+    first_lines = re.findall(r'(?m)^logs: as the first lines of the logs say: (.*)$', told)
+    asked = ' '.join([words, *first_lines]).split()
+    hidden = ['%s (%s)' % (what, option) for option, what in HIDES.items() if option in asked]
+    return told + ('logs: as joined, a yes says nothing of: %s\n' % '; '.join(hidden) if hidden else '')
+
+
 def try_folder(words, files, wanted, told, _program):
     """These files are joined to this run, with these messages."""
-    came = join_files(words, files)
+    came, told = join_files(words, files), with_worth(words, told)
     is_right = came == process.Answer(0, wanted.encode(), told.encode())
     return None if is_right else 'came:   %s\n  wanted: %r, and told %r' % (came, wanted, told)
 
@@ -257,6 +295,49 @@ def try_no_file(make, _program):
     return None if came == process.Answer(1, b'', b'logs: 1.log is not a file\n') else 'came: %s' % came
 
 
+# What contents are that are no text, and what is said of them.
+CONTENTS = {
+    'is compressed (gzip): unpack it first': gzip.compress(b'conf r4.1 1\n'),
+    'is compressed (xz): unpack it first': lzma.compress(b'conf r4.1 1\n'),
+    'is compressed (zstd): unpack it first': b'\x28\xb5\x2f\xfd\x04\x58\x61\n',
+    'is compressed (bzip2): unpack it first': bz2.compress(b'conf r4.1 1\n'),
+    'begins with a byte order mark: save it without one': b'\xef\xbb\xbfconf r4.1 1\n',
+    'is in UTF-16: save it in ASCII': 'conf r4.1 1\n'.encode('utf-16'),
+}
+
+
+def try_content(content, said, _program):
+    """A log that is no text is named, and so is a run that `tools/shrink` can't read for that."""
+    with tempfile.TemporaryDirectory() as folder:
+        path = os.path.join(folder, '1.log')
+        with open(path, 'wb') as it:
+            it.write(content)
+        came = [join((), folder), process.run([os.path.join(os.path.dirname(TOOL), 'shrink'), '--program', '/bin/true', path])[0]]
+    wanted = [process.Answer(1, b'', b'%s: %s %s\n' % (tool, name.encode(), said.encode())) for tool, name in ((b'logs', '1.log'), (b'shrink', path))]
+    return None if came == wanted else 'came: %s\n  wanted: %s' % (came, wanted)
+
+
+def try_beside(_program):
+    """A packed copy of a log that is there is only told."""
+    came = join_files('', {**ONE, '1.log.gz': 'x'})
+    told = b"logs: not read, since their names do not end with .log: '1.log.gz'\n"
+    return None if (came.status, came.errors) == (0, told) else 'came: %s' % came
+
+
+def try_inner(_program):
+    """A folder of folders names them, and a run in its place is named."""
+    with tempfile.TemporaryDirectory() as folder:
+        for name in ('sub', 'srp'):
+            os.mkdir(os.path.join(folder, name))
+        told = 'logs: %s has no file P.log or P.L.log. In it are folders, one of which may have them: srp, sub\n' % folder
+        came = join((), folder)
+    if came != process.Answer(1, b'', told.encode()):
+        return 'came: %s' % came
+    path = os.path.join(EXAMPLES, 'first-yes.run')
+    came = join((), path)
+    return None if came.status == 64 and came.errors.endswith(('is a run, made of logs already: ./totem audit < %s\n' % path).encode()) else 'came: %s' % came
+
+
 def try_full_map(_program):
     """If the map can't be written after the run, the status says so, and the message does not blame the logs."""
     came = join(('--map', '/dev/full'), os.path.join(EXAMPLES, 'own-logs'))
@@ -283,7 +364,7 @@ def try_help(_program):
     """The help explains each of the options."""
     came = join(['--help'], EXAMPLES)
     words = (b'--failed', b'--quiet', b'--lives', b'--member', b'--clock', b'--absent', b'--own-sends', b'--own-order-unknown', b'--late-sends',
-             b'--renumber', b'--table', b'--cut', b'--entries', b'--trim', b'--changes', b'--map', b'--pattern', b'tools/logs join FOLDER > my.run')
+             b'--made-up', b'--renumber', b'--table', b'--cut', b'--entries', b'--trim', b'--changes', b'--map', b'--pattern', b'tools/logs join FOLDER > my.run')
     return None if came.status == 0 and all(word in came.output for word in words) else 'came: %s' % came
 
 
@@ -341,6 +422,10 @@ def joined():
     yield 'logs that are too long', try_too_long
     for what, make in (('a pipe', os.mkfifo), ('a device', partial(os.symlink, '/dev/zero')), ('a folder', os.mkdir)):
         yield '%s that is called like a log' % what, partial(try_no_file, make)
+    for said, content in CONTENTS.items():
+        yield 'a log that %s' % said, partial(try_content, content, said)
+    yield 'a packed copy of a log', try_beside
+    yield 'a folder of folders, and a run', try_inner
     yield 'a map on a full device', try_full_map
     for words in ('--nothing', '--fail 1', '--clock times', '--member r4.1=1:1', '--absent 2:1', '--own-order-unknown', '--late-sends',
                   '--table table', '--entries 5', '--cut /', '--cut /no/such/folder --entries 1', '--cut=', '--lives --clock=', '--changes=',

@@ -1,7 +1,8 @@
 """Folders whose members get lives from `tools/logs join --lives`, and those of which it asks for a life."""
+from parts.joined import MISSING
 
 ONE = 'logs: life 1 is added to the members 1: no log is of another life of theirs\n'
-NO_LOG = 'logs: there is no log of 2:1, a member of r4.1 (1.log, line 1)\nlogs: totem refuses a run that has members without a log (MissingLog)\n'
+NO_LOG = 'logs: there is no log of 2:1, a member of r4.1 (1.log, line 1)\n' + MISSING.format('2:1')
 # Folders by what they show: the arguments, the files, the run that they are joined to, and the messages.
 LIVES = {
     'the life whose log changes to the configuration': (
@@ -105,7 +106,9 @@ UNKNOWN = {
         '--lives', TWO_LIVES,
         'logs: 1.log, line 3: which life of 2 is a member of r4.1? No log of it changes there: 2:1 or 2:2\n  Name each with --member '),
     'a member without any log': ('--lives', {'1.log': 'conf r4.1 1 2\n'}, '1.log, line 1: which life of 2 is a member of r4.1? '
-                                 'No log of it changes there: there is no log of it\n'),
+                                 'No log of it changes there: there is no log of it\n  Name each with --member CONFIGURATION=P:L, or give the '
+                                 'times of the lives with --clock FILE\n  If you know what 2 did, --made-up 2:1=failed-before or '
+                                 '--made-up 2:1=as-Q:1 makes up a log (docs/OWN-LOGS.md#a-lost-log)\n'),
     'all members without any log, however often they are listed': (
         '--lives', {'1.log': ''.join('conf r%d.1 1 2 3 4 %d\n' % (4 * number, 10 + number) for number in range(1, 30)), '3.1.log': 'conf r9.3 3\n',
                     '3.2.log': 'conf r10.3 3\n'},

@@ -93,6 +93,12 @@ MAPS = {
         '--failed 2 --quiet 1', {'1.log': 'conf r4.1 1 2\n', '2.log': 'conf r4.1 1 2\n'},
         'totem-map 1\nlog 1:1 1.log\n1 1\nlog 2:1 2.log\n1 1\n2 added\nend\n',
         ('2:1@2 2:1@1', '2:1@2: added by join after the last line of 2.log\n2:1@1: 2.log, line 1\n')),
+    'a place without the life that its process has': (
+        '--quiet all', {'1.log': '\nconf r4.1 1\n'}, 'totem-map 1\nlog 1:1 1.log\n1 2\nend\n', ('1@1', '1:1@1: 1.log, line 2\n')),
+    'logs that are made up': (
+        '--made-up 2=as-1 --made-up 3=failed-before', {'1.log': '#\nconf r4.1 1 2 3\ndlv r4.1 4.1#1\nsend r4.1 a 4.1#1\n'},
+        'totem-map 1\nlog 1 1.log\n1-3 2\nlog 2 2.log\n1-2 made up\nlog 3 3.log\n1-2 made up\nend\n',
+        ('2@2 1@2 3@2', '2@2: made up by join: there is no 2.log\n1@2: 1.log, line 3\n3@2: made up by join: there is no 3.log\n')),
     'an entry that is added and left out again': (
         '--failed 2 --trim', {'1.log': 'conf r4.1 1 2\n', '2.log': 'conf r4.1 1 2\n'},
         'totem-map 1\nlog 1 1.log\n1 1\nlog 2 2.log\n1 1\nend\n', ('2@1', '2@1: 2.log, line 1\n')),
@@ -148,7 +154,10 @@ PARTS = 'totem-map 1\nrun part-1.run\nlog 1 01234567 1.log\n1 1\nrun part-2.run\
 # Maps that are broken, or have no such place: the map, the arguments, and the message.
 BROKEN = {
     'an entry after the last one': (GOOD, '1@1 1@5', 'logs: MAP, line 2: log 1 has 4 entries, so there is no 1@5\n'),
-    'a log that is not there': (GOOD, '2@1', 'logs: MAP has no log 2, so there is no 2@1: its logs are 1, 2:7\n'),
+    'a process with two lives': (GOOD.replace('log 1 ', 'log 2:9 '), '2@1', 'logs: MAP has several lives of 2, so say which one: 2:9@1 or 2:7@1\n'),
+    'a life that is not there': (GOOD, '2:8@1', 'logs: MAP has no log 2:8, so there is no 2:8@1: its logs are 1, 2:7\n'),
+    'an entry after the last one of the only life': (GOOD, '2@2', 'logs: MAP, line 6: log 2:7 has 1 entries, so there is no 2:7@2\n'),
+    'a log that is not there': (GOOD, '3@1', 'logs: MAP has no log 3, so there is no 3@1: its logs are 1, 2:7\n'),
     'no map': (GOOD[6:], '1@1', 'logs: MAP, line 1: this is no map: its first line is not `totem-map 1`\n'),
     'nothing': ('', '1@1', 'logs: MAP, line 1: the map ends without the line `end`\n'),
     'no end': (GOOD[:-4], '1@1', 'logs: MAP, line 8: the map ends without the line `end`\n'),

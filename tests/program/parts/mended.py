@@ -5,17 +5,14 @@ from functools import partial
 
 from harness import process
 from parts.early_ends import EARLY_ENDS
-from parts.joined import EXAMPLES, join, join_files, try_folder, try_refused, write_files
+from parts.joined import EXAMPLES, join, join_files, try_folder, try_refused, with_worth, write_files
 from parts.first_lines import FIRST_LINES, FIRST_LINES_REFUSED
 from parts.late_changes import LATE_CHANGES
 from parts.lives import LIVES, UNKNOWN
+from parts.made_up import MADE_UP, MADE_UP_REFUSED
 from parts.sends import SENDS, SWAPPED
 from parts.torn import HANGS, TORN, TORN_REFUSED
 from parts.transitional import TRANSITIONAL
-
-# What is said after sends were moved.
-BY_RECORDING = 'logs: since sends stand at their own deliveries, these hold by the way of recording alone, whatever the layer did: 1.3 for the ' \
-    'messages that a process itself delivers, and 3, but for messages that others delivered and their sender did not\n'
 
 LARGE = 4294967300
 # Folders whose processes and rings are renumbered.
@@ -184,6 +181,7 @@ HIDDEN = {
     'lost-before-a-change': ('--late-changes', 'logs: 2.log: deliveries from the first one past a gap on, which are now in transitional '
                              'configurations: 1 (t8.2/2: 1)\n'),
     'nobody-sent': ('--torn 1', 'logs: 1.log: sends that are added, since others delivered the messages and no log sends them: 1 (4.1#1)\n'),
+    'lost-log': ('--made-up 3=failed-before', 'logs: 3.log is made up: it is taken to have failed before it delivered anything, in r4.1\n'),
     'lost-tail': ('--trim', 'logs: 1.log: entries left out after its change to r8.1: 1\n'),
     'sent-again': ('--cut FOLDER --entries 5',
                    'logs: 1.log: sends 4.1#1 in part 2, and a log does so in part 1: a name came again, and no part shows it\n'),
@@ -235,26 +233,21 @@ def try_long(_program):
     return None if (came.status, came.output.decode()) == (0, wanted) else 'came: %s' % came
 
 
-def with_recording(words, told):
-    """What is told of sends, and what is said after that if the call or a first line asks for it."""
-    return told + (BY_RECORDING if '--own-sends' in words + told else '')
-
-
 def try_end(words, files, told, _program):
     """This is told of the logs, beside the times that are left out."""
-    came = join_files(words, files)
+    came, told = join_files(words, files), with_worth(words, told)
     kept = [line for line in came.errors.decode().splitlines(keepends=True) if not line.startswith('logs: left out of the logs: ')]
     return None if came.status == 0 and ''.join(kept) == told else 'came: %s\n  wanted: %r' % (came, told)
 
 
 def mended():
     """Added lives, moved sends and changes, new numbers, cut logs."""
-    for folders in (LIVES, SENDS, TRANSITIONAL, EARLY_ENDS, LATE_CHANGES, FIRST_LINES, TORN, NUMBERS, TRIMMED):
+    for folders in (LIVES, SENDS, TRANSITIONAL, EARLY_ENDS, LATE_CHANGES, FIRST_LINES, TORN, MADE_UP, NUMBERS, TRIMMED):
         for what, (words, files, wanted, told) in folders.items():
-            yield what, partial(try_folder, words, files, wanted, with_recording(words, told))
+            yield what, partial(try_folder, words, files, wanted, told)
     for what, (words, files, told) in HANGS.items():
-        yield 'the end: %s' % what, partial(try_end, words, files, with_recording(words, told))
-    for folders in (UNKNOWN, SWAPPED, NOT_CUT, FIRST_LINES_REFUSED, TORN_REFUSED):
+        yield 'the end: %s' % what, partial(try_end, words, files, told)
+    for folders in (UNKNOWN, SWAPPED, NOT_CUT, FIRST_LINES_REFUSED, TORN_REFUSED, MADE_UP_REFUSED):
         for what, (words, files, said) in folders.items():
             yield what, partial(try_refused, words, files, said)
     yield 'cut at each common change', partial(try_cut, '--entries 5', THREE_RINGS, [FIRST, SECOND, THIRD], '')

@@ -29,6 +29,7 @@ NAMED = {
 EXPLAINED = {
     'one process': ('  1:1@3  process 1:1 delivered 4.1#1\n', '  1:1@3  process 1:1 (db-west) delivered 4.1#1\n'),
     'several, in two lines': ('Processes 2, 3\n      and 1 went\n', 'Processes 2 (db east), 3\n      and 1 (db-west) went\n'),
+    'one that is waited for': ('  process 3 is in r4.1 and waits for 1, which went on\n', '  process 3 is in r4.1 and waits for 1 (db-west), which went on\n'),
     'counts': ('processes 2, transitional deliveries 1\n', 'processes 2, transitional deliveries 1\n'),
     'the membership': ('r1.2, members 1 2 3\n  began here: 1 3\n', 'r1.2, members 1 (db-west) 2 (db east) 3\n  began here: 1 (db-west) 3\n'),
     'columns': ('  log 1                 log 3\n      1  conf r4.1 1 2\n', '  log 1 (db-west)       log 3\n      1  conf r4.1 1 2\n'),

@@ -11,6 +11,7 @@ from harness.joins import Case, Tool
 from parts.decorated import Decorated, uncounted, undecorated
 
 FOUND = re.compile(r'(\S+): (\S+\.log), line (\d+)(?:, (\S+))?')
+MADE_UP = re.compile(r'(\S+): made up by join: there is no (\S+\.log)')
 ADDED = re.compile(r'(\S+): added by join (?:after the last line|before line (\d+)) of (\S+\.log)')
 
 
@@ -51,14 +52,18 @@ class Origins:
 
     def _wrong(self, place, entry, line):
         """What is wrong with the origin of a place, or None."""
-        added, found = ADDED.fullmatch(line), FOUND.fullmatch(line)
-        if not added and not found or (added or found)[1] != place:
+        added, found, made_up = ADDED.fullmatch(line), FOUND.fullmatch(line), MADE_UP.fullmatch(line)
+        if not added and not found and not made_up or (added or found or made_up)[1] != place:
             return 'no answer'
-        name = added[3] if added else found[2]
+        name = added[3] if added else (found or made_up)[2]
+        if name not in self.applied.files:
+            return 'no such log'
         file = self.applied.files[name]
         who = self.applied._process(str(file.process)) + (':%d' % (file.life or 1) if self.has_lives else '')
         if who != place.partition('@')[0]:
             return 'another log'
+        if file.is_made_up or made_up:
+            return None if file.is_made_up and made_up else 'it is made up' if file.is_made_up else 'it is not made up'
         if added and added[2]:
             return self._wrong_insertion(entry, file, int(added[2]))
         if added:

@@ -133,6 +133,9 @@ def archive_suffices(program):
         helped = shell('tools/record --help', folder)
         if helped.status or b'docs/COROSYNC.md' not in helped.output:
             return 'tools/record came: %s' % helped
+        shown = shell("tools/play --run '--nodes 2 --ticks 8'", folder)
+        if shown.status or not shown.output.startswith(b'tick 1:\n'):
+            return 'tools/play came: %s' % shown
         is_noted = any(b'note:' in answer.errors for answer in answers)
         if not is_right or is_noted or content_of(folder, 'small.run') != DELIVERED_TWICE:
             return 'came: %s' % '\n  '.join(map(str, answers))

@@ -1,6 +1,7 @@
 """Broken runs made small by `tools/shrink`, and looked for by `tools/hunt`."""
 import hashlib
 import os
+import re
 import signal
 import subprocess
 import tempfile
@@ -128,6 +129,51 @@ SMALL_NOWHERE = b'totem-run 2\nlog 1:1\nconf r8.1 1:1\ndlv r8.1 4.3#1\nopen\nend
 ASTRAY = b'totem-run 1\nlog 1\nconf r4.1 1 2\ndlv r8.1 8.1#1\nopen\nlog 2\nconf r4.1 1 2\nopen\nend\n'
 SMALL_ASTRAY = b'totem-run 1\nlog 1\ndlv r4.1 4.1#1\nopen\nend\n'
 SAME_ASTRAY = b'totem-run 1\nlog 1\nconf r4.1 1\ndlv r8.1 8.1#1\nopen\nend\n'
+# A safe message that a process never delivers, since it parts from the others, among much that has nothing to do with it; and what is left for
+# that reason.
+PARTED = b"""totem-run 3
+log 1:1
+conf r4.1 1:1 2:1 3:1
+send r4.1 a 4.1#1
+dlv r4.1 4.1#1
+send r4.1 s 4.1#2
+dlv r4.1 4.1#2
+conf t8.1/1 1:1 2:1
+conf r8.1 1:1 2:1
+send r8.1 a 8.1#1
+dlv r8.1 8.1#1
+quiet
+log 2:1
+conf r4.1 1:1 2:1 3:1
+dlv r4.1 4.1#1
+dlv r4.1 4.1#2
+conf t8.1/1 1:1 2:1
+conf r8.1 1:1 2:1
+dlv r8.1 8.1#1
+quiet
+log 3:1
+conf r4.1 1:1 2:1 3:1
+dlv r4.1 4.1#1
+conf t8.3/3 3:1
+conf r8.3 3:1
+quiet
+end
+"""
+SMALL_PARTED = b"""totem-run 1
+log 1
+conf r4.1 1 2
+send r4.1 s 4.1#1
+dlv r4.1 4.1#1
+open
+log 2
+conf r4.1 1 2
+conf t8.2/2 2
+conf r8.2 2
+open
+end
+"""
+# The same with names so long that a reason takes two lines of an explanation.
+LONG_PARTED = re.sub(rb'(\d)\.(\d)', rb'400000000\1.4000\2', re.sub(rb'(\d)(?=:1)|(?<=/)(\d)', rb'4000\1\2', PARTED))
 YES = b'totem-run 1\nlog 1\nconf r4.1 1\nopen\nend\n'
 # What is refused: the arguments, the input, and the message.
 REFUSED = {
@@ -248,6 +294,10 @@ def shrunk():
     yield 'one of them', partial(try_shrunk, ['--specification', '3'], THREE, SMALL_OWN, b'\nfault 3 1@2\n')
     yield 'a delivery astray', partial(try_shrunk, [], ASTRAY, SMALL_ASTRAY, b'  No change comes before it.\n')
     yield 'a delivery astray for the same reason', partial(try_shrunk, ['--same-places'], ASTRAY, SAME_ASTRAY, b'  Process 1 was in r4.1 then.\n')
+    yield 'a delivery that is missing for the same reason', partial(
+        try_shrunk, ['--same-places'], PARTED, SMALL_PARTED, b'  Process 2 did not deliver 4.1#1: it went on to r8.2 (2@3).\n')
+    yield 'a delivery that is missing for the same reason, with long names', partial(
+        try_shrunk, ['--same-places'], LONG_PARTED, SMALL_PARTED, b'  Process 2 did not deliver 4.1#1: it went on to r8.2 (2@3).\n')
     yield 'a message that was sent elsewhere', partial(try_story, [], ELSEWHERE, SMALL_ELSEWHERE, NEW_NAMES)
     yield 'a message that was sent elsewhere, with its names', partial(try_story, ['--keep-names'], ELSEWHERE, KEPT_ELSEWHERE, b'')
     nowhere = ELSEWHERE.replace(b'send r8.3 a 8.3#33\n', b'')

@@ -1,12 +1,17 @@
-"""Runs of nodes in threads."""
+"""Runs of nodes in threads, and what the model of tools/playing works out, which shares no code with the program."""
+import os
+import sys
 from collections import Counter
 from functools import partial
 from itertools import zip_longest
 
 from harness import process
 from harness.counted import counted
+from harness.rows import REPOSITORY
 from parts.counts import logs_of
-from parts.predicted import Network, Plan
+
+sys.path.insert(0, os.path.join(REPOSITORY, 'tools'))
+from playing.network import Network, Plan  # noqa: E402  pylint: disable=wrong-import-position
 
 SECONDS = 60
 CERTIFICATE = b'totem-cert 1\n'
@@ -52,7 +57,9 @@ def number_of(words, name, default=0):
 def predicted(words):
     """The run that these arguments ask for, as the model works it out, and what is said of it."""
     numbers = {name: number_of(words, '--' + name, default) for name, default in Plan()._asdict().items()}
-    return Network(Plan(**numbers)).run()
+    network = Network(Plan(**numbers))
+    network.run()
+    return network.text, b'totem: %s\n' % network.summary.encode()
 
 
 def what_differs(words, made):

@@ -1,16 +1,11 @@
-"""The run that nodes in threads make, worked out by a model of the network (docs/PROTOCOL.md, "The network") over the nodes of
-tools/playing. Neither shares code with the program."""
-import os
-import sys
+"""The run that nodes in threads make (`totem run`), worked out by a model of the network (docs/PROTOCOL.md, "The network") over the nodes of this
+folder. Neither shares code with the program."""
 from collections import deque
 from typing import NamedTuple
 
-from harness.rows import REPOSITORY
-
-sys.path.insert(0, os.path.join(REPOSITORY, 'tools'))
-from playing.node import Node  # noqa: E402
-from playing.ring import Fault  # noqa: E402
-from playing.scene import Scene  # noqa: E402
+from playing.node import Node
+from playing.ring import Fault
+from playing.scene import Scene
 
 U32, U64 = (1 << 32) - 1, (1 << 64) - 1
 FACTOR = 6364136223846793005
@@ -50,11 +45,25 @@ class Plan(NamedTuple):
     hold: int = 0
 
 
+class Unwatched:
+    """Is told what happens in a run, and does nothing with it."""
+
+    def saw_fate(self, sender, receiver, packet, copies):
+        """A packet goes on its way: how many further packets each of its copies lets pass."""
+
+    def saw_step(self, node, given, done):
+        """A node takes a packet, or the name of another input: with a Done, or the name of a fault."""
+
+    def saw_tick(self, network, number):
+        """A tick has passed."""
+
+
 class Network:
     """Nodes and the packets between them. `sent` and `lost` count packets and `repeated` copies, once for each receiver."""
 
-    def __init__(self, plan):
+    def __init__(self, plan, watch=None):
         self.plan, self.words = plan, words_of(plan.seed)
+        self.watch = watch or Unwatched()
         self.scene = Scene()
         self.scene.make_ring(4, 1, *range(1, plan.nodes + 1))
         self.held = {node: [] for node in self.scene.actors}
@@ -81,9 +90,10 @@ class Network:
             return [word // 100 % holds, word // 10000 % holds]
         return [word // 100 % holds]
 
-    def _pass(self, receiver, packet):
+    def _pass(self, sender, receiver, packet):
         """A packet arrives for a receiver."""
         copies = self._copies()
+        self.watch.saw_fate(sender, receiver, packet, copies)
         due = [packet for left in copies if left == 0] + [held for left, held in self.held[receiver] if left == 1]
         self.waiting[receiver].extend(due)
         self.held[receiver] = [(left - 1, held) for left, held in self.held[receiver] if left > 1]
@@ -98,15 +108,17 @@ class Network:
         for sender, sendings in self.sent_by.items():
             for to, packet in sendings:
                 for receiver in self._receivers(sender, to):
-                    self._pass(receiver, packet)
+                    self._pass(sender, receiver, packet)
             sendings.clear()
 
-    def _step(self, node, call):
+    def _step(self, node, given, call):
         actor = self.scene.actors[node]
         try:
             done = call(actor.node)
-        except Fault:
+        except Fault as fault:
+            self.watch.saw_step(actor.node, given, str(fault))
             return
+        self.watch.saw_step(actor.node, given, done)
         actor.logs[-1].extend(done.entries)
         self.sent_by[node].extend(done.sendings)
         self.sent += sum(len(self._receivers(node, to)) for to, _ in done.sendings)
@@ -127,7 +139,7 @@ class Network:
                 self.next = self.next % self.plan.nodes + 1
         self.credit = min(credit + self.plan.nodes, self._most)
         for node, packet in given:
-            self._step(node, lambda node, packet=packet: node.on_packet(packet))
+            self._step(node, packet, lambda node, packet=packet: node.on_packet(packet))
 
     def tick(self, number):
         """A tick passes."""
@@ -136,26 +148,33 @@ class Network:
         if number % 8 == 0:
             turn = number // 8 - 1
             node = turn % self.plan.nodes + 1
-            self._step(node, Node.on_timer)
+            self._step(node, 'timer', Node.on_timer)
             self._carry()
-            self._step(node, lambda node: node.on_submit(turn % 2 == 1))
+            self._step(node, 'submit', lambda node: node.on_submit(turn % 2 == 1))
             self._carry()
         self._forward()
+        self.watch.saw_tick(self, number)
 
     def run(self):
-        """All ticks pass. Returns the text of the run, and what the program says of it."""
+        """All ticks pass."""
         for number in range(1, self.plan.ticks + 1):
             self.tick(number)
-        return self.scene.text(1), self._summary()
 
-    def _summary(self):
+    @property
+    def text(self):
+        """The text of the run."""
+        return self.scene.text(1)
+
+    @property
+    def summary(self):
+        """What the program says of the run."""
         logs = [actor.logs[0] for actor in self.scene.actors.values()]
         sent = sum(entry[0] == 'send' for log in logs for entry in log)
         delivered = [{(entry[2].ring, entry[2].number) for entry in log if entry[0] == 'dlv'} for log in logs]
         rings = {entry[1] for log in logs for entry in log if entry[0] == 'conf' and entry[1].startswith('r')}
         late = sum(len(self._receivers(node, to)) for node, sendings in self.sent_by.items() for to, _ in sendings)
-        return ('totem: messages: %d sent, %d delivered by every node, %s; rings formed: %d; packets: %d sent, %d lost and %d '
-                'duplicated by the plan; on their way at the end: %d held back, %d waiting, %d sent in the last tick\n' % (
+        return ('messages: %d sent, %d delivered by every node, %s; rings formed: %d; packets: %d sent, %d lost and %d '
+                'duplicated by the plan; on their way at the end: %d held back, %d waiting, %d sent in the last tick' % (
                     sent, len(set.intersection(*delivered)), 'last delivery in tick %d' % self.delivered_in if self.delivered_in else 'no delivery',
                     len(rings) - 1, self.sent, self.lost, self.repeated, sum(map(len, self.held.values())),
-                    sum(map(len, self.waiting.values())), late)).encode()
+                    sum(map(len, self.waiting.values())), late))
