@@ -43,8 +43,8 @@ class RunWatch(Unwatched):
 
     def __init__(self, span, known, write):
         self.span, self.names, self.write = span, known, write
-        # The tick that passes, what happens in it, and the last one in which a message was delivered.
-        self.tick, self.lines, self.last_delivery = 1, [], 0
+        # The tick that passes, and what happens in it.
+        self.tick, self.lines = 1, []
         # The states of the nodes as they were shown last.
         self.known = {}
 
@@ -61,12 +61,9 @@ class RunWatch(Unwatched):
 
     def saw_step(self, node, given, done):
         """What a node makes of a packet or another input."""
-        entries = [] if isinstance(done, str) else done.entries
-        if any(entry[0] == 'dlv' for entry in entries):
-            self.last_delivery = self.tick
         if not self.is_shown:
             return
-        answer = 'refused, ' + done if isinstance(done, str) else '; '.join([done.what, *(entry_line(entry, 1) for entry in entries)])
+        answer = 'refused, ' + done if isinstance(done, str) else '; '.join([done.what, *(entry_line(entry, 1) for entry in done.entries)])
         self.lines.append('%d <- %s: %s' % (node.me, given if isinstance(given, str) else packet_text(given), answer))
 
     def saw_tick(self, network, number):
@@ -79,9 +76,6 @@ class RunWatch(Unwatched):
 
 def watch(plan, span, known, write):
     """Shows a run."""
-    seen = RunWatch(span, known, write)
-    network = Network(plan, seen)
+    network = Network(plan, RunWatch(span, known, write))
     network.run()
-    ending = 'the last message was delivered in tick %d of %d' % (seen.last_delivery, plan.ticks) if seen.last_delivery else \
-        'no message was delivered in %d ticks' % plan.ticks
-    write('%s\n%s\n' % (network.summary, ending))
+    write(network.summary + '\n')

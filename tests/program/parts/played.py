@@ -113,8 +113,8 @@ RUN, RUN_SHOWN = '--nodes 2 --lose 100 --ticks 8', b"""tick 8:
   node 1: Operational, ring 4.1 (holds none, delivered to 0, safe to 0, keeps token 2); 1 to send; timer 1
   node 2: Operational, ring 4.1 (holds none, delivered to 0, safe to 0)
 
-messages: 0 sent, 0 delivered by every node; rings formed: 0; packets: 3 sent, 2 lost and 0 duplicated by the plan, 0 on their way at the end
-no message was delivered in 8 ticks
+messages: 0 sent, 0 delivered by every node, no delivery; rings formed: 0; packets: 3 sent, 2 lost and 0 duplicated by the plan; on their way \
+at the end: 0 held back, 0 waiting, 0 sent in the last tick
 """
 
 
@@ -124,21 +124,16 @@ def watch_ticks(_program):
 
 
 def watch_run(program):
-    """What is shown of runs is what the program writes, with the same summary; the last line says when anything was delivered last."""
+    """What is shown of runs is what the program writes, with the same summary, which says when anything was delivered last."""
     for words in ('--nodes 2 --ticks 400', '--nodes 3 --lose 20 --repeat 10 --hold 2 --ticks 1500 --seed 3', '--nodes 2 --lose 100 --ticks 80'):
         came, made = call('play', ['--run', words]), process.run([program, 'run', *words.split()])[0]
         wanted = entries_of_run(made.output)
         ticks = [int(tick) for tick, text in re.findall(r'(?ms)^tick (\d+):\n(.*?)\n\n', came.output.decode()) if '; dlv ' in text]
-        last = 'the last message was delivered in tick %d of %s' % (ticks[-1], number_of(words)) if ticks else 'no message was delivered in 80 ticks'
-        ending = '%s\n%s\n' % (made.errors.decode()[len('totem: '):-1], last)
-        if came.status or entries_shown(came.output) != wanted or not came.output.decode().endswith(ending):
+        last = ', last delivery in tick %d; ' % ticks[-1] if ticks else ', no delivery; '
+        ending = made.errors.decode().removeprefix('totem: ')
+        if came.status or entries_shown(came.output) != wanted or last not in ending or not came.output.decode().endswith(ending):
             return 'it shows %r, and the run has %r, and %r' % (came.output[-3000:], wanted, ending)
     return None
-
-
-def number_of(words):
-    """How many ticks these arguments ask for."""
-    return re.search(r'--ticks (\d+)', words)[1]
 
 
 def watch_broken(script, line, _program):
