@@ -167,11 +167,11 @@ class World:
                 left.append(log)
         return left
 
-    def merge(self):
-        """Some parts enter the next regular configuration together."""
+    def merge(self, count=None):
+        """Some parts enter the next regular configuration together, or so many."""
         self.draw.shuffle(self.parts)
         joined, processes = [], set()
-        for part in self.parts[:self.draw.choice((1, 2, 3, 4, 4))]:
+        for part in self.parts[:count or self.draw.choice((1, 2, 3, 4, 4))]:
             there = {log.process for log in part.logs}
             if not there & processes:
                 joined.append(part)

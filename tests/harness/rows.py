@@ -93,3 +93,9 @@ def read_texts():
     """Reads the first row of each file in which the program reads a text that the row contains, whatever it answers."""
     return [row for row in map(read, names())
             if row.given and not row.is_joined and row.verb in VERBS and row.status in (0, 1, 2)]
+
+
+def read_judged():
+    """Reads the first row of each file whose input is a run that gets a verdict."""
+    return [row for row in map(read, names())
+            if row.given and row.verb in ('audit', 'explain') and row.status in (0, 1) and '--script' not in row.words]

@@ -59,6 +59,15 @@ impl Number {
     }
 }
 
+/// Returns the word with which a run text closes a log.
+pub fn word_of(ending: Ending) -> &'static str {
+    match ending {
+        Ending::Standing => "open",
+        Ending::Failed => "failed",
+        Ending::Quiet => "quiet",
+    }
+}
+
 /// Returns the text about a process, or several, whose log ends in a configuration.
 fn ended(
     alloc: Global,

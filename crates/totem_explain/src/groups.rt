@@ -1,6 +1,6 @@
-//! Processes put together by what they share, in the order in which it first comes up.
+//! Processes put together by what they share, in the order in which it first comes up, and messages one after the other.
 use std::alloc::{AllocError, Global};
-use totem_names::{Place, Proc};
+use totem_names::{MsgId, Place, Proc};
 
 /// The processes that share something, and the places at which it came about.
 #[derive(Drop)]
@@ -36,5 +36,37 @@ pub fn add_to_group<S: PartialEq + Copy>(
             group.places.push(place)?;
         }
     }
+    Ok(())
+}
+
+/// Messages of one ring, in ascending order, that share something.
+#[derive(Clone, Copy)]
+pub struct Range<S> {
+    pub shared: S,
+    pub first: MsgId,
+    pub last: MsgId,
+    pub count: u32,
+}
+
+/// Adds a message to the last range, if it shares this with that, or else begins a range.
+pub fn add_to_range<S: PartialEq + Copy>(
+    ranges: &mut Vec<Range<S>>,
+    shared: S,
+    message: MsgId,
+) -> Result<(), AllocError> {
+    if let Some(last) = ranges.last_mut()
+        && last.shared == shared
+        && last.last.ring == message.ring
+    {
+        last.last = message;
+        last.count = last.count.saturating_add(1);
+        return Ok(());
+    }
+    ranges.push(Range {
+        shared,
+        first: message,
+        last: message,
+        count: 1,
+    })?;
     Ok(())
 }

@@ -5,7 +5,7 @@
 //! - `explain_no` explains each fault that it is given, once and in their order (its contract compares the faults).
 //! - `line_of` returns the entry's line as in the run's text (`entry_text`, totem_evs specs/RunText).
 //! - `Counts::of` counts the entries of each kind as they are (`IsSizeOf`, specs/Sizes).
-//! - Every call returns, whatever run, faults and lists it is given, and fails only as out of memory: `explain_yes`,
+//! - Every call returns, whatever run, faults and lists it is given, and fails only as out of memory: `apart_lines`, `explain_yes`,
 //!   `explain_message`, `explain_views`, `explain_refusal`, `rule_of`.
 //!
 //! That the wording and the other counts are right is tested and not proved. Lanes and their layout (`Lane`, `lay_out`) are shared
@@ -13,6 +13,7 @@
 #![tactic(auto)]
 
 mod absence;
+mod apart;
 mod columns;
 mod counts;
 mod cycle;
@@ -27,6 +28,8 @@ mod members;
 mod message;
 mod messages;
 mod no;
+mod parted;
+mod partings;
 mod pass;
 mod reason;
 mod refusal;
@@ -52,6 +55,7 @@ pub use layout::lay_out;
 pub use lookup::{entry_at, message_of};
 pub use message::{Traced, explain_message};
 pub use no::{Explained, ExplainedNo, explain_no, stopped_by};
+pub use parted::apart_lines;
 pub use reason::Reason;
 pub use refusal::explain_refusal;
 pub use required::{Lacking, REQUIRABLE, Required};

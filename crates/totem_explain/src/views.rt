@@ -1,9 +1,10 @@
 //! The membership of a run: its regular configurations, who came to each from where, and what happened there (docs/PROGRAM.md,
 //! "The membership").
 use crate::event::spaced;
+use crate::fate::word_of;
 use crate::fitted::fitted;
 use crate::groups::add_to_group;
-use crate::lookup::log_of;
+use crate::lookup::entry_at;
 use crate::survey::Survey;
 use crate::visits::{Visit, Visits};
 use std::alloc::{AllocError, Global};
@@ -12,10 +13,7 @@ use totem_names::{ConfId, Proc};
 
 /// Returns the members of the configuration of a visit.
 fn members_of<'r>(run: &'r Run, visit: &Visit) -> &'r [Proc] {
-    let Some(log) = log_of(run, visit.proc) else {
-        return &[];
-    };
-    match log.entries.as_slice().get(visit.at) {
+    match entry_at(run, visit.place) {
         Some(Entry::Conf(_, members)) => members.as_slice(),
         _ => &[],
     }
@@ -37,11 +35,7 @@ fn way_told(
 
 /// Returns how and where a log ends: in which transitional configuration, if in one.
 fn end_told(alloc: Global, ending: Ending, ends_in: Option<ConfId>) -> Result<String, AllocError> {
-    let word = match ending {
-        Ending::Standing => "open",
-        Ending::Failed => "failed",
-        Ending::Quiet => "quiet",
-    };
+    let word = word_of(ending);
     match ends_in {
         Some(conf) => format!(in alloc; "{word} in {conf}"),
         None => format!(in alloc; "{word} here"),

@@ -1,7 +1,8 @@
 //! The stays of processes in regular configurations, and an order of the configurations that fits all logs.
+use crate::lookup::place_of;
 use std::alloc::{AllocError, Global};
 use totem_evs::{Ending, Entry, Log, Run};
-use totem_names::{ConfId, Proc};
+use totem_names::{ConfId, Place, Proc};
 
 /// What a process did in a regular configuration and in the transitional one after it.
 #[derive(Clone, Copy)]
@@ -9,8 +10,8 @@ pub struct Visit {
     pub proc: Proc,
     /// The regular configuration.
     pub conf: ConfId,
-    /// The index of its entry in the log.
-    pub at: usize,
+    /// The change to it.
+    pub place: Place,
     /// The regular configuration before it in the log.
     pub from: Option<ConfId>,
     /// The transitional configuration on the way to it.
@@ -50,7 +51,7 @@ impl Stays {
         self.list.last_mut()
     }
 
-    fn add_change(&mut self, proc: Proc, at: usize, conf: &ConfId) -> Result<(), AllocError> {
+    fn add_change(&mut self, place: Place, conf: &ConfId) -> Result<(), AllocError> {
         if let ConfId::Transitional { .. } = conf {
             self.through = Some(*conf);
             return Ok(());
@@ -58,9 +59,9 @@ impl Stays {
         let from = self.last().map(|visit| visit.conf);
         let through = self.through;
         self.list.push(Visit {
-            proc,
+            proc: place.proc,
             conf: *conf,
-            at,
+            place,
             from,
             through,
             sends: 0,
@@ -92,7 +93,7 @@ impl Stays {
         self.through = None;
         for (at, entry) in log.entries.as_slice().iter().enumerate() {
             match entry {
-                Entry::Conf(conf, _) => self.add_change(log.proc, at, conf)?,
+                Entry::Conf(conf, _) => self.add_change(place_of(log, at), conf)?,
                 Entry::Send(_, _, _) => self.add_send(),
                 Entry::Deliver(_, _) => self.add_delivery(),
                 Entry::Fail(_) => {}

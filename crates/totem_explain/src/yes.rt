@@ -2,63 +2,36 @@
 use crate::counts::Counts;
 use crate::fate::{Number, course_of};
 use crate::fitted::fitted;
+use crate::groups::{Range, add_to_range};
 use crate::members::bracketed;
+use crate::parted::partings_told;
 use std::alloc::{AllocError, Global};
 use totem_evs::{Pending, Run, Waiting};
-use totem_names::{MsgId, Version};
-
-/// Pending deliveries of one process, of the messages of one ring.
-#[derive(Clone, Copy, PartialEq, Eq)]
-struct Group {
-    first: Pending,
-    last: MsgId,
-    count: u32,
-}
-
-impl Group {
-    fn of(pending: Pending) -> Group {
-        Group {
-            first: pending,
-            last: pending.msg,
-            count: 1,
-        }
-    }
-
-    fn has(&self, pending: &Pending) -> bool {
-        self.first.proc == pending.proc && self.first.msg.ring == pending.msg.ring
-    }
-
-    fn add(&mut self, pending: &Pending) {
-        self.last = pending.msg;
-        self.count = self.count.saturating_add(1);
-    }
-
-    fn push(&self, version: Version, text: &mut String) -> Result<(), AllocError> {
-        let proc = self.first.proc.written(version);
-        let first = self.first.msg;
-        let last = self.last;
-        match self.count {
-            1 => write!(text, "  process {proc} may still deliver {first}\n"),
-            count => write!(
-                text,
-                "  process {proc} may still deliver {count} messages, {first} to {last}\n"
-            ),
-        }
-    }
-}
+use totem_names::Version;
 
 /// Returns a line for each process and ring with pending deliveries.
 fn pending_lines(alloc: Global, version: Version, list: &[Pending]) -> Result<String, AllocError> {
-    let mut groups: Vec<Group> = Vec::new(alloc);
-    for pending in list {
-        match groups.last_mut() {
-            Some(group) if group.has(pending) => group.add(pending),
-            _ => groups.push(Group::of(*pending))?,
-        }
+    let mut ranges = Vec::new(alloc);
+    for Pending { proc, msg } in list {
+        add_to_range(&mut ranges, *proc, *msg)?;
     }
     let mut text = String::new(alloc);
-    for group in &groups {
-        group.push(version, &mut text)?;
+    for range in &ranges {
+        let proc = range.shared.written(version);
+        let Range {
+            first,
+            last,
+            count,
+            ..
+        } = range;
+        if *count == 1 {
+            write!(text, "  process {proc} may still deliver {first}\n")?;
+        } else {
+            write!(
+                text,
+                "  process {proc} may still deliver {count} messages, {first} to {last}\n"
+            )?;
+        }
     }
     Ok(text)
 }
@@ -117,6 +90,7 @@ pub fn explain_yes(
         "Waiting, which is not a fault:",
         waiting_lines(alloc, run, waiting)?.as_str(),
     )?;
+    text.push_str(partings_told(alloc, run)?.as_str())?;
     text.push_str(counts.told(alloc, None)?.as_str())?;
     fitted(alloc, text.as_str(), columns)
 }

@@ -1,9 +1,9 @@
-//! What is made of a judged run other than the verdict in words: pictures, counts and the membership.
+//! What is made of a judged run other than the verdict in words: pictures, counts, partings and the membership.
 use std::alloc::{AllocError, Global};
 use totem_audit::Verdict;
 use totem_draw::{draw_no, draw_views, draw_yes};
 use totem_evs::Run;
-use totem_explain::{Counts, Lacking, explain_views, stopped_by};
+use totem_explain::{Counts, Lacking, apart_lines, explain_views, stopped_by};
 
 /// What is made of a run.
 #[derive(Clone, Copy)]
@@ -13,6 +13,8 @@ pub enum Rendering {
     Picture(Option<u32>),
     /// What it put to the test, a line for each count (docs/SPECIFICATIONS.md, "Counts").
     Counts,
+    /// Where it parted, and what one side has that another lacks (docs/SPECIFICATIONS.md, "Apart").
+    Apart,
     /// Its membership, in lines of this many columns (docs/PROGRAM.md, "The membership").
     Views(usize),
     /// A picture of its membership, in SVG.
@@ -75,6 +77,7 @@ pub fn rendered(
     match rendering {
         Rendering::Picture(number) => drawn(alloc, run, verdict, number, lacking),
         Rendering::Counts => count_lines(alloc, run, verdict, lacking),
+        Rendering::Apart => apart_lines(alloc, run, matches!(verdict, Verdict::Yes { .. })),
         Rendering::Views(columns) => explain_views(alloc, run, columns),
         Rendering::DrawnViews => draw_views(alloc, run),
     }

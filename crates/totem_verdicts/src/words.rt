@@ -151,6 +151,15 @@ fn counts_option<'a>(alloc: Global) -> Arg<'a> {
         )
 }
 
+fn apart_option<'a>(alloc: Global) -> Arg<'a> {
+    Arg::new(alloc, "apart")
+        .long("apart")
+        .action(ArgAction::SetTrue)
+        .help(
+            "Instead of the explanation, write where the group parted, and which messages one side delivered and another lacks, in lines for programs. docs/SPECIFICATIONS.md, Apart, describes them",
+        )
+}
+
 fn require_option<'a>(alloc: Global) -> Arg<'a> {
     Arg::new(alloc, "require")
         .long("require")
@@ -214,7 +223,17 @@ fn explain_command<'a>(alloc: Global) -> Result<Command<'a>, AllocError> {
                 .conflicts_with("script")?,
         )?
         .arg(
+            apart_option(alloc)
+                .conflicts_with("svg")?
+                .conflicts_with("counts")?
+                .conflicts_with("require")?
+                .conflicts_with("fault")?
+                .conflicts_with("views")?
+                .conflicts_with("script")?,
+        )?
+        .arg(
             message_option(alloc)
+                .conflicts_with("apart")?
                 .conflicts_with("views")?
                 .conflicts_with("fault")?
                 .conflicts_with("svg")?
@@ -257,6 +276,8 @@ fn explanation_of(matches: &ArgMatches<'_>) -> Explanation {
         Explanation::Rendered(Rendering::Picture(matches.get_one::<u32>("fault")))
     } else if matches.get_flag("counts") {
         Explanation::Rendered(Rendering::Counts)
+    } else if matches.get_flag("apart") {
+        Explanation::Rendered(Rendering::Apart)
     } else if of_views {
         Explanation::Rendered(Rendering::Views(columns_of(matches)))
     } else {

@@ -74,7 +74,5 @@ def counts():
     """The counts of runs."""
     for first in range(0, RUNS, TOGETHER):
         yield 'random runs from %d' % first, partial(try_random, first)
-    for name in row_files.names():
-        row = row_files.read(name)
-        if row.given and row.verb in ('audit', 'explain') and row.status in (0, 1) and '--script' not in row.words:
-            yield 'the run of %s' % name, partial(try_row, row.given)
+    for row in row_files.read_judged():
+        yield 'the run of %s' % row.name, partial(try_row, row.given)
