@@ -26,6 +26,7 @@ mod lookup;
 mod members;
 mod message;
 mod messages;
+mod missing;
 mod no;
 mod pass;
 mod reason;

@@ -5,6 +5,7 @@ use crate::columns::{Focus, columns as side_by_side};
 use crate::counts::Counts;
 use crate::event::{event_at, place_name};
 use crate::fitted::fitted;
+use crate::missing::told_missing;
 use crate::pass::Pass;
 use crate::reason::Reason;
 use crate::rule::rule_of;
@@ -141,10 +142,20 @@ fn heading(
     Ok(text)
 }
 
-/// Returns what a run with these faults put to the test, after an empty line.
-fn closing(alloc: Global, faults: &[Fault], counts: &Counts) -> Result<String, AllocError> {
-    let told = counts.told(alloc, stopped_by(faults))?;
-    format!(in alloc; "\n{told}")
+/// Returns what quiet logs lack, if that was looked for, and what a run with these faults put to the test, after an empty line.
+fn closing(
+    alloc: Global,
+    run: &Run,
+    faults: &[Fault],
+    counts: &Counts,
+) -> Result<String, AllocError> {
+    let stopped = stopped_by(faults);
+    let missing = match stopped.map(Pass::of) {
+        None | Some(Pass::D) => told_missing(alloc, run, counts)?,
+        _ => String::new(alloc),
+    };
+    let told = counts.told(alloc, stopped)?;
+    format!(in alloc; "\n{missing}{told}")
 }
 
 /// Returns the specification at which an audit with these faults stopped.
@@ -170,6 +181,10 @@ pub fn explain_no(
             columns,
         )?,
         faults: explain_each(alloc, run, faults, columns)?,
-        closing: fitted(alloc, closing(alloc, faults, counts)?.as_str(), columns)?,
+        closing: fitted(
+            alloc,
+            closing(alloc, run, faults, counts)?.as_str(),
+            columns,
+        )?,
     })
 }

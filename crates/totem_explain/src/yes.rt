@@ -3,11 +3,15 @@ use crate::counts::Counts;
 use crate::fate::{Number, course_of};
 use crate::fitted::fitted;
 use crate::members::bracketed;
+use crate::missing::told_missing;
 use std::alloc::{AllocError, Global};
 use totem_evs::{Pending, Run, Waiting};
 use totem_names::{MsgId, Version};
 
-/// Pending deliveries of one process, of the messages of one ring.
+/// How many lines about deliveries are shown.
+const SHOWN: usize = 20;
+
+/// Deliveries that one process lacks, of the messages of one ring.
 #[derive(Clone, Copy, PartialEq, Eq)]
 struct Group {
     first: Pending,
@@ -33,22 +37,27 @@ impl Group {
         self.count = self.count.saturating_add(1);
     }
 
-    fn push(&self, version: Version, text: &mut String) -> Result<(), AllocError> {
+    fn push(&self, version: Version, does: &str, text: &mut String) -> Result<(), AllocError> {
         let proc = self.first.proc.written(version);
         let first = self.first.msg;
         let last = self.last;
         match self.count {
-            1 => write!(text, "  process {proc} may still deliver {first}\n"),
+            1 => write!(text, "  process {proc} {does} {first}\n"),
             count => write!(
                 text,
-                "  process {proc} may still deliver {count} messages, {first} to {last}\n"
+                "  process {proc} {does} {count} messages, {first} to {last}\n"
             ),
         }
     }
 }
 
-/// Returns a line for each process and ring with pending deliveries.
-fn pending_lines(alloc: Global, version: Version, list: &[Pending]) -> Result<String, AllocError> {
+/// Returns a line for each process and ring with deliveries that the process lacks, and says by `does` what it does with the messages.
+pub(crate) fn delivery_lines(
+    alloc: Global,
+    version: Version,
+    list: &[Pending],
+    does: &str,
+) -> Result<String, AllocError> {
     let mut groups: Vec<Group> = Vec::new(alloc);
     for pending in list {
         match groups.last_mut() {
@@ -57,8 +66,12 @@ fn pending_lines(alloc: Global, version: Version, list: &[Pending]) -> Result<St
         }
     }
     let mut text = String::new(alloc);
-    for group in &groups {
-        group.push(version, &mut text)?;
+    for group in groups.iter().take(SHOWN) {
+        group.push(version, does, &mut text)?;
+    }
+    let more = groups.len().saturating_sub(SHOWN);
+    if more > 0 {
+        write!(text, "  and {more} more lines like these\n")?;
     }
     Ok(text)
 }
@@ -110,13 +123,14 @@ pub fn explain_yes(
     push_headed(
         &mut text,
         "Pending, which is not a fault:",
-        pending_lines(alloc, run.version, pending)?.as_str(),
+        delivery_lines(alloc, run.version, pending, "may still deliver")?.as_str(),
     )?;
     push_headed(
         &mut text,
         "Waiting, which is not a fault:",
         waiting_lines(alloc, run, waiting)?.as_str(),
     )?;
+    text.push_str(told_missing(alloc, run, counts)?.as_str())?;
     text.push_str(counts.told(alloc, None)?.as_str())?;
     fitted(alloc, text.as_str(), columns)
 }
