@@ -39,7 +39,5 @@ pub fn told_missing(alloc: Global, run: &Run, counts: &Counts) -> Result<String,
     }
     let list = missing_of(alloc, run)?;
     let lines = delivery_lines(alloc, run.version, list.as_slice(), "did not deliver")?;
-    format!(in alloc;
-        "Missing where quiet logs end, which alone is not a fault:\n{lines}"
-    )
+    format!(in alloc; "Missing where quiet logs end, which alone is not a fault:\n{lines}")
 }
