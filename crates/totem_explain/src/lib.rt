@@ -13,6 +13,7 @@
 #![tactic(auto)]
 
 mod absence;
+mod circle;
 mod columns;
 mod counts;
 mod cycle;
@@ -27,6 +28,7 @@ mod members;
 mod message;
 mod messages;
 mod missing;
+mod next;
 mod no;
 mod pass;
 mod reason;
