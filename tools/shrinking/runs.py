@@ -36,7 +36,7 @@ def reasons_of(explanation):
     """For each broken specification, the sentences that explain why its first fault breaks it, without names; each once, in no order."""
     told = {}
     for section in explanation.split('\nfault ')[1:]:
-        why = section.partition('\nWhy it is broken:\n')[2].partition('\nThe logs there:\n')[0]
+        why = section.partition('\nWhy it is broken')[2].partition(':\n')[2].partition('\nThe logs there:\n')[0]
         told.setdefault(section.split(' ')[0], frozenset(NAME.sub('..', why).splitlines()))
     return told
 
