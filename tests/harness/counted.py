@@ -151,6 +151,15 @@ class Counting:
         yield '7.1-open', came.count('open')
         yield '7.2', sum(entry.message in self.safe and is_regular(entry.configuration) for _, _, entry in self.deliveries)
 
+    def ends(self):
+        """What quiet logs lack of the agreed messages of others."""
+        quiet = [log for log in self.logs if log.ending == 'quiet']
+        lacks = [log.who for log in quiet for ring in list(filter(is_regular, self.changes(log)))[-1:] for sender, _, sent in self.sends
+                 if sender is not log and (sent.configuration, sent.service) == (ring, 'a') and sent.message not in self.delivered(log, ring)
+                 and any(sent.message in self.delivered(other, ring) for other in self.logs)]
+        yield 'complete', len(quiet) - len(set(lacks))
+        yield 'missing', len(lacks)
+
 
 def counted(logs, stopped):
     """The counts of a run, in order; `stopped` is the specification of the first fault, or None."""
@@ -163,3 +172,5 @@ def counted(logs, stopped):
     yield from counting.shape()
     for part in (counting.basic, counting.own, counting.order, counting.safety):
         yield from ((name, number) for name, number in part() if name.partition('-')[0] in checked)
+    if checked >= PASSES[-1]:
+        yield from counting.ends()

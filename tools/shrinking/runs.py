@@ -12,7 +12,7 @@ KINDS = (leaving_out.processes, leaving_out.configurations, leaving_out.messages
          leaving_out.members)
 NAME = re.compile(r'[rt]?[0-9][0-9.:#/@]*')
 # What an explanation says of a fault below this heading, up to the next one; in lines so long that no reason is broken where a name is longer.
-REASONS = re.compile(r'\nWhy it is broken:\n((?:  .*\n)*)')
+REASONS = re.compile(r'\nWhy it is broken[^\n:]*:\n((?:  .*\n)*)')
 COLUMNS = 400
 NAMINGS = (naming.of_least_version, naming.with_small_processes, naming.with_small_rings, naming.with_small_messages)
 

@@ -53,6 +53,9 @@ pub struct Counts {
     pub obliged_open: u32,
     /// 7.2: deliveries of safe messages in regular configurations.
     pub installed: u32,
+    /// Quiet logs that lack no agreed message of where they end, and the deliveries that the others lack.
+    pub complete: u32,
+    pub missing: u32,
 }
 
 impl Counts {
@@ -69,11 +72,15 @@ impl Counts {
         let mut traffic = Traffic::of(alloc, run, &mut sites, &messages, is_late)?;
         let mut counts = Counts::default();
         let mut lacked = None;
+        let mut incomplete = 0u32;
         for (index, one) in traffic.sent.iter().enumerate() {
             counts.add_message(one);
             if let Some(site) = sites.list.get_mut(one.site as usize) {
                 let late = traffic.late.get(index);
                 counts.add_at(one, late.copied().unwrap_or_default(), site);
+                let missing = one.missing_at(site);
+                incomplete |= missing;
+                counts.missing = counts.missing.saturating_add(missing.count_ones());
                 if site.add_past(one.delivered) {
                     lacked = lacked.or(Some(index));
                 }
@@ -92,6 +99,7 @@ impl Counts {
             larger: traffic.larger,
             past: traffic.past,
             past_no_member: traffic.lacking,
+            complete: counts.quiet.saturating_sub(incomplete.count_ones()),
             ..counts
         })
     }

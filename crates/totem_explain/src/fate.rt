@@ -134,14 +134,21 @@ pub fn went_on(log: &Log, at: u32) -> Option<Course> {
     })
 }
 
-/// Returns the course after the following transitional configuration, to which entry `at` changes.
-fn behind_following(log: &Log, conf: &ConfId, at: u32) -> Course {
-    match change_behind(log, at) {
-        Some((place, next)) => Course {
-            fate: Fate::WentOn(next),
-            place: Some(place),
-        },
-        None => Course::ended(Fate::Ended(*conf, log.ending)),
+/// Returns how a log ends: in a failure, too, if only other entries than changes come after it.
+fn ending_of(log: &Log) -> Ending {
+    let behind = log.entries.as_slice().iter().rev();
+    let mut behind = behind.take_while(|entry| !matches!(entry, Entry::Conf(..)));
+    match behind.any(|entry| matches!(entry, Entry::Fail(_))) {
+        true => Ending::Failed,
+        false => log.ending,
+    }
+}
+
+/// Returns what a process did after entry `at` of its log, at which it is in `conf`.
+fn behind(log: &Log, conf: &ConfId, at: u32) -> Course {
+    match went_on(log, at) {
+        Some(course) => course,
+        None => Course::ended(Fate::Ended(*conf, ending_of(log))),
     }
 }
 
@@ -150,13 +157,10 @@ fn behind_following(log: &Log, conf: &ConfId, at: u32) -> Course {
 pub fn next_of(log: &Log, conf: &ConfId, at: u32) -> Course {
     match change_behind(log, at) {
         Some((place, next)) => match next {
-            ConfId::Transitional { .. } => behind_following(log, &next, place.at),
-            ConfId::Regular(_) => Course {
-                fate: Fate::WentOn(next),
-                place: Some(place),
-            },
+            ConfId::Transitional { .. } => behind(log, &next, place.at),
+            ConfId::Regular(_) => behind(log, conf, at),
         },
-        None => Course::ended(Fate::Ended(*conf, log.ending)),
+        None => behind(log, conf, at),
     }
 }
 
@@ -198,7 +202,7 @@ pub fn instead_of(log: &Log, conf: &ConfId) -> Course {
         last = Some(*to);
     }
     Course::ended(match last {
-        Some(from) => Fate::NeverCame(*conf, Instead::Ended(from, log.ending)),
+        Some(from) => Fate::NeverCame(*conf, Instead::Ended(from, ending_of(log))),
         None => Fate::NeverCame(*conf, Instead::Nowhere),
     })
 }

@@ -14,6 +14,7 @@
 
 mod absence;
 mod apart;
+mod circle;
 mod columns;
 mod counts;
 mod cycle;
@@ -27,6 +28,8 @@ mod lookup;
 mod members;
 mod message;
 mod messages;
+mod missing;
+mod next;
 mod no;
 mod parted;
 mod partings;

@@ -101,6 +101,32 @@ fn elsewhere(
     Ok(text)
 }
 
+/// Adds which of the processes that don't deliver a message deliver one of the same ring with a greater number.
+fn push_greater(
+    alloc: Global,
+    text: &mut String,
+    run: &Run,
+    message: MsgId,
+    without: &[Proc],
+) -> Result<(), AllocError> {
+    for log in run.logs.as_slice() {
+        let mut entries = log.entries.as_slice().iter().enumerate();
+        let greater = entries.find(|(_, entry)| match entry {
+            Entry::Deliver(other, _) => other.ring == message.ring && message.is_below(other),
+            _ => false,
+        });
+        if let Some((index, entry)) = greater.filter(|_| without.contains(&log.proc)) {
+            let event = event_of(alloc, run.version, log.proc, entry)?;
+            let place = place_name(alloc, run.version, place_of(log, index))?;
+            write!(
+                text,
+                "  But {event}, which has a greater number ({place}).\n"
+            )?;
+        }
+    }
+    Ok(())
+}
+
 /// Adds lines under a heading, or a sentence if there are none.
 fn push_part(text: &mut String, heading: &str, lines: &str, none: &str) -> Result<(), AllocError> {
     if lines.is_empty() {
@@ -140,7 +166,14 @@ pub fn explain_message(
         "No log delivers it.",
     )?;
     let conf = origin_of(run, message);
-    let elsewhere = elsewhere(alloc, run, &conf, trace.without.as_slice())?;
+    let mut elsewhere = elsewhere(alloc, run, &conf, trace.without.as_slice())?;
+    push_greater(
+        alloc,
+        &mut elsewhere,
+        run,
+        message,
+        trace.without.as_slice(),
+    )?;
     push_part(
         &mut text,
         "Not delivered:",

@@ -1,10 +1,13 @@
 //! The explanation of a no.
 ghost use Rattle.std.specs.Prelude.{◌≡◌, IfOk, map};
 
+use crate::circle::shortened;
 use crate::columns::{Focus, columns as side_by_side};
 use crate::counts::Counts;
 use crate::event::{event_at, place_name};
 use crate::fitted::fitted;
+use crate::missing::told_missing;
+use crate::next::what_next;
 use crate::parted::partings_told;
 use crate::pass::Pass;
 use crate::reason::Reason;
@@ -21,7 +24,7 @@ pub struct Explained {
     pub text: String,
 }
 
-/// The explanation of a no: a heading, then each fault, and then what the run put to the test.
+/// The explanation of a no: a heading, then each fault, what the run put to the test, and what to do next.
 #[derive(Debug, Drop)]
 pub struct ExplainedNo {
     pub heading: String,
@@ -60,11 +63,18 @@ fn told(
     columns: usize,
 ) -> Result<String, AllocError> {
     let beginning = beginning(alloc, run, fault)?;
-    let Reason { text, absences } = Reason::of(alloc, run, fault)?;
+    let shown = shortened(alloc, run, fault)?;
+    let places = shown.places.as_slice();
+    let how = if places.len() < fault.places.as_slice().len() {
+        ", by a shorter list of events"
+    } else {
+        ""
+    };
+    let Reason { text, absences } = Reason::of(alloc, run, &shown)?;
     let same = same_as(alloc, run, earlier, fault)?;
     let focus = Focus {
         run,
-        places: fault.places.as_slice(),
+        places,
         absences: absences.as_slice(),
     };
     let lines = side_by_side(alloc, &focus, columns)?;
@@ -73,7 +83,7 @@ fn told(
     } else {
         "The logs there (after a -: what is missing):"
     };
-    format!(in alloc; "{beginning}Why it is broken:\n{text}{same}{there}\n{lines}")
+    format!(in alloc; "{beginning}Why it is broken{how}:\n{text}{same}{there}\n{lines}")
 }
 
 /// Explains each of these faults of the run, in order: the first 100 in full, the others by the rule and what happened at their
@@ -129,7 +139,7 @@ fn heading(
     let summary = counts.size.summary(alloc, run)?;
     let unseen = stopped_by(faults).map_or("", unseen_behind);
     let mut text = format!(in alloc;
-        "No: the run breaks extended virtual synchrony.\n{summary}{unseen}"
+        "No: the run as recorded breaks extended virtual synchrony.\n{summary}{unseen}"
     )?;
     let first = IN_FULL;
     let count = faults.len();
@@ -142,7 +152,8 @@ fn heading(
     Ok(text)
 }
 
-/// Returns where a run with these faults parted, and what it put to the test, after an empty line.
+/// Returns, after an empty line, where a run with these faults parted, what quiet logs lack, if that was looked for, what the run put to the
+/// test, and what to do next.
 fn closing(
     alloc: Global,
     run: &Run,
@@ -150,8 +161,14 @@ fn closing(
     counts: &Counts,
 ) -> Result<String, AllocError> {
     let partings = partings_told(alloc, run)?;
-    let told = counts.told(alloc, stopped_by(faults))?;
-    format!(in alloc; "\n{partings}{told}")
+    let stopped = stopped_by(faults);
+    let missing = match stopped.map(Pass::of) {
+        None | Some(Pass::D) => told_missing(alloc, run, counts)?,
+        _ => String::new(alloc),
+    };
+    let told = counts.told(alloc, stopped)?;
+    let next = what_next(alloc, run, faults)?;
+    format!(in alloc; "\n{partings}{missing}{told}{next}")
 }
 
 /// Returns the specification at which an audit with these faults stopped.
@@ -159,8 +176,8 @@ pub fn stopped_by(faults: &[Fault]) -> Option<SpecNo> {
     faults.first().map(|fault| fault.spec)
 }
 
-/// Explains the no of a run: how much was judged, each of these faults in order, and what the run put to the test, which are its counts.
-/// Only the first 100 faults are explained in full. A line has at most this many columns, unless a word is longer.
+/// Explains the no of a run: how much was judged, each of these faults in order, what the run put to the test, which are its counts, and what
+/// to do next. Only the first 100 faults are explained in full. A line has at most this many columns, unless a word is longer.
 pub fn explain_no(
     alloc: Global,
     run: &Run,

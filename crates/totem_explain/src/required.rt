@@ -2,8 +2,9 @@
 use crate::counts::Counts;
 use std::alloc::{AllocError, Global};
 
-/// The names of the counts that can be required: those of the shape of a run, and the first one of each specification.
-pub const REQUIRABLE: [&'static str; 22] = [
+/// The names of the counts that can be required: those of the shape of a run, the first one of each specification, and the quiet logs that
+/// lack nothing.
+pub const REQUIRABLE: [&'static str; 23] = [
     "regular",
     "shared",
     "partition",
@@ -26,9 +27,10 @@ pub const REQUIRABLE: [&'static str; 22] = [
     "6.3",
     "7.1",
     "7.2",
+    "complete",
 ];
 
-/// A set of counts that must not be 0.
+/// A set of counts that must not be 0; `complete` has to be that of all quiet logs.
 #[derive(Clone, Copy)]
 pub struct Required {
     // Bit i stands for the i-th requirable count.
@@ -54,7 +56,8 @@ impl Required {
         let mut text = String::new(alloc);
         let mut bit = 1u32;
         for name in REQUIRABLE {
-            if self.bits & bit != 0 && counts.value_of(name) == 0 {
+            let is_low = counts.value_of(name) == 0 || name == "complete" && counts.missing > 0;
+            if self.bits & bit != 0 && is_low {
                 text.push_str(if text.is_empty() {
                     "totem: not tested: "
                 } else {

@@ -37,6 +37,8 @@ pub struct Site {
     pub failed: u32,
     /// The logs that are open in it, or in what follows it.
     pub open: u32,
+    /// The quiet logs that end in it, or in what follows it.
+    pub quiet: u32,
     /// Of a regular one: the logs that deliver a message that was sent there and that another one lacks.
     pub past: u32,
     before: Beside,
@@ -60,6 +62,7 @@ impl Site {
             left: 0,
             failed: 0,
             open: 0,
+            quiet: 0,
             past: 0,
             before: Beside::None,
             behind: Beside::None,
@@ -239,7 +242,7 @@ impl Sites {
             match ending {
                 Ending::Failed => site.failed |= stay.log,
                 Ending::Standing => site.open |= stay.log,
-                Ending::Quiet => {}
+                Ending::Quiet => site.quiet |= stay.log,
             }
         }
     }

@@ -6,7 +6,7 @@ use totem_evs::SpecNo;
 
 /// The names of the counts for programs and their labels for people, in the order of `values`. The name of a count about a premise or an
 /// excuse begins with the specification.
-const NAMES: [(&str, &str); 31] = [
+const NAMES: [(&str, &str); 33] = [
     ("regular", "regular configurations"),
     ("shared", "shared"),
     ("partition", "partitions"),
@@ -41,9 +41,11 @@ const NAMES: [(&str, &str); 31] = [
         "7.2",
         "deliveries of safe messages in regular configurations",
     ),
+    ("complete", "complete quiet logs"),
+    ("missing", "deliveries missing in others"),
 ];
 
-fn values(counts: &Counts) -> [u32; 31] {
+fn values(counts: &Counts) -> [u32; 33] {
     [
         counts.regular,
         counts.shared,
@@ -76,6 +78,8 @@ fn values(counts: &Counts) -> [u32; 31] {
         counts.obliged_failed,
         counts.obliged_open,
         counts.installed,
+        counts.complete,
+        counts.missing,
     ]
 }
 
@@ -115,7 +119,8 @@ const UNTESTED: [(SpecNo, &str); 14] = [
 /// A count, with its name and its label.
 #[derive(Clone, Copy)]
 struct Count {
-    /// The specification whose premise or excuse it counts, with why that premise was never met; `None` if it says what the run is like.
+    /// The specification whose premise or excuse it counts, with why that premise was never met; `None` if it says what the run is like,
+    /// or what quiet logs lack.
     about: Option<(SpecNo, &'static str)>,
     name: &'static str,
     label: &'static str,
@@ -134,9 +139,12 @@ fn checked(
             .iter()
             .find(|(spec, _)| name.starts_with(spec.as_str()));
         let about = about.copied();
-        if let (Some((spec, _)), Some(fault)) = (about, stopped)
-            && Pass::of(spec) > Pass::of(fault)
-        {
+        let pass = match about {
+            Some((spec, _)) => Pass::of(spec),
+            None if *name == "complete" || *name == "missing" => Pass::D,
+            None => Pass::A,
+        };
+        if stopped.is_some_and(|fault| pass > Pass::of(fault)) {
             continue;
         }
         list.push(Count {

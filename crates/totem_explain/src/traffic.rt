@@ -1,6 +1,6 @@
 //! The messages of a run, each with the logs that deliver it. Sets of logs are bits, as in `sites`.
 use crate::messages::Messages;
-use crate::sites::{Sites, Stay, is_regular};
+use crate::sites::{Site, Sites, Stay, is_regular};
 use std::alloc::{AllocError, Global};
 use totem_evs::{Entry, Log, Run};
 use totem_names::{MsgId, Service};
@@ -53,6 +53,15 @@ impl Sent {
     /// Returns the bit of the log that sends it.
     pub fn sender(&self) -> u32 {
         1u32.checked_shl(u32::from(self.sender)).unwrap_or(0)
+    }
+
+    /// Returns the quiet logs that end at the site where it was sent, and lack it though another process delivers it. The sender and
+    /// those that have to deliver it, since it is safe, are not among them.
+    pub fn missing_at(&self, site: &Site) -> u32 {
+        if self.is_safe || self.delivered == 0 {
+            return 0;
+        }
+        site.quiet & !self.delivered & !self.sender()
     }
 
     fn send(&mut self, stay: &Stay, is_later: bool, service: Service) {

@@ -4,19 +4,28 @@ use crate::fate::{Number, course_of};
 use crate::fitted::fitted;
 use crate::groups::{Range, add_to_range};
 use crate::members::bracketed;
+use crate::missing::told_missing;
 use crate::parted::partings_told;
 use std::alloc::{AllocError, Global};
 use totem_evs::{Pending, Run, Waiting};
 use totem_names::Version;
 
-/// Returns a line for each process and ring with pending deliveries.
-fn pending_lines(alloc: Global, version: Version, list: &[Pending]) -> Result<String, AllocError> {
+/// How many lines about deliveries are shown.
+const SHOWN: usize = 20;
+
+/// Returns a line for each process and ring with deliveries that the process lacks, and says by `does` what it does with the messages.
+pub fn delivery_lines(
+    alloc: Global,
+    version: Version,
+    list: &[Pending],
+    does: &str,
+) -> Result<String, AllocError> {
     let mut ranges = Vec::new(alloc);
     for Pending { proc, msg } in list {
         add_to_range(&mut ranges, *proc, *msg)?;
     }
     let mut text = String::new(alloc);
-    for range in &ranges {
+    for range in ranges.iter().take(SHOWN) {
         let proc = range.shared.written(version);
         let Range {
             first,
@@ -25,13 +34,17 @@ fn pending_lines(alloc: Global, version: Version, list: &[Pending]) -> Result<St
             ..
         } = range;
         if *count == 1 {
-            write!(text, "  process {proc} may still deliver {first}\n")?;
+            write!(text, "  process {proc} {does} {first}\n")?;
         } else {
             write!(
                 text,
-                "  process {proc} may still deliver {count} messages, {first} to {last}\n"
+                "  process {proc} {does} {count} messages, {first} to {last}\n"
             )?;
         }
+    }
+    let more = ranges.len().saturating_sub(SHOWN);
+    if more > 0 {
+        write!(text, "  and {more} more lines like these\n")?;
     }
     Ok(text)
 }
@@ -83,7 +96,7 @@ pub fn explain_yes(
     push_headed(
         &mut text,
         "Pending, which is not a fault:",
-        pending_lines(alloc, run.version, pending)?.as_str(),
+        delivery_lines(alloc, run.version, pending, "may still deliver")?.as_str(),
     )?;
     push_headed(
         &mut text,
@@ -91,6 +104,7 @@ pub fn explain_yes(
         waiting_lines(alloc, run, waiting)?.as_str(),
     )?;
     text.push_str(partings_told(alloc, run)?.as_str())?;
+    text.push_str(told_missing(alloc, run, counts)?.as_str())?;
     text.push_str(counts.told(alloc, None)?.as_str())?;
     fitted(alloc, text.as_str(), columns)
 }

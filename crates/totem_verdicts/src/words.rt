@@ -167,7 +167,7 @@ fn require_option<'a>(alloc: Global) -> Arg<'a> {
         .value_delimiter(',')
         .value_parser(ValueParser::Names(&REQUIRABLE))
         .help(
-            "End a yes with status 5 and a line on standard error if one of these counts is 0, as in `--require safe,transitional,7.1`. docs/SPECIFICATIONS.md, Counts, describes them",
+            "End a yes with status 5 and a line on standard error if one of these counts is 0, as in `--require safe,transitional,7.1`; `complete` has to be that of all quiet logs. docs/SPECIFICATIONS.md, Counts, describes them",
         )
 }
 

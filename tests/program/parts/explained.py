@@ -37,6 +37,16 @@ def try_many_faults(program):
     return None if is_right else 'came: %s' % came
 
 
+def try_many_ends(program):
+    """Of 31 quiet logs that lack what the 32nd delivers, the first twenty are named."""
+    members = ' '.join('%d:1' % number for number in range(1, 33))
+    lacking = ''.join('log %d:1\nconf r4.1 %s\nquiet\n' % (number, members) for number in range(1, 32))
+    came = told_by(program, (), 'totem-run 3\n%slog 32:1\nconf r4.1 %s\nsend r4.1 a 4.1#7\ndlv r4.1 4.1#7\nquiet\nend\n' % (lacking, members))
+    named = ''.join('  process %d:1 did not deliver 4.1#7\n' % number for number in range(1, 21))
+    is_right = came.status == 0 and ' alone is not a fault:\n%s  and 11 more lines like these\nWhat' % named in came.output.decode()
+    return None if is_right else 'came: %s' % came
+
+
 def try_long_line(deliveries, program):
     """A refused line is shown even if the program's buffer ends within it."""
     text = 'totem-run 1\nlog 1\nconf r4.1 1\n%sdeliver' % ('dlv r4.1 4.1#1\n' * deliveries)
@@ -121,6 +131,7 @@ HINTS = {
 def explained():
     """Explanations and pictures."""
     yield 'many faults', try_many_faults
+    yield 'many ends', try_many_ends
     for deliveries in LENGTHS:
         yield '%d deliveries, and a line that is none' % deliveries, partial(try_long_line, deliveries)
     yield 'a long run, drawn', try_long_picture

@@ -212,7 +212,7 @@ def try_recording(program):
     """A recording becomes nine lines, which are audited and explained."""
     folder = os.path.join(EXAMPLES, 'corosync', 'delivered-twice')
     given = call('logs', ['join', folder]).output
-    told = b'lines became one of 9\nfault 1.4 1@2 1@5\n\nNo: the run breaks extended virtual synchrony.\n'
+    told = b'lines became one of 9\nfault 1.4 1@2 1@5\n\nNo: the run as recorded breaks extended virtual synchrony.\n'
     return try_shrunk([], given, DELIVERED_TWICE, told, program)
 
 
