@@ -1,5 +1,6 @@
 """Names of nodes beside the numbers of processes."""
 import argparse
+import html
 import re
 
 LINE = re.compile(r'([1-9][0-9]{0,19})[ \t]+(\S.*)')
@@ -11,6 +12,10 @@ PROCESSES = re.compile(r'\b(?:[Pp]rocess(?: {n}|es\s+{n}(?:,\s+{n})*\s+and\s+{n}
 LIST = re.compile(r'^(?:r\S+, members|  .*:)(?: {n})+$'.format(n=NUMBER), re.MULTILINE)
 # The heading of a column of entries.
 HEADING = re.compile(r'(?<=  )log (%s)( *)$|(?<=  )log (%s)(  +)' % (NUMBER, NUMBER), re.MULTILINE)
+# The name of a process in front of its lane, in a picture.
+LANE = re.compile(r"<text x='(16)' y='([0-9]+)'>process (%s)</text>" % NUMBER)
+# So many letters have room there.
+ROOM = 13
 HELP = 'put the names of nodes beside the numbers of processes: a line of the file is a number and a name, such as `2 db-west`'
 
 
@@ -38,9 +43,25 @@ class Names:
         """What was found, with names beside the numbers in it that stand alone."""
         return re.sub('(?<= )' + NUMBER, lambda number: number[0] + self.beside(number[0].split(':')[0]), found[0])
 
+    def in_picture(self, text):
+        """What `totem explain --svg` writes, with names above the numbers of processes in front of lanes, cut if they are long, and beside them
+        in sentences."""
+        known = Names((number, html.escape(name)) for number, name in self.known.items())
+        return '\n'.join(LANE.sub(self._laned, line) if LANE.fullmatch(line) else known.in_words(line) for line in text.split('\n'))
+
+    def _laned(self, found):
+        name = self.known.get(found[3].split(':')[0])
+        if name is None:
+            return found[0]
+        shown = name if len(name) <= ROOM else name[:ROOM - 2] + '..'
+        return "<text x='%s' y='%d'><title>%s</title>%s</text>\n%s" % (found[1], int(found[2]) - 14, html.escape(name), html.escape(shown), found[0])
+
     def in_explanation(self, text):
         """What `totem explain` writes, with names beside the numbers of processes, also in lists and where a column of entries begins; columns
         stay where they were if there is room."""
+        if text.startswith('<svg '):
+            return self.in_picture(text)
+
         def headed(found):
             who, room = found[1] or found[3], found[2] or found[4] or ''
             name = self.beside(who.split(':')[0])

@@ -9,7 +9,7 @@ from parts.joined import write_files
 from parts.shrunk import call
 
 FILES = {
-    'names': '# nodes\n1 db-west\n\n 2  db east \n',
+    'names': '# nodes\n1 db-west\n\n 2  db east \n4 b < c of the west & east\n',
     'script': 'totem-script 1\nring 4.1 1 2 3\nend\n',
     'map': 'totem-map 1\nlog 2:1 01234567 2.1.log\n1 1\nlog 3:1 01234567 3.1.log\n1 1\nend\n',
     'run': 'totem-run 2\nlog 2:1\nconf r4.2 2:1 3:1\ndlv r4.2 4.2#1\nopen\nlog 3:1\nconf r4.2 2:1 3:1\nopen\nend\n',
@@ -34,6 +34,14 @@ EXPLAINED = {
     'the membership': ('r1.2, members 1 2 3\n  began here: 1 3\n', 'r1.2, members 1 (db-west) 2 (db east) 3\n  began here: 1 (db-west) 3\n'),
     'columns': ('  log 1                 log 3\n      1  conf r4.1 1 2\n', '  log 1 (db-west)       log 3\n      1  conf r4.1 1 2\n'),
     'columns without room': ('  log 1:1  log 2:1\n', '  log 1:1 (db-west)  log 2:1 (db east)\n'),
+    'a lane of a picture': (
+        "<svg >\n<text x='16' y='70'>process 1:1</text>\n<text x='16' y='84'>open</text>\n",
+        "<svg >\n<text x='16' y='56'><title>db-west</title>db-west</text>\n<text x='16' y='70'>process 1:1</text>\n<text x='16' y='84'>open</text>\n"),
+    'a lane of a long name': (
+        "<svg >\n<text x='16' y='70'>process 4</text>\n",
+        "<svg >\n<text x='16' y='56'><title>b &lt; c of the west &amp; east</title>b &lt; c of th..</text>\n<text x='16' y='70'>process 4</text>\n"),
+    'a lane without a name': ("<svg >\n<text x='16' y='70'>process 3</text>\n", "<svg >\n<text x='16' y='70'>process 3</text>\n"),
+    'a sentence of a picture': ('<svg >\n<title>4@1: process 4 failed</title>\n', '<svg >\n<title>4@1: process 4 (b &lt; c of the west &amp; east) failed</title>\n'),
     'bytes that are no text': ('process 2 \udcff\n', 'process 2 (db east) \udcff\n'),
 }
 SAYS = ': argument --names: '
