@@ -16,7 +16,7 @@ pub const MARGIN: u32 = 16;
 const LEFT: u32 = 110;
 
 /// The distance from one lane to the next.
-const LANE: u32 = 68;
+const LANE: u32 = 84;
 
 /// The height of a line of text above the lanes.
 pub const LINE: u32 = 18;

@@ -74,7 +74,7 @@ def try_long_picture(program):
         '>(1) 2@202: process 2 delivered 4.1#999 in r4.1</text>',
         '>.. 198, 1 conf</text>',
         '<title>2@199: process 2 delivered 4.1#198 in r4.1</title>',
-        "stroke='#d55e00' stroke-width='3'/>\n<text x='569' y='70' text-anchor='middle' font-weight='bold' "
+        "stroke='#d55e00' stroke-width='3'/>\n<text x='569' y='78' text-anchor='middle' font-weight='bold' "
         "fill='#b34700'>1</text>",
     )
     is_right = came.status == 1 and all(part in text for part in parts) and text.count('<g>') == 4 and \
