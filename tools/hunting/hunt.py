@@ -1,15 +1,16 @@
-"""A hunt: scripts by seed, each played and judged by the program, in several processes."""
+"""A hunt: scripts by seed, each played and judged, in several processes."""
 import multiprocessing
 import os
 import re
 import signal
 from collections import Counter
 from multiprocessing.connection import wait
+from typing import Callable, NamedTuple
 
-from hunting.block import BLOCK, Block
+from hunting.block import BLOCK
 from playing import script
 from running import signals
-from shrinking.program import Program, Refused
+from shrinking.program import Refused
 from shrinking.scripts import ScriptShrinker
 
 # After how many seeds a process reports its counts.
@@ -17,22 +18,39 @@ SEEDS_AT_ONCE = 20
 RING = re.compile(rb'(?m)^conf (r[0-9.]+) ')
 
 
+class Seeds(NamedTuple):
+    """The seeds of a hunt, and what makes the scripts of a block, given its number."""
+
+    first: int
+    last: int
+    block: Callable
+
+    @property
+    def blocks(self):
+        """The numbers of the blocks."""
+        return range(self.first // BLOCK, self.last // BLOCK + 1)
+
+    def scripts(self, number):
+        """Each of these seeds that is in a block, with its commands and the scene after them."""
+        block = self.block(number)
+        for seed in range(number * BLOCK, min((number + 1) * BLOCK, self.last + 1)):
+            commands, scene = block.script()
+            if seed >= self.first:
+                yield seed, commands, scene
+
+
 class _Hunter:
     """Plays the seeds of blocks, and reports what they see."""
 
-    def __init__(self, program, first, last, tell):
-        self.program = program
-        self.first, self.last = first, last
-        self.tell = tell
+    def __init__(self, program, seeds, tell):
+        self.program, self.seeds, self.tell = program, seeds, tell
         self.counts = Counter()
 
     def hunt(self, number):
         """Plays the seeds of a block, and shortens the first script for each set of broken specifications."""
-        block, kinds = Block(number), set()
-        for seed in range(number * BLOCK, min((number + 1) * BLOCK, self.last + 1)):
-            commands, scene = block.script()
-            if seed >= self.first:
-                self._judge(seed, commands, scene, kinds)
+        kinds = set()
+        for seed, commands, scene in self.seeds.scripts(number):
+            self._judge(seed, commands, scene, kinds)
         self._tell_counts()
 
     def _tell_counts(self):
@@ -64,9 +82,9 @@ class _Hunter:
             self._tell_counts()
 
 
-def _work(path, blocks, first, last, pipe, parent):
+def _work(program, blocks, seeds, pipe, parent):
     """What one process does. It ends when its parent ends, however that ends, and the program ends with it."""
-    program = Program(path, makes_runs=True)
+    program = type(program)(program.path)
 
     def end(*_):
         program.end()
@@ -77,28 +95,27 @@ def _work(path, blocks, first, last, pipe, parent):
     signals.release()
     signals.end_with_parent(signal.SIGTERM, parent)
     try:
-        hunter = _Hunter(program, first, last, pipe.send)
+        hunter = _Hunter(program, seeds, pipe.send)
         for number in blocks:
             hunter.hunt(number)
     except Refused as refused:
         pipe.send(('refused', str(refused)))
     except OSError as error:
-        pipe.send(('refused', '%s: %s' % (error.filename or path, error.strerror)))
+        pipe.send(('refused', '%s: %s' % (error.filename or program.path, error.strerror)))
 
 
 class Hunt:
     """Hunts through seeds, in this many processes, and reports to `found` what they find. It is made while signals are held."""
 
-    def __init__(self, program, first, last, jobs, found):
-        blocks = range(first // BLOCK, last // BLOCK + 1)
+    def __init__(self, program, seeds, jobs, found):
         context = multiprocessing.get_context('fork')
         self.found = found
         self.workers = {}
         # (a pipe, so that a signal is seen between two reports and not within one)
         self.bell, self.ringer = os.pipe()
-        for number in range(min(jobs, len(blocks))):
+        for number in range(min(jobs, len(seeds.blocks))):
             reader, pipe = context.Pipe(duplex=False)
-            worker = context.Process(target=_work, args=(program.path, blocks[number::jobs], first, last, pipe, os.getpid()), daemon=True)
+            worker = context.Process(target=_work, args=(program, seeds.blocks[number::jobs], seeds, pipe, os.getpid()), daemon=True)
             worker.start()
             pipe.close()
             self.workers[reader] = worker

@@ -19,6 +19,9 @@ class Done:
 class Node:
     """One life of a process."""
 
+    # Whether it may enter a ring that it has entered before, as docs/PROTOCOL.md has it ("Why runs are audited").
+    may_enter_again = True
+
     def __init__(self, process, life, ring, members):
         self.me, self.life = process, life
         self.installed = Ring(process, ring, members)
@@ -27,6 +30,7 @@ class Node:
         self.quiet, self.number = 0, ring.number
         self.obligation = frozenset()
         self.filled = None
+        self.entered = frozenset()
         self.has_crashed = False
 
     def copy(self):
@@ -128,10 +132,12 @@ class Node:
         raise Fault('Stale')
 
     def _enter(self, token):
+        if token.ring in self.entered and not self.may_enter_again:
+            raise Fault('Stale')
         recovery = Recovery(self.me, self.installed, token)
         if len(recovery.obliged) > MOST_PROCESSES:
             raise Fault('Range')
-        self.state, self.recovery = RECOVERY, recovery
+        self.state, self.recovery, self.entered = RECOVERY, recovery, self.entered | {token.ring}
         return Done([(after(token.members, self.me), token._replace(round=2))], what='enters')
 
     def _gather(self, extra, join):

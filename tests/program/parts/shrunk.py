@@ -192,6 +192,12 @@ REFUSED = {
 SEEDS = 120
 SEEN = b'120 runs: 21879 packets came, 180 rings were installed; 120 yes, 0 no\n'
 SCRIPTS = '235cf057428cbc520a059d6d847b71ccaf64d70d97c9acc2d1bc679ce090a1d4'
+# Seeds near an example that breaks 5: what is printed about them, as the nodes are and if none enters a ring again.
+NEAR = ['--near', os.path.join(EXAMPLES, 'broken', '5.script'), '--seeds', '20', '25']
+SEEN_NEAR = (b'6 runs: 455 packets came, 14 rings were installed; 4 yes, 2 no\n'
+             b'5: 2 runs, the first by seed 20; the shortest script has 67 lines (seed 20), in found/5.script\n')
+SEEN_ONCE = (b'no node entered a ring again: tools/playing made the runs, which were not compared with `totem sim`\n'
+             b'6 runs: 435 packets came, 14 rings were installed; 6 yes, 0 no\n')
 
 
 def call(tool, words, given=b'', output=subprocess.PIPE, folder=None):
@@ -250,13 +256,14 @@ def try_full(program):
     return None if came.status == 4 and came.errors.endswith(b'shrink: write failed\n') else 'came: %s' % came
 
 
-def try_hunt(program):
-    """A small hunt sees what it saw before, and keeps nothing, as it finds nothing."""
+def try_hunt(words, seen, kept, program):
+    """A small hunt sees what it saw before, and keeps these files."""
     with tempfile.TemporaryDirectory() as folder:
-        kept = os.path.join(folder, 'found')
-        came = call('hunt', ['--seeds', '0', str(SEEDS - 1), '--keep', kept, '--jobs', '1', '--program', program])
-        is_right = (came.status, came.output, came.errors) == (0, SEEN, b'') and not os.path.exists(kept)
-    return None if is_right else 'came: %s' % came
+        came = call('hunt', [*words, '--jobs', '1', '--program', program], folder=folder)
+        found = os.path.join(folder, 'found')
+        there = sorted(os.listdir(found)) if os.path.exists(found) else []
+    is_right = (came.status, came.output, came.errors, there) == (0, seen, b'', kept)
+    return None if is_right else 'came: %s, kept: %s' % (came, there)
 
 
 def try_seeds(_program):
@@ -278,6 +285,20 @@ def try_interrupt(program):
             output, errors = hunt.communicate(timeout=process.allowed(process.SECONDS))
     is_right = hunt.returncode == 0 and b' runs: ' in output and errors.endswith(b'hunt: interrupted\n')
     return None if is_right else 'came: status %s, output %r, errors %r' % (hunt.returncode, output, errors)
+
+
+def try_near_nothing(_program):
+    """A hunt near a file that is no script, or that has no line to change, says so."""
+    with tempfile.TemporaryDirectory() as folder:
+        for text, told in ((YES, b'line 1: the first line is neither `totem-script 1` nor `totem-script 2`'),
+                           (b'totem-script 1\nring 4.1 1\nend\n', b'there is nothing after the rings that could be changed')):
+            path = os.path.join(folder, 'given')
+            with open(path, 'wb') as it:
+                it.write(text)
+            came = call('hunt', ['--near', path, '--show', '0'])
+            if (came.status, came.output, came.errors) != (1, b'', b'hunt: %s, %s\n' % (path.encode(), told)):
+                return 'came: %s' % came
+    return None
 
 
 def try_lost_program(_program):
@@ -306,10 +327,13 @@ def shrunk():
     for what, (words, given, said) in REFUSED.items():
         yield what, partial(try_refused, words, given, said)
     for tool, words in (('shrink', '--nothing'), ('shrink', '--jobs 0'), ('hunt', ''), ('hunt', '--seeds 7'), ('hunt', '--seeds 7 3'),
-                        ('hunt', '--show -1')):
+                        ('hunt', '--show -1'), ('hunt', '--near a.script'), ('hunt', '--seeds 0 9 --near'), ('hunt', '--enter-once')):
         yield 'the words %s %s' % (tool, words), partial(try_words, tool, words)
     yield 'a full device', try_full
     yield 'the first seeds', try_seeds
-    yield 'a small hunt', try_hunt
+    yield 'a small hunt', partial(try_hunt, ['--seeds', '0', str(SEEDS - 1)], SEEN, [])
+    yield 'a hunt near an example', partial(try_hunt, NEAR, SEEN_NEAR, ['5.script', 'noes'])
+    yield 'a hunt near an example, without the step that breaks it', partial(try_hunt, [*NEAR, '--enter-once'], SEEN_ONCE, [])
+    yield 'a hunt near nothing', try_near_nothing
     yield 'a hunt that is interrupted', try_interrupt
     yield 'a hunt without a program', try_lost_program
