@@ -7,6 +7,9 @@ from playing.commented import Wrong
 from playing.scene import Broken, Scene
 from shrinking.program import Refused
 
+# How many packets a line of a script lets come at most.
+MOST_TIMES = 100000
+
 
 def read_script(path):
     """The commands of the script in a file."""
@@ -24,7 +27,8 @@ def read_script(path):
 def _with_other_number(command, chance):
     """A command whose number is another one: of packets, of a place or of a process."""
     word, number, *rest = command
-    return (word, chance.of([other for other in range(max(1, number - 2), number + 3) if other != number]), *rest)
+    others = [other for other in range(number - 2, number + 3) if 1 <= other <= MOST_TIMES and other != number]
+    return (word, chance.of(others), *rest)
 
 
 def _changed(commands, chance):
