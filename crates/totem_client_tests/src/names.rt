@@ -1,89 +1,18 @@
-//! Names, their texts and streams: totem_ids.
+//! Names, packets and their laws: totem_ids.
 use std::alloc::{AllocError, Global};
-use std::io::{Read, Write};
-use totem_ids::{
-    Buffered, ConfId, Failed, FromRead, Fused, MsgId, Pieces, Place, Proc, ProcId, ReadError,
-    RingId, Service, Sink, Source, ToWrite, Version, read_conf, read_message, read_place,
-    read_process, read_ring, read_service,
+pub use totem_ids::{
+    Body, Buffered, CommitMember, CommitMembers, CommitToken, ConfId, Failed, FromRead, Fused,
+    Join, Life, ListFault, Message, MsgId, Number, Packet, PacketFault, Payload, Pieces, Place,
+    Proc, ProcId, Processes, ReadError, Refused, Report, Requests, RingId, Round, Service, Sink,
+    Source, ToWrite, Token, TokenSeq, TooMany, Version, WrittenProc, a_cut_packet_is_short,
+    conf_fits, conf_order, conf_spelling, is_among, kind_5_tells_later_lives,
+    kind_is_the_first_byte, life_fits, life_order, life_spelling, memory_is_no_fault_of_bytes,
+    message_fits, message_order, message_spelling, no_packet_begins_another, number_spelling,
+    place_fits, place_order, place_spelling, process_fits, process_spelling,
+    range_is_known_at_once, read_conf, read_is_spelled, read_message, read_place, read_process,
+    read_ring, read_service, ring_fits, ring_order, ring_spelling, service_spelling,
+    short_has_nothing_wrong, spelled_is_read, trailing_is_behind_a_packet,
 };
-
-pub fn names() -> (ConfId, ConfId, MsgId, Place) {
-    let proc = Proc {
-        id: ProcId::of(1),
-        life: 1,
-    };
-    let ring = RingId {
-        seq: 4,
-        rep: proc.id,
-    };
-    let next = ConfId::Transitional {
-        next: ring,
-        least: proc.id,
-    };
-    let message = MsgId { ring, number: 1 };
-    (ConfId::Regular(ring), next, message, Place { proc, at: 1 })
-}
-
-pub fn letter(service: Service) -> u8 {
-    match service {
-        Service::Agreed => b'a',
-        Service::Safe => b's',
-    }
-}
-
-pub fn version(version: Version) -> u8 {
-    match version {
-        Version::One => 1,
-        Version::Two => 2,
-        Version::Three => 3,
-    }
-}
-
-pub fn read<S: Source>(source: &mut S) -> Result<(RingId, ConfId, MsgId), ReadError> {
-    let ring = read_ring(source, b' ')?;
-    let conf = read_conf(source, b' ')?;
-    let message = read_message(source, b' ')?;
-    Ok((ring, conf, message))
-}
-
-pub fn read_lives<S: Source>(source: &mut S) -> Result<(Proc, Place, Service), ReadError> {
-    let (process, _) = read_process(source, Version::Two)?;
-    let place = read_place(source, Version::Two, b' ')?;
-    let service = read_service(source)?;
-    Ok((process, place, service))
-}
-
-pub fn write<S: Sink>(pieces: &mut Pieces, sink: &mut S, ring: RingId) -> Result<(), Failed> {
-    pieces.put_ring(sink, ring)?;
-    pieces.put_conf(sink, &ConfId::Regular(ring))?;
-    pieces.put_message(sink, MsgId { ring, number: 1 })
-}
-
-pub fn write_lives<S: Sink>(pieces: &mut Pieces, sink: &mut S, place: Place) -> Result<(), Failed> {
-    pieces.put_process(sink, Version::Two, place.proc)?;
-    pieces.put_place(sink, Version::Two, place)?;
-    pieces.put_service(sink, Service::Agreed)
-}
-
-pub fn byte<R: Source>(source: &mut R) -> Result<Option<u8>, Failed> {
-    source.byte()
-}
-
-pub fn put<W: Sink>(sink: &mut W, bytes: &[u8]) -> Result<(), Failed> {
-    sink.put(bytes)
-}
-
-pub fn source<R: Read + Drop>(inner: R, calls: u64) -> Fused<FromRead<R>> {
-    Fused::new(FromRead::new(inner), calls)
-}
-
-pub fn sink<W: Write + Drop>(inner: W, calls: u64) -> Fused<ToWrite<W>> {
-    Fused::new(ToWrite::new(inner), calls)
-}
-
-pub fn buffered<R: Read + Drop>(alloc: Global, inner: R) -> Result<Buffered<R>, AllocError> {
-    Buffered::new(alloc, inner)
-}
 
 pub fn in_order(left: &RingId, right: &RingId) -> bool {
     left.is_below(right)
@@ -91,4 +20,108 @@ pub fn in_order(left: &RingId, right: &RingId) -> bool {
 
 pub fn rank(process: Proc) -> u32 {
     process.rank()
+}
+
+pub fn copy(alloc: Global, packet: &Packet) -> Result<Packet, AllocError> {
+    packet.try_clone(alloc)
+}
+
+pub fn copies(
+    alloc: Global,
+    message: &Message,
+    token: &Token,
+    commit: &CommitToken,
+) -> Result<(), AllocError> {
+    let _ = message.try_clone()?;
+    let _ = message.body.try_clone()?;
+    let _ = token.try_clone(alloc)?;
+    let _ = commit.try_clone(alloc)?;
+    Ok(())
+}
+
+pub fn union(left: &Processes, right: &Processes) -> Result<Processes, TooMany> {
+    left.union(right)
+}
+
+pub fn relation(left: &Processes, right: &Processes) -> (bool, bool) {
+    (left.is_within(right), left.is(right))
+}
+
+pub fn place_of(processes: &Processes, proc: ProcId) -> (bool, bool, ProcId) {
+    let is_there = is_among(processes.as_slice(), proc);
+    (
+        is_there,
+        processes.is_least(proc),
+        processes.next_after(proc),
+    )
+}
+
+pub fn marks(members: &CommitMembers, old: &RingId) -> (u32, u32) {
+    (members.least_aru(old), members.greatest_delivered(old))
+}
+
+pub fn together(members: &CommitMembers, old: &RingId, proc: ProcId) -> Option<Processes> {
+    members
+        .is_from(old, proc)
+        .then_some(members.transitional_set(old))
+}
+
+pub fn owed(members: &CommitMembers, old: &RingId) -> Result<Processes, TooMany> {
+    members.obligation_union(old)
+}
+
+pub fn lives(
+    alloc: Global,
+    members: &CommitMembers,
+    old: &RingId,
+) -> Result<Option<Vec<Proc>>, AllocError> {
+    if !members.has_later_life() {
+        return Ok(None);
+    }
+    Ok(Some(members.transitional_lives(alloc, old)?))
+}
+
+pub fn lists(members: CommitMembers, requests: Requests) -> (Vec<CommitMember>, Vec<Number>) {
+    (members.into_vec(), requests.into_vec())
+}
+
+pub fn of_spellings() {
+    number_spelling();
+    process_spelling();
+    ring_spelling();
+    conf_spelling();
+    message_spelling();
+    place_spelling();
+    service_spelling();
+    life_spelling();
+}
+
+pub fn of_orders() {
+    ring_order();
+    conf_order();
+    message_order();
+    place_order();
+    life_order();
+}
+
+pub fn of_ranges(version: Version, process: Proc, conf: &ConfId, message: &MsgId, place: &Place) {
+    process_fits(process.id());
+    ring_fits(&message.ring);
+    conf_fits(conf);
+    message_fits(message);
+    life_fits(version, process);
+    place_fits(version, place);
+}
+
+pub fn of_packets() {
+    read_is_spelled();
+    spelled_is_read();
+    no_packet_begins_another();
+    a_cut_packet_is_short();
+    short_has_nothing_wrong();
+    kind_is_the_first_byte();
+    kind_5_tells_later_lives();
+    range_is_known_at_once();
+    trailing_is_behind_a_packet();
+    memory_is_no_fault_of_bytes();
 }

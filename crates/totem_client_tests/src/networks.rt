@@ -1,45 +1,33 @@
-//! Networks: totem_net.
+//! Books and networks: totem_books and totem_net.
 use std::alloc::{AllocError, Global};
-use std::sync::Wait;
+pub use totem_books::{
+    Blank, Book, BookFault, BookName, Call, CloseFault, CloseRefused, ClosedBook, Reply, Seat,
+    SharedBook, Stub, close,
+};
 use totem_ids::ProcId;
-use totem_net::{Fate, Fates, Plan, Start, Switch, Unwatched, fate};
+pub use totem_net::{
+    Fate, Fates, Plan, Start, Switch, Unwatched, copies_wait_their_time, fate, no_copy_is_lost,
+};
 
-/// A start that needs nothing.
-pub struct Begins;
-
-impl Start for Begins {
-    fn begun(&self, _node: ProcId) {}
-}
-
-pub fn plan() -> Option<Plan> {
-    Plan::new(10, 20, 3)
-}
-
-pub fn parts(plan: Plan) -> (u8, u8, u8) {
-    (plan.lose, plan.repeat, plan.hold)
-}
-
-pub fn of_word(word: u32, plan: Plan) -> (u8, u8, u8) {
-    let Fate {
-        copies,
-        first,
-        second,
-    } = fate(word, plan);
-    (copies, first, second)
-}
-
-pub fn fates(seed: u64, plan: Plan) -> Fates {
-    Fates::new(seed, plan)
-}
-
-pub fn next(fates: &mut Fates) -> Fate {
-    fates.next()
+pub fn copies(alloc: Global, stub: &Stub, call: &Call) -> Result<(), AllocError> {
+    let _ = stub.try_clone(alloc)?;
+    let _ = stub.reply.try_clone(alloc)?;
+    let _ = call.try_clone(alloc)?;
+    Ok(())
 }
 
 pub fn copy(fates: &Fates) -> Result<Fates, AllocError> {
     fates.try_clone()
 }
 
-pub fn serve<R: Wait>(rt: &R, alloc: Global, switch: Switch) -> Result<(), AllocError> {
-    switch.run_in_pace(rt, alloc, &mut Unwatched)
+pub fn of_networks() {
+    copies_wait_their_time();
+    no_copy_is_lost();
+}
+
+/// A start that needs nothing.
+pub struct Begins;
+
+impl Start for Begins {
+    fn begun(&self, _node: ProcId) {}
 }
