@@ -25,6 +25,9 @@ class _Texts:
             c=CONFIGURATION, p=process, r=RING, m=MESSAGE)
         self.run = r'totem-run %d\n(?:log %s\n(?:%s)+(?:open|failed)\n)*end\n' % (version, process, entry)
         self.missing = r'totem: run refused: 9 MissingLog %s\n' % process
+        self.apart = (r'verdict (?:yes|no)\n(?:parting {c}(?: together(?: {c})+)?(?: never)?\n(?:side {c} (?:to {c}|open|quiet|failed) by(?: {p})+ '
+                      r'sends (?:0|{n}) delivers (?:0|{n})\n)+)*(?:apart {m} {m} {n} has(?: {p})+ lacks(?: {p})+\n)*end\n').format(
+                          c=CONFIGURATION, p=process, m=MESSAGE, n=NUMBER)
 
 
 TEXTS = (_Texts(1, NUMBER), _Texts(2, NUMBER + ':' + NUMBER))
@@ -57,6 +60,7 @@ LINES = r'(?:[ -~]*\n)+'
 PICTURE = r'<svg [ -~]+\n%s' % LINES
 COUNTS = r'(?:count [a-z0-9.-]+ (?:0|%s)\n)+' % NUMBER
 UNTESTED = r'totem: not tested: [a-z0-9., -]+\n'
+APART = _of_either(lambda texts: texts.apart)
 VIEWS = r'The run: [ -~]+\n' + '(?:%s)?' % LINES
 YES, NO = r'Yes: [ -~]+\n' + LINES, r'No: [ -~]+\n' + LINES
 
@@ -79,6 +83,7 @@ FORMS = {
     'explain --views': {0: (VIEWS, ''), 1: (VIEWS, ''), 2: ('', RUN_REFUSED + LINES)},
     'explain --svg --views': {0: (PICTURE, ''), 1: (PICTURE, ''), 2: ('', RUN_REFUSED + LINES)},
     'explain --svg --fault': {1: (PICTURE, ''), 2: ('', RUN_REFUSED + LINES), 6: ('', r'totem: there is no fault [0-9]+: [ -~]+\n')},
+    'explain --apart': {0: (APART, ''), 1: (APART, ''), 2: ('', RUN_REFUSED + LINES)},
     'explain --message': {0: (r'Message [0-9.#]+\n' + LINES, ''), 2: ('', RUN_REFUSED + LINES),
                           6: (r'No log sends or delivers [0-9.#]+\.\n', '')},
     'explain --script': {0: (RUN, ''), 2: ('', SCRIPT_REFUSED + LINES)},
@@ -93,7 +98,7 @@ FORMS = {
 def asked_for(words):
     """The key of the forms that the answer to these arguments may have."""
     names = [word.partition('=')[0] for word in words]
-    flags = [flag for flag in ('--svg', '--script', '--counts', '--require', '--views', '--message', '--fault', '--brief') if flag in names]
+    flags = [flag for flag in ('--svg', '--script', '--counts', '--require', '--views', '--apart', '--message', '--fault', '--brief') if flag in names]
     return ' '.join([words[0], *flags])
 
 
